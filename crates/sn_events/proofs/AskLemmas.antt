@@ -14,7 +14,14 @@ use Rattle.sn_model.specs.declared.reply.Refusal.{Refusal}
 use Rattle.sn_model.specs.Calls as calls
 use Rattle.sn_model.specs.Calls.{outcome_of, ready}
 use Rattle.sn_model.specs.Machine.{Running, refused}
-use Rattle.sn_model.specs.Outcomes.{AskedPoint, Unasked, Plain, Freezes, Thaws, Caller, Stays, Outcome, Pending, Nothing, points}
+use Rattle.sn_model.specs.declared.outcome.AskedPoint.{AskedPoint}
+use Rattle.sn_model.specs.declared.outcome.AskedPoint.TheVariants.{Unasked, Plain, Freezes, Thaws}
+use Rattle.sn_model.specs.declared.outcome.Caller.{Caller}
+use Rattle.sn_model.specs.declared.outcome.Caller.TheVariants.{Stays}
+use Rattle.sn_model.specs.declared.outcome.Outcome.{Outcome}
+use Rattle.sn_model.specs.declared.outcome.Pending.{Pending}
+use Rattle.sn_model.specs.declared.outcome.Pending.TheVariants.{Nothing}
+use Rattle.sn_model.specs.Outcomes.{points}
 use Rattle.sn_model.specs.Settling.{dropped, settle}
 use Rattle.sn_model.specs.SnapshotCalls.{closed_snapshot, present_snapshot, snap_delete_outcome, snapshot_argument, user_0}
 use Rattle.sn_model.specs.Steps.{Becomes, Comes, IsNumberFor, TakesMemory, asks_for_point, changed, decision, filled, pointed, with_caller}

@@ -16,7 +16,8 @@ use Rattle.sn_model.specs.declared.reply.Reply.{Reply}
 use Rattle.sn_model.specs.declared.reply.Reply.TheVariants as answer
 use Rattle.sn_model.specs.Calls.{ready}
 use Rattle.sn_model.specs.Machine.{State, Running, Stopped, Mishap, Memory, Read, Write, Space, Age, EventStep, IsCharged, errno_of, refused}
-use Rattle.sn_model.specs.Outcomes.{AskedPoint, Plain}
+use Rattle.sn_model.specs.declared.outcome.AskedPoint.{AskedPoint}
+use Rattle.sn_model.specs.declared.outcome.AskedPoint.TheVariants.{Plain}
 use Rattle.sn_model.specs.Settling.{settle}
 use Rattle.sn_model.specs.Steps.{TakesMemory, pointed}
 use Rattle.sn_model.specs.World.{World}

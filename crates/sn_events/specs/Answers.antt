@@ -10,7 +10,8 @@ use Rattle.sn_model.specs.declared.call.Call.{Call}
 use Rattle.sn_model.specs.declared.call.Event.{Event}
 use Rattle.sn_model.specs.declared.call.Event.TheVariants as event
 use Rattle.sn_model.specs.declared.change.Change.{Change}
-use Rattle.sn_model.specs.Outcomes.{AskedPoint, Plain}
+use Rattle.sn_model.specs.declared.outcome.AskedPoint.{AskedPoint}
+use Rattle.sn_model.specs.declared.outcome.AskedPoint.TheVariants.{Plain}
 use Rattle.sn_model.specs.declared.outcome.Outcome.{Outcome}
 use Rattle.sn_model.specs.declared.reply.Progress.TheVariants as progress
 use Rattle.sn_model.specs.declared.reply.Reply.{Reply}

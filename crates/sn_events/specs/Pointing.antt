@@ -9,7 +9,7 @@ use Rattle.sn_model.specs.declared.reply.Progress.{Progress}
 use Rattle.sn_model.specs.declared.reply.Progress.TheVariants as progress
 use Rattle.sn_model.specs.declared.reply.Errno.TheVariants.{Elimit, Enomem, Eio}
 use Rattle.sn_model.specs.Settling.{settle}
-use Rattle.sn_model.specs.Outcomes.{AskedPoint}
+use Rattle.sn_model.specs.declared.outcome.AskedPoint.{AskedPoint}
 use Rattle.sn_model.specs.Steps.{pointed}
 use Rattle.sn_model.specs.World.{World}
 use Rattle.sn_model.specs.Worlds.{IsWorld}

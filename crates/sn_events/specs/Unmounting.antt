@@ -3,7 +3,7 @@ use Rattle.std.specs.Prelude.{◌≡◌, ◌⊎◌, Bool, Result, Ok, Err}
 use Rattle.sn_device.specs.Disk.{Disk}
 use Rattle.sn_device.specs.declared.status.Status.{Status}
 use Rattle.sn_model.specs.declared.call.Event.TheVariants as event
-use Rattle.sn_model.specs.Outcomes.{Plain}
+use Rattle.sn_model.specs.declared.outcome.AskedPoint.TheVariants.{Plain}
 use Rattle.sn_model.specs.declared.reply.Errno.{Errno}
 use Rattle.sn_cp_progress.specs.Meaning.{RunsWith}
 use Rattle.sn_cp_whole.specs.declared.fault.PointFault.{PointFault}

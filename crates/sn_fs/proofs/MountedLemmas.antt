@@ -20,7 +20,7 @@ use Rattle.sn_log.specs.Appending.{Appends}
 use Rattle.sn_log.specs.Positions.{LogPosition}
 use Rattle.sn_model.specs.Changes.{apply}
 use Rattle.sn_model.specs.Tree.{Tree}
-use Rattle.sn_model.specs.Outcomes.{AskedPoint}
+use Rattle.sn_model.specs.declared.outcome.AskedPoint.{AskedPoint}
 use Rattle.sn_model.specs.Settling.{dropped}
 use Rattle.sn_model.specs.Steps.{with_caller}
 use Rattle.sn_model.specs.World.{Trees, World}

@@ -22,7 +22,8 @@ use Rattle.sn_live.proofs.LiveLemmas.{none_shows}
 use Rattle.sn_live_world.specs.World.{changes_of, tree_over, world_in, world_over}
 use Rattle.sn_live_world.specs.declared.world.LiveWorld.{LiveWorld}
 use Rattle.sn_log.specs.Positions.{LogPosition}
-use Rattle.sn_model.specs.Outcomes.{AskedPoint, Unasked, Plain, Freezes, Thaws}
+use Rattle.sn_model.specs.declared.outcome.AskedPoint.{AskedPoint}
+use Rattle.sn_model.specs.declared.outcome.AskedPoint.TheVariants.{Unasked, Plain, Freezes, Thaws}
 use Rattle.sn_model.specs.Settling.{settle}
 use Rattle.sn_model.specs.Steps.{pointed}
 use Rattle.sn_model.specs.Tree.{Tree}

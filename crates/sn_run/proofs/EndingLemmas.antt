@@ -15,7 +15,7 @@ use Rattle.sn_model.specs.declared.reply.Errno.TheVariants.{Eio, Elimit, Enomem,
 use Rattle.sn_model.specs.declared.reply.Refusal.{Refusal}
 use Rattle.sn_model.specs.declared.reply.Reply.TheVariants as answer
 use Rattle.sn_model.specs.Machine.{Running, Stopped, Memory, Read, Write, Age, refused}
-use Rattle.sn_model.specs.Outcomes.{Plain}
+use Rattle.sn_model.specs.declared.outcome.AskedPoint.TheVariants.{Plain}
 use Rattle.sn_model.specs.Settling.{settle}
 use Rattle.sn_model.specs.Tests.{plain}
 use Rattle.sn_model.specs.World.{World}

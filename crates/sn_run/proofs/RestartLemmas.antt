@@ -17,7 +17,7 @@ use Rattle.sn_model.specs.declared.mount.MountFault.TheVariants as fault
 use Rattle.sn_model.specs.declared.reply.Reply.{Reply}
 use Rattle.sn_model.specs.declared.reply.Reply.TheVariants as answer
 use Rattle.sn_model.specs.Machine.{State, Running, Stopped, Mishap, Memory, Read, mount_fault_of}
-use Rattle.sn_model.specs.Outcomes.{Plain}
+use Rattle.sn_model.specs.declared.outcome.AskedPoint.TheVariants.{Plain}
 use Rattle.sn_model.specs.Settling.{settle}
 use Rattle.sn_model.specs.World.{World}
 use Rattle.sn_core.proofs.RestartLemmas.{restart_numbers}

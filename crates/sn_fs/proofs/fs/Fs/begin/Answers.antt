@@ -12,7 +12,7 @@ use Rattle.sn_held.specs.Images.{IsImage}
 use Rattle.sn_limits.specs.Versions.{version_1}
 use Rattle.sn_live_world.specs.World.{HasDrops, IsOver, changes_of, world_in}
 use Rattle.sn_log.specs.Positions.{LogPosition}
-use Rattle.sn_model.specs.Outcomes.{Plain}
+use Rattle.sn_model.specs.declared.outcome.AskedPoint.TheVariants.{Plain}
 use Rattle.sn_model.specs.Settling.{settle}
 use Rattle.sn_model.specs.World.{Trees, World, trees_of}
 use Rattle.sn_model.specs.Worlds.{IsWorld}

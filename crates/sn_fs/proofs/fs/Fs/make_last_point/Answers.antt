@@ -10,7 +10,7 @@ use Rattle.sn_held.specs.Images.{IsImage}
 use Rattle.sn_held.proofs.EventLemmas.{ready_with}
 use Rattle.sn_live_world.specs.World.{changes_of, world_in}
 use Rattle.sn_model.specs.declared.call.Event.TheVariants.{Restart}
-use Rattle.sn_model.specs.Outcomes.{Plain}
+use Rattle.sn_model.specs.declared.outcome.AskedPoint.TheVariants.{Plain}
 use Rattle.sn_model.specs.Settling.{settle, settled}
 use Rattle.sn_model.specs.World.{World}
 use Rattle.sn_overlay.specs.Overlays.{layer_of, no_changes}

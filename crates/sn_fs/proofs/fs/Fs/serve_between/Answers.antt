@@ -4,7 +4,7 @@ use Rattle.sn_model.specs.declared.call.Event.TheVariants.{Call}
 use Rattle.sn_model.specs.declared.reply.Errno.TheVariants.{Enospc}
 use Rattle.sn_model.specs.declared.reply.Reply.{Reply}
 use Rattle.sn_model.specs.Machine.{refused}
-use Rattle.sn_model.specs.Outcomes.{Plain}
+use Rattle.sn_model.specs.declared.outcome.AskedPoint.TheVariants.{Plain}
 use Rattle.sn_events.specs.Answers.{Answers}
 use Rattle.sn_fs.specs.Filesystem.{has_stopped, held}
 use Rattle.sn_events.specs.Pointing.{Points, errno_of_point}
