@@ -41,6 +41,7 @@ use Rattle.sn_model.specs.declared.outcome.Pending.{Pending}
 use Rattle.sn_model.specs.declared.outcome.Pending.TheVariants.{Does, Makes, Nothing}
 use Rattle.sn_model.specs.Outcomes.{tells, asks}
 use Rattle.sn_model.specs.Seen.{last_name, parent_of}
+use Rattle.sn_model.specs.SnapshotCalls.{snap_create_outcome, snap_delete_outcome}
 use Rattle.sn_model.specs.Settling.{is_nameless}
 use Rattle.sn_model.specs.Steps.{Comes, IsNumberFor, TakesMemory, changed, decision, filled}
 use Rattle.sn_model.specs.Tests.{full, granted, has_room, live, not_present, one_tree, prefix, sticky, there, writable_parent}
@@ -48,6 +49,8 @@ use Rattle.sn_model.specs.Tree.{Node, Tree, link_to, viewed}
 use Rattle.sn_model.specs.World.{Descriptor, World, trees_of, viewed_trees}
 use Rattle.sn_model.specs.Worlds.{IsCall, IsWorld}
 use Rattle.sn_model.specs.declared.reply.Reply.TheVariants as reply
+use Rattle.sn_model.proofs.PointedLemmas.{pointed_live}
+use Rattle.sn_model.proofs.SnapshotLemmas.{create_is, delete_is}
 use Rattle.sn_model.proofs.AccessCallLemmas.{access_tells, chmod_some, chown_some, getacl_tells, setacl_some, there_is}
 use Rattle.sn_model.proofs.ChainLemmas.{some_same}
 use Rattle.sn_model.proofs.DecidedLemmas.{decided_is}
@@ -261,6 +264,9 @@ module _ (limits : Limits) (world : World) where
   call_gives_none (calls.Seek session fd offset) h = seek_gives_none session fd offset
   call_gives_none (calls.Ftruncate session fd size) h = ftruncate_gives_none session fd size
   call_gives_none calls.Sync h = tt
+  call_gives_none (calls.SnapCreate s name) h = each (snap_create_outcome limits world s name) (λ o e. decides o _ (sym (create_is limits world s name o e).0) tt)
+  call_gives_none (calls.SnapDelete s name) h = each (snap_delete_outcome world s name) (λ o e. decides o _ (sym (delete_is world s name o e).0) tt)
+  call_gives_none calls.SnapList h = tt
 
   filled_in : (number : ℕ) (pending : Pending) (caller : Caller) → Spares world.live pending caller → IsNumberFor limits world.live number pending → PendsNoFirstName world.live number pending
   filled_in number Nothing caller h free = tt
@@ -310,7 +316,7 @@ pub logged_stay_nameless : (limits : Limits) (old new : World) (session : ℕ) (
 logged_stay_nameless limits old new session c o whole e logged comes =
     let named = decided_give_no_first_name limits old session c o e comes.number whole.live.hierarchy comes.free in
     let open_then = keeps_filled old.descriptors session comes.number o.caller (logged_keep_open limits old session c o e whole logged) in
-    subst (λ (w : World). StayNameless old.live w.live) (sym comes.world)
+    subst (StayNameless old.live) (sym (ap (λ (w : World). w.live) comes.world ∙ pointed_live o.point _))
     (kept_open_stay limits old session (filled comes.number o.caller) comes.tree whole (stays limits old comes.number o.change comes.tree named comes.applied) open_then)
 
 pub logged_keep_nameless : (limits : Limits) (old new : World) (session : ℕ) (c : Call) (o : Outcome) → IsWorld limits old → decision limits old session c ≡ Ok o → IsLogged o.change → Comes limits old session o new → nameless_in old.live ≤ nameless_in new.live
