@@ -1,6 +1,7 @@
 pub mod CallerLemmas
 pub mod NumberLemmas
 pub mod StepLemmas
+pub mod AskedLemmas
 pub mod ViewLemmas
 pub mod RestartLemmas
 pub mod LiveLemmas

@@ -23,7 +23,7 @@ use Rattle.sn_model.specs.Machine.{Memory, OfMemory, Run, RunBy, Running}
 use Rattle.sn_model.specs.NameTree.{IsTree}
 use Rattle.sn_model.specs.Outcomes.{is_opening}
 use Rattle.sn_model.specs.Settling.{OnlyLost, dropped, settle}
-use Rattle.sn_model.specs.Steps.{Becomes, Comes, IsNumberFor, TakesMemory, changed, decision, filled, with_caller, with_live}
+use Rattle.sn_model.specs.Steps.{Becomes, Comes, IsNumberFor, TakesMemory, changed, decision, filled, pointed, with_caller, with_live}
 use Rattle.sn_model.specs.Tests.{plain}
 use Rattle.sn_model.specs.Tree.{Tree, link_to}
 use Rattle.sn_model.specs.World.{World}
@@ -79,7 +79,7 @@ has_number world session c o e = told o.change (decided_is version_1 world sessi
     told (Does c) h = tt
 
 -- the tests of the session and of the arguments have passed
-ready_passed : (old : World) (session : ℕ) (c : Call) (o : Outcome) → decision version_1 old session c ≡ Ok o → IsOk (ready old session c)
+pub ready_passed : (old : World) (session : ℕ) (c : Call) (o : Outcome) → decision version_1 old session c ≡ Ok o → IsOk (ready old session c)
 ready_passed old session c o e = let r = bind_ok (ready old session c) (outcome_of version_1 old) o e in subst (λ (x : Result Ready Refusal). IsOk x) (sym r.1) refl
 
 -- a call that opens something may find no memory
@@ -155,10 +155,14 @@ module _ (old : World) (kept : ℕ → Bool) (session : ℕ) (c : Call) (o : Out
   called : (number : ℕ) → chosen.caller ≡ filled number o.caller → after ≡ dropped (with_caller (with_live old tree) session (filled number o.caller))
   called number e = ap (λ (k : Caller). dropped (with_caller (with_live old tree) session k)) e
 
-  comes : (number : ℕ) → IsNumberFor version_1 old.live number o.change → changed version_1 number o.change old.live ≡ Some tree → chosen.caller ≡ filled number o.caller → Comes version_1 old session o after
-  comes number free applied caller = record { number = number; free = free; tree = tree; applied = applied; world = called number caller }
+  -- the world that the call comes to
+  abbrev End : Type 0
+  End = Comes version_1 old session o (pointed o.point after)
 
-  by_change : (change : Pending) → o.change ≡ change → Chooses old.live kept change o.caller chosen → FitsCaller version_1 old session change o.caller → Comes version_1 old session o after
+  comes : (number : ℕ) → IsNumberFor version_1 old.live number o.change → changed version_1 number o.change old.live ≡ Some tree → chosen.caller ≡ filled number o.caller → End
+  comes number free applied caller = record { number = number; free = free; tree = tree; applied = applied; world = ap (pointed o.point) (called number caller) }
+
+  by_change : (change : Pending) → o.change ≡ change → Chooses old.live kept change o.caller chosen → FitsCaller version_1 old session change o.caller → End
   by_change Nothing e is fits =
       let same : tree ≡ old.live = subst (λ (x : Option Change). MadeBy x old.live tree) (ap (λ (x : Chosen). x.change) is) done in
       comes 0 (subst (λ (x : Pending). IsNumberFor version_1 old.live 0 x) (sym e) tt) (ap (λ (x : Pending). changed version_1 0 x old.live) e ∙ ap (λ (t : Tree). Some t) (sym same))
@@ -173,8 +177,9 @@ module _ (old : World) (kept : ℕ → Bool) (session : ℕ) (c : Call) (o : Out
       comes 0 (subst (λ (x : Pending). IsNumberFor version_1 old.live 0 x) (sym e) tt) (ap (λ (x : Pending). changed version_1 0 x old.live) e ∙ applied)
       (ap (λ (x : Chosen). x.caller) is ∙ sym (unfilled old session 0 (Does change) o.caller fits (λ h. h)))
 
-  pub chosen_becomes : Becomes version_1 old session (decision version_1 old session c) o.told after
-  chosen_becomes = becomes_told old after session c o decided (by_change o.change refl is (d.fits numbers whole))
+  -- where no snapshot is made or goes
+  pub chosen_becomes : pointed o.point after ≡ after → Becomes version_1 old session (decision version_1 old session c) o.told after
+  chosen_becomes stays = becomes_told old after session c o decided (subst (Comes version_1 old session o) stays (by_change o.change refl is (d.fits numbers whole)))
 
   -- files stay
   stay_by : (change : Pending) → Chooses old.live kept change o.caller chosen → DoesToOld change → FilesStay old.live tree
@@ -232,8 +237,8 @@ module _ (old : World) (kept : ℕ → Bool) (session : ℕ) (c : Call) (o : Out
         (λ n g. true≢false (sym (new_in n g) ∙ ap is_some (none_stays (map.get old.live.nodes n) (map.get tree.nodes n) (change_stays version_1 change old.live tree of_old applied n) g.unused)))
         (λ n. ap (λ (x : Option Change). kept_by x kept n) some ∙ old_keeps change kept n of_old)
 
-    pub chosen_served : IsServed old kept session c o.told after last
-    chosen_served = (chosen_becomes, by_kind o.change is d.of_old)
+    pub chosen_served : pointed o.point after ≡ after → IsServed old kept session c o.told after last
+    chosen_served stays = (chosen_becomes stays, by_kind o.change is d.of_old)
 
   -- only what the change took a name of may be left to nobody
   lost_by : (change : Pending) → Chooses old.live kept change o.caller chosen → DoesToOld change → OnlyLost (with_live old tree) chosen.lost

@@ -6,6 +6,8 @@ use Rattle.sn_model.specs.declared.reply.Reply.{Reply}
 use Rattle.sn_model.specs.declared.change.Change.{Change}
 use Rattle.sn_model.specs.declared.change.Change.TheVariants.{Make}
 use Rattle.sn_model.specs.Changes.{apply}
+use Rattle.sn_model.specs.declared.outcome.AskedPoint.{AskedPoint}
+use Rattle.sn_model.specs.declared.outcome.AskedPoint.TheVariants.{Unasked, Plain, Freezes, Thaws}
 use Rattle.sn_model.specs.declared.outcome.Caller.{Caller}
 use Rattle.sn_model.specs.declared.outcome.Outcome.{Outcome}
 use Rattle.sn_model.specs.declared.outcome.Pending.{Pending}
@@ -42,6 +44,13 @@ HasNone Memory world session c = TakesMemory c × IsOk (ready world session c)
 abbrev pub Decides : World → ℕ → Call → Result Outcome CallError → Type 0
 Decides world session c (Ok o) = decision version_1 world session c ≡ Ok o
 Decides world session c (Err e) = HasNone e world session c
+
+-- a run in memory keeps no tree but the live one, as if it found no memory for a snapshot's
+abbrev pub memory_for : AskedPoint → Result (Unit {0}) CallError
+memory_for Unasked = Ok tt
+memory_for Plain = Ok tt
+memory_for (Freezes name) = Err Memory
+memory_for (Thaws name) = Ok tt
 
 -- a number is left for a node that is to be made
 abbrev pub HasNumber : Tree → Pending → Type 0

@@ -7,7 +7,8 @@
 //! `sn_desc`, and serves one call: `deciding` has what it comes to, by `sn_core_calls` over the sessions and
 //! the tree as `view` shows it; `choosing` fills in a new node's number; the tree makes the change; and
 //! `turning` sets what becomes of the session and its descriptors, over any tree, and `calling` drops a file that
-//! nobody has and no name stands for, and tells which went. `specs/Plain` says which world this stands for,
+//! nobody has and no name stands for, and tells which went. There are no snapshots: a call that would make one finds no
+//! memory for it. `specs/Plain` says which world this stands for,
 //! `specs/Numbering` which number a new node gets from one event to the next.
 //!
 //! What the sources leave open is decided in `docs/DECISIONS.md`, under "The tree in memory".

@@ -34,7 +34,7 @@ fn answer(alloc: Global, world: &mut PlainWorld, events: &[Event], replies: &mut
 /// logged in. Each event has one reply. A new node has the least number that no node has, but for those
 /// of files that went with their last descriptor since the last restart: they are given out only where
 /// no other is left. There are no consistency points, so a step is always done, and a restart is never
-/// refused.
+/// refused. No frozen tree is kept: a call that would make a snapshot is refused with ENOMEM.
 ///
 /// The room for the replies is looked for first, and then that for the tree and the sessions:
 /// without either nothing is done. A run that finds none for the tree hands back the list with the

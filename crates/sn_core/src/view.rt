@@ -3,8 +3,8 @@ ghost use Rattle.sn_model.specs.NameTree.{IsTree};
 ghost use Rattle.sn_numbers.specs.Live.{live_of};
 
 use sn_acl::Acl;
-use sn_core_files::{FileFault, FileView};
 use sn_core_decide::CallView;
+use sn_core_files::{FileFault, FileView};
 use sn_core_names::MoveView;
 use sn_limits::{Limits, SnapshotName};
 use sn_model::{Names, Refusal};
@@ -13,7 +13,7 @@ use sn_walk::{Attributes, Failure, Home, Object, TreeView};
 use std::alloc::Global;
 use std::convert::Infallible;
 
-/// The live tree in memory as walks and decisions see it; there are no snapshots yet. No look-up fails but
+/// The live tree in memory as walks and decisions see it; there are no snapshots. No look-up fails but
 /// for memory, which those take that answer bytes or names.
 #[derive(Drop)]
 pub(crate) struct PlainView<'a> {

@@ -5,7 +5,7 @@ ghost use Rattle.sn_limits.specs.Versions.{version_1};
 ghost use Rattle.sn_model.specs.Worlds.{IsWorld};
 ghost use Rattle.sn_core.specs.PlainRuns.{PlainStep};
 ghost use Rattle.sn_model.specs.World.{new_world};
-ghost use Rattle.sn_core.specs.Served.{MakesChange, Serves};
+ghost use Rattle.sn_core.specs.Served.{MakesChange, Serves, memory_for};
 ghost use Rattle.sn_numbers.specs.Live.{live_of};
 ghost use Rattle.sn_numbers.specs.Numbers.{kept_after, since_after};
 
@@ -14,7 +14,7 @@ use crate::fault::CallError;
 use crate::view::PlainView;
 use sn_desc::Sessions;
 use sn_limits::Limits;
-use sn_model::{Call, Change, Errno, Event, Outcome, Progress, Refusal, Reply};
+use sn_model::{AskedPoint, Call, Change, Errno, Event, Outcome, Progress, Refusal, Reply};
 use sn_numbers::LiveTree;
 use sn_plain::ApplyError;
 use std::alloc::{AllocError, Global};
@@ -26,6 +26,16 @@ pub struct PlainWorld {
     pub(crate) sessions: Sessions,
     // In a name tree alone the way up tells whether a directory is below another, as a rename asks.
     ghost whole: { ∥ IsTree version_1 (live_of tree) ∥₁ },
+}
+
+/// Whether there is memory for what a point makes of the snapshots: for a new one's tree there is none.
+fn memory_for(point: &AskedPoint) -> Result<(), CallError>
+    ensures { result ≡ memory_for point.now }
+{
+    match point {
+        AskedPoint::Freezes(_) => Err(CallError::Memory),
+        _ => Ok(()),
+    }
 }
 
 impl PlainWorld {
@@ -82,8 +92,10 @@ impl PlainWorld {
             change,
             caller,
             told,
+            point,
             ..
         } = self.decide(alloc, session, call)?;
+        memory_for(&point)?;
         self.prepare(&caller)?;
         let Chosen {
             change,

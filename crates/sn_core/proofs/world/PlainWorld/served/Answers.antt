@@ -1,4 +1,4 @@
-use Rattle.std.proofs.Common.{◌≡◌, ◌||◌, ℕ, Ok, sym, ap, subst, ◌∙◌}
+use Rattle.std.proofs.Common.{◌≡◌, ◌||◌, ℕ, Ok, refl, sym, ap, subst, ◌∙◌}
 use Rattle.std.proofs.lemmas.Result.{err_from_is_err_and}
 use Rattle.sn_limits.specs.Versions.{version_1}
 use Rattle.sn_model.specs.NameTree.{IsTree}
@@ -10,6 +10,7 @@ use Rattle.sn_core.specs.Called.{CanTurn, HasRoom}
 use Rattle.sn_core.specs.Numbering.{has_closed}
 use Rattle.sn_core.specs.Plain.{kept_of, room_of, world_of}
 use Rattle.sn_core.specs.Served.{Chooses, HasNumber, MakesChange}
+use Rattle.sn_core.proofs.AskedLemmas.{plain_stays, point_takes}
 use Rattle.sn_core.proofs.StepLemmas.{IsMade, IsServed, change_takes, choosing, chosen_lost, chosen_served, chosen_turns, chosen_whole, has_number, lacking, none_made, opening_takes, served_whole, some_made}
 use Rattle.sn_core.proofs.world.PlainWorld.served.Goals as goal
 use Rattle.sn_core.proofs.world.PlainWorld.served.Goals.{in-Some+in-Ok, in-None}
@@ -19,6 +20,12 @@ returns-in_err-prepare-clause-served c =
     let takes = opening_takes (world_of c.args.self.now) c.args.session c.args.call.now c.in_ok-change.field-0 c.in_ok-change.ensures.decided c.in_err-prepare.ensures.opening in
     let p = err_from_is_err_and c.from_residual-in_err-prepare.result c.from_residual-in_err-prepare.ensures.1 in
     rw (p.1, p.2) ((takes.0, takes.1, c.in_err-prepare.ensures.world), c.in_err-prepare.ensures.kept)
+
+pub returns-in_err-memory_for-clause-served : goal.returns-in_err-memory_for-clause-served
+returns-in_err-memory_for-clause-served c =
+    let takes = point_takes (world_of c.args.self.now) c.args.session c.args.call.now c.in_ok-change.field-0 c.in_err-memory_for.field-0.0 c.in_ok-change.ensures.decided c.in_err-memory_for.ensures in
+    let p = err_from_is_err_and c.from_residual-in_err-memory_for.result c.from_residual-in_err-memory_for.ensures.1 in
+    rw (p.1, p.2, takes.2) ((takes.0, takes.1, refl), refl)
 
 pub choose-change-requires : goal.choose-change-requires
 choose-change-requires c =
@@ -80,8 +87,9 @@ served_so c =
     let new : world_of c.set_caller.new.self ≡ turn (with_live old m.tree) = c.set_caller.ensures.world ∙ ap turn m.world in
     let last : (n : ℕ) → kept_of c.set_caller.new.self n ≡ (has_closed (with_live old m.tree) (turn (with_live old m.tree)) n || kept_of c.match-change.self n) =
     (λ n. c.set_caller.ensures.kept n ∙ ap (λ (w : World). has_closed (world_of c.match-change.self) w n || kept_of c.match-change.self n) new ∙ ap (λ (w : World). has_closed w (turn (with_live old m.tree)) n || kept_of c.match-change.self n) m.world) in
+    let stays = plain_stays o.point (turn (with_live old m.tree)) c.in_ok-memory_for.ensures (ap (λ (w : World). w.frozen) (sym new)) in
     subst (λ (w : World). IsServed old kept c.args.session c.args.call.now o.told w (kept_of c.set_caller.new.self)) (sym new)
-    (chosen_served old kept c.args.session c.args.call.now o c.choose-change.result m.tree c.in_ok-change.ensures.numbers c.requires c.in_ok-change.ensures.decided (chosen c.before) m.done (kept_of c.match-change.self) (kept_of c.set_caller.new.self) m.kept_is last)
+    (chosen_served old kept c.args.session c.args.call.now o c.choose-change.result m.tree c.in_ok-change.ensures.numbers c.requires c.in_ok-change.ensures.decided (chosen c.before) m.done (kept_of c.match-change.self) (kept_of c.set_caller.new.self) m.kept_is last stays)
 
 pub returns-clause-served : goal.returns-clause-served
 returns-clause-served c = served_so c

@@ -1,0 +1,112 @@
+-- What a point that a call asks for leaves.
+use Rattle.std.proofs.Common.{◌≡◌, ℕ, ◌-◌, Bool, true, false, cond, Some, None, Ok, Err, refl, sym, ap, ◌∙◌, arith}
+use Rattle.std.specs.FinMap as map
+use Rattle.std.specs.Cmp.Lexicographic.{nat_list_cmp_total, slice_cmp}
+use Rattle.std.specs.Ordering.{nat_cmp}
+use Rattle.std.specs.Prelude.{IsOk}
+use Rattle.sn_limits.specs.Versions.{version_1}
+use Rattle.sn_model.specs.declared.call.Call.{Call}
+use Rattle.sn_model.specs.declared.call.Call.TheVariants as call
+use Rattle.sn_model.specs.declared.change.Change.{Change}
+use Rattle.sn_model.specs.declared.outcome.AskedPoint.{AskedPoint}
+use Rattle.sn_model.specs.declared.outcome.AskedPoint.TheVariants.{Unasked, Plain, Freezes, Thaws}
+use Rattle.sn_model.specs.declared.outcome.Caller.{Caller}
+use Rattle.sn_model.specs.declared.outcome.Outcome.{Outcome}
+use Rattle.sn_model.specs.declared.outcome.Pending.{Pending}
+use Rattle.sn_model.specs.declared.outcome.Pending.TheVariants.{Nothing, Makes, Does}
+use Rattle.sn_model.specs.Calls.{ready}
+use Rattle.sn_model.specs.Steps.{TakesMemory, asks_for_point, decision, pointed}
+use Rattle.sn_model.specs.Tree.{Tree}
+use Rattle.sn_model.specs.World.{World}
+use Rattle.sn_model.proofs.DecidedLemmas.{decided_is}
+use Rattle.sn_model.proofs.OutcomeLemmas.{IsAlone, is_asked}
+use Rattle.sn_core.specs.declared.choosing.Chosen.{Chosen}
+use Rattle.sn_core.specs.declared.fault.CallError.{CallError}
+use Rattle.sn_core.specs.declared.fault.CallError.TheVariants.{Memory}
+use Rattle.sn_core.specs.Served.{Chooses, memory_for}
+use Rattle.sn_core.proofs.StepLemmas.{ready_passed}
+
+-- ---- the snapshots stay
+
+-- where none is asked for
+unasked_stays : (p : AskedPoint) (w : World) → is_asked p ≡ false → pointed p w ≡ w
+unasked_stays Unasked w e = refl
+unasked_stays Plain w e = refl
+unasked_stays (Freezes name) w e = cc
+unasked_stays (Thaws name) w e = cc
+
+pub alone_stays : (old : World) (session : ℕ) (c : Call) (o : Outcome) → decision version_1 old session c ≡ Ok o → asks_for_point c ≡ false → (w : World) → pointed o.point w ≡ w
+alone_stays old session c o e alone w = unasked_stays o.point w ((decided_is version_1 old session c o e).points.asks ∙ alone)
+
+-- where something else changes
+beside_stays : (p : AskedPoint) (change : Pending) (caller : Caller) (w : World) → IsAlone p change caller → (change ≡ Nothing → ⊥) → pointed p w ≡ w
+beside_stays Unasked change caller w alone some = refl
+beside_stays Plain change caller w alone some = refl
+beside_stays (Freezes name) change caller w alone some = absurd (some alone.0)
+beside_stays (Thaws name) change caller w alone some = absurd (some alone.0)
+
+pub chosen_stays : (old : World) (kept : ℕ → Bool) (session : ℕ) (c : Call) (o : Outcome) (chosen : Chosen) (change : Change) → decision version_1 old session c ≡ Ok o → Chooses old.live kept o.change o.caller chosen → chosen.change ≡ Some change → (w : World) → pointed o.point w ≡ w
+chosen_stays old kept session c o chosen change e is some w = beside_stays o.point o.change o.caller w (decided_is version_1 old session c o e).points.alone (told o.change is)
+  where
+    told : (pending : Pending) → Chooses old.live kept pending o.caller chosen → pending ≡ Nothing → ⊥
+    told Nothing is none = let never : None ≡ Some change = sym (ap (λ (x : Chosen). x.change) is) ∙ some in cc never
+    told (Makes directory name kind own) is none = cc
+    told (Does d) is none = cc
+
+-- where there are none, and memory for what is asked for
+pub plain_stays : (p : AskedPoint) (w : World) → Ok tt ≡ memory_for p → w.frozen ≡ map.empty → pointed p w ≡ w
+plain_stays Unasked w e none = refl
+plain_stays Plain w e none = refl
+plain_stays (Freezes name) w e none = cc
+plain_stays (Thaws name) w e none = λ i. record w { frozen = (ap (λ m. map.remove m name) none ∙ nothing ∙ sym none) i }
+  where
+    less : (b : Bool) (n : ℕ) → n ≡ 0 → cond b (n - 1) n ≡ 0
+    less true n e = omega (arith, e)
+    less false n e = e
+
+    empty : map.FinMap (slice_cmp nat_cmp) Tree
+    empty = map.empty
+
+    nothing : map.remove empty name ≡ empty
+    nothing = map.empty_of_len (map.remove empty name) (map.len-remove nat_list_cmp_total empty name ∙ less (map.contains_key empty name) (map.len empty) (map.len-empty (slice_cmp nat_cmp) Tree))
+
+-- ---- there is none
+
+asking_takes : (c : Call) → asks_for_point c ≡ true → TakesMemory c
+asking_takes (call.Login uid gid groups) e = cc
+asking_takes (call.Umask mask) e = cc
+asking_takes (call.Mkdir path mode) e = tt
+asking_takes (call.Chmod path mode) e = tt
+asking_takes (call.Chown path uid gid) e = tt
+asking_takes (call.Stat path) e = tt
+asking_takes (call.Access path want) e = tt
+asking_takes (call.GetAcl path kind) e = tt
+asking_takes (call.SetAcl path kind acl) e = tt
+asking_takes (call.Rmdir path) e = tt
+asking_takes (call.Unlink path) e = tt
+asking_takes (call.Link old new) e = tt
+asking_takes (call.Rename old new) e = tt
+asking_takes (call.Readdir path) e = tt
+asking_takes call.Logout e = cc
+asking_takes (call.Open path flags mode) e = tt
+asking_takes (call.Close fd) e = cc
+asking_takes (call.Read fd count) e = tt
+asking_takes (call.Write fd bytes) e = tt
+asking_takes (call.Seek fd offset) e = cc
+asking_takes (call.Ftruncate fd size) e = tt
+asking_takes call.Sync e = tt
+asking_takes (call.SnapCreate name) e = tt
+asking_takes (call.SnapDelete name) e = tt
+asking_takes call.SnapList e = tt
+
+lacks_memory : (p : AskedPoint) (e : CallError) → Err e ≡ memory_for p → (is_asked p ≡ true) × (e ≡ Memory)
+lacks_memory Unasked e is = cc
+lacks_memory Plain e is = cc
+lacks_memory (Freezes name) e is = (refl, cc)
+lacks_memory (Thaws name) e is = cc
+
+-- a call whose point finds no memory is one that may find none
+pub point_takes : (old : World) (session : ℕ) (c : Call) (o : Outcome) (e : CallError) → decision version_1 old session c ≡ Ok o → Err e ≡ memory_for o.point → TakesMemory c × IsOk (ready old session c) × (e ≡ Memory)
+point_takes old session c o e decided is =
+    let lacks = lacks_memory o.point e is in
+    (asking_takes c (sym (decided_is version_1 old session c o decided).points.asks ∙ lacks.0), ready_passed old session c o decided, lacks.1)
