@@ -58,15 +58,15 @@ use Rattle.sn_events.proofs.PointLemmas.{PointEvent, in_any_world, made_point, r
 abbrev CanAsk : World → Call → Outcome → Type 0
 CanAsk w c o = TakesMemory c × CanBeAsked o.point w
 
-ok_point : {w : World} (p : AskedPoint) (o : Outcome) → points p ≡ o → CanBeAsked p w → CanBeAsked o.point w
-ok_point {w} p o is can = subst (λ (x : Outcome). CanBeAsked x.point w) is can
+ok_point : (w : World) (p : AskedPoint) (o : Outcome) → points p ≡ o → CanBeAsked p w → CanBeAsked o.point w
+ok_point w p o is can = subst (λ (x : Outcome). CanBeAsked x.point w) is can
 
 module _ (w : World) (session : ℕ) where
   sync_asks : (o : Outcome) → decision version_1 w session call.Sync ≡ Ok o → CanAsk w call.Sync o
   sync_asks o e =
       let r = bind_ok (ready w session call.Sync) (outcome_of version_1 w) o e in
       let s = bind_ok (logged_in w session) (λ _. ok calls.Sync) r.0 r.1 in
-      (tt, ok_point Plain o (same_ok (points Plain) o (subst (λ (x : calls.Ready). outcome_of version_1 w x ≡ Ok o) (sym (same_ok calls.Sync r.0 s.2)) r.2)) tt)
+      (tt, ok_point w Plain o (same_ok (points Plain) o (subst (λ (x : calls.Ready). outcome_of version_1 w x ≡ Ok o) (sym (same_ok calls.Sync r.0 s.2)) r.2)) tt)
 
   create_asks : (name : List ℕ) (o : Outcome) → decision version_1 w session (call.SnapCreate name) ≡ Ok o → CanAsk w (call.SnapCreate name) o
   create_asks name o e =
@@ -74,7 +74,7 @@ module _ (w : World) (session : ℕ) where
       let s = bind_ok (logged_in w session) (λ s. snapshot_argument name >>= (λ new. ok (calls.SnapCreate s new))) r.0 r.1 in
       let n = bind_ok (snapshot_argument name) (λ new. ok (calls.SnapCreate s.0 new)) r.0 s.2 in
       let is = create_is version_1 w s.0 n.0 o (subst (λ (x : calls.Ready). outcome_of version_1 w x ≡ Ok o) (sym (same_ok (calls.SnapCreate s.0 n.0) r.0 n.2)) r.2) in
-      (tt, ok_point (Freezes n.0) o is.0 (is.1, is.2))
+      (tt, ok_point w (Freezes n.0) o is.0 (is.1, is.2))
 
   present_is : (name : List ℕ) (u : Unit {0}) (there : Bool) → cond there (Ok (tt {0})) (Err (plain Enoent)) ≡ Ok u → there ≡ true
   present_is name u true e = refl
@@ -89,7 +89,7 @@ module _ (w : World) (session : ℕ) where
       let came = subst (λ (x : calls.Ready). outcome_of version_1 w x ≡ Ok o) (sym (same_ok (calls.SnapDelete s.0 n.0) r.0 n.2)) r.2 in
       let user = bind_ok (user_0 s.0.cred) (λ _. present_snapshot (viewed_trees (trees_of w)) n.0 >>= (λ _. closed_snapshot w n.0 >>= (λ _. ok (points (Thaws n.0))))) o came in
       let there = bind_ok (present_snapshot (viewed_trees (trees_of w)) n.0) (λ _. closed_snapshot w n.0 >>= (λ _. ok (points (Thaws n.0)))) o user.2 in
-      (tt, ok_point (Thaws n.0) o (delete_is w s.0 n.0 o came).0 (present_is n.0 there.0 (map.contains_key w.frozen n.0) there.1))
+      (tt, ok_point w (Thaws n.0) o (delete_is w s.0 n.0 o came).0 (present_is n.0 there.0 (map.contains_key w.frozen n.0) there.1))
 
   can_ask : (c : Call) (o : Outcome) → asks_for_point c ≡ true → decision version_1 w session c ≡ Ok o → CanAsk w c o
   can_ask (call.Login uid gid groups) o e decided = absurd (true≢false (sym e))

@@ -24,7 +24,7 @@ use Rattle.sn_held.specs.Room.{HasRoomFor}
 use Rattle.sn_model.specs.Machine.{State, Running, Stopped, Mishap, Memory, Read, Write, EventStep, refused}
 use Rattle.sn_model.specs.Outcomes.{is_opening}
 use Rattle.sn_model.specs.Settling.{dropped, is_held, settle}
-use Rattle.sn_model.specs.Steps.{Becomes, Comes, TakesMemory, asks_for_point, decision, with_caller, with_live}
+use Rattle.sn_model.specs.Steps.{Becomes, Comes, TakesMemory, asks_for_point, decision, pointed, with_caller, with_live}
 use Rattle.sn_model.specs.Tree.{Node, Tree}
 use Rattle.sn_model.specs.World.{World}
 use Rattle.sn_model.specs.Worlds.{IsCall, IsWorld}
@@ -35,6 +35,7 @@ use Rattle.sn_live_world.specs.declared.fault.CallFault.TheVariants as lack
 use Rattle.sn_core.specs.Numbering.{gives_kept, has_closed}
 use Rattle.sn_numbers.specs.Numbers.{since_after}
 use Rattle.sn_core.proofs.NumberLemmas.{and_not_false, kept_by, same_numbers}
+use Rattle.sn_core.proofs.AskedLemmas.{chosen_stays}
 use Rattle.sn_core.proofs.StepLemmas.{MadeBy, chosen_becomes, chosen_closed, chosen_served, chosen_whole, change_takes, opening_takes, served_whole}
 use Rattle.sn_block.proofs.CountLemmas.{later-is, later-same}
 use Rattle.sn_device.specs.declared.status.Status.{Status}
@@ -269,8 +270,12 @@ module _ (old : Held) (session : ℕ) (c : Call) (o : Outcome) (picked : Chosen)
   by_change : (tree : Tree) → apply version_1 change old.world.live ≡ Some tree → MadeBy picked.change old.world.live tree
   by_change tree e = subst (λ (x : Option Change). MadeBy x old.world.live tree) (sym some) e
 
+  -- no point is asked for
+  stays : (tree : Tree) → pointed o.point (next_with tree) ≡ next_with tree
+  stays tree = chosen_stays old.world old.kept session c o picked change decided chosen some (next_with tree)
+
   becomes : (tree : Tree) → apply version_1 change old.world.live ≡ Some tree → Becomes version_1 old.world session (decision version_1 old.world session c) o.told (next_with tree)
-  becomes tree e = chosen_becomes old.world old.kept session c o picked tree numbers whole decided chosen (by_change tree e)
+  becomes tree e = chosen_becomes old.world old.kept session c o picked tree numbers whole decided chosen (by_change tree e) (stays tree)
 
   pub comes : (tree : Tree) → apply version_1 change old.world.live ≡ Some tree → Comes version_1 old.world session o (next_with tree)
   comes tree e = (subst (λ (d : Result Outcome Refusal). Becomes version_1 old.world session d o.told (next_with tree)) decided (becomes tree e)).1
@@ -425,7 +430,7 @@ module _ (old : Held) (session : ℕ) (c : Call) (o : Outcome) (picked : Chosen)
             let of = of_tree tree in
             let moments = subst (LeavesEither old.at change old.disk) (sym disk_is) (logged.moments) in
             let on = made_runs r in
-            let served = chosen_served old.world old.kept session c o picked tree numbers whole decided chosen (by_change tree logged.made.applied) mid.kept new.kept by_mid by_last in
+            let served = chosen_served old.world old.kept session c o picked tree numbers whole decided chosen (by_change tree logged.made.applied) mid.kept new.kept by_mid by_last (stays tree) in
             record {
               answers = record {
                 met = None;

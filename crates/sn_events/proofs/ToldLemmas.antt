@@ -14,6 +14,7 @@ use Rattle.sn_model.specs.Worlds.{IsCall, IsWorld}
 use Rattle.sn_core.specs.declared.choosing.Chosen.{Chosen}
 use Rattle.sn_core.specs.Served.{Chooses}
 use Rattle.sn_core.proofs.NumberLemmas.{kept_by}
+use Rattle.sn_core.proofs.AskedLemmas.{alone_stays}
 use Rattle.sn_core.proofs.StepLemmas.{IsServed, MadeBy, chosen_served, served_whole}
 use Rattle.sn_block.proofs.CountLemmas.{later-same}
 use Rattle.sn_device.proofs.CrashLemmas.{LeavesOnly-start, Touches-start}
@@ -30,7 +31,7 @@ use Rattle.sn_events.specs.Serving.{DropsFiles, Serves, ServesFrom, Turns}
 use Rattle.sn_events.proofs.DecisionLemmas.{has_no_change}
 use Rattle.sn_events.proofs.CallLemmas.{asks_nothing, drops_carry, in_world}
 
-module _ (old new : Held) (session : ℕ) (c : Call) (o : Outcome) (picked : Chosen) (numbers : IsCall c) (whole : IsWorld version_1 old.world) (decided : decision version_1 old.world session c ≡ Ok o) (chosen : Chooses old.world.live old.kept o.change o.caller picked) (none : picked.change ≡ None)
+module _ (old new : Held) (session : ℕ) (c : Call) (o : Outcome) (picked : Chosen) (numbers : IsCall c) (whole : IsWorld version_1 old.world) (decided : decision version_1 old.world session c ≡ Ok o) (chosen : Chooses old.world.live old.kept o.change o.caller picked) (none : picked.change ≡ None) (alone : asks_for_point c ≡ false)
     (turned : Turns session picked.caller (nameless_in old.world.live) old new) where
   abbrev next : World
   next = dropped (with_caller old.world session picked.caller)
@@ -56,7 +57,7 @@ module _ (old new : Held) (session : ℕ) (c : Call) (o : Outcome) (picked : Cho
   served : IsServed old.world old.kept session c o.told next new.kept
   served =
       chosen_served old.world old.kept session c o picked old.world.live numbers whole decided chosen (subst (λ (x : Option Change). MadeBy x old.world.live old.world.live) (sym none) refl)
-      old.kept new.kept (λ n. sym (ap (λ (x : Option Change). kept_by x old.kept n) none)) turned.kept
+      old.kept new.kept (λ n. sym (ap (λ (x : Option Change). kept_by x old.kept n) none)) turned.kept (alone_stays old.world session c o decided alone next)
 
   whole_next : IsWorld version_1 next
   whole_next = served_whole old.world next session c o.told served.0 numbers whole
@@ -72,8 +73,8 @@ module _ (old new : Held) (session : ℕ) (c : Call) (o : Outcome) (picked : Cho
   pub told_runs : RunsNow old → RunsNow new
   told_runs r = subst RunsNow (sym is) (runs_after r)
 
-  pub told_serves : asks_for_point c ≡ false → Serves (Some o.told) old session c new false
-  told_serves alone = in_world old new false session c o.told told
+  pub told_serves : Serves (Some o.told) old session c new false
+  told_serves = in_world old new false session c o.told told
     where
       told : RunsWith old.point old old.world → ServesFrom (Running old.world) session c o.told old new false
       told r =

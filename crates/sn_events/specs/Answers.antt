@@ -1,5 +1,6 @@
 -- What an event leads a mounted file system to, on its disk too.
-use Rattle.std.specs.Prelude.{◌≡◌, ◌≢◌, ◌⊎◌, inl, inr, ℕ, ◌+◌, ◌-◌, ◌*◌, ◌<◌, ◌≤◌, Bool, false, true, ◌&&◌, ◌||◌, Option, None, Some, Ok, length}
+use Rattle.std.specs.Prelude.{◌≡◌, ◌≢◌, ◌⊎◌, ℕ, ◌+◌, ◌-◌, ◌*◌, ◌<◌, ◌≤◌, Bool, false, true, ◌&&◌, ◌||◌, Option, None, Some, Ok, length}
+use Rattle.std.proofs.Common.{inl, inr}
 use Rattle.sn_device.specs.Crash.{Touches}
 use Rattle.sn_device.specs.Disk.{Disk, reads}
 use Rattle.sn_device.specs.declared.status.Status.{Status}

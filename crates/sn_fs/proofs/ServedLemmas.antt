@@ -105,17 +105,17 @@ module _ (h p : Held) (session : ℕ) (c : Call) (o : Outcome) (numbers : IsCall
           subst (λ (x : Held). CanTurn x.world.descriptors room session picked.caller) (sym same)
           (turns_over h.world.live (subst (λ (x : Option Change). MadeBy x h.world.live h.world.live) (sym (k.change ∙ none)) refl) room has)
 
-      module _ (new : Held) (parked : ℕ) (count : parked ≡ nameless_in p.world.live) (turned : Turns session picked.caller parked p new) where
+      module _ (alone : asks_for_point c ≡ false) (new : Held) (parked : ℕ) (count : parked ≡ nameless_in p.world.live) (turned : Turns session picked.caller parked p new) where
         turned_on : Turns session k.chosen.caller (nameless_in h.world.live) h new
         turned_on =
             subst (λ (x : Caller). Turns session x (nameless_in h.world.live) h new) (sym k.turns)
             (subst (λ (n : ℕ). Turns session picked.caller n h new) (count ∙ ap (λ (x : Held). nameless_in x.world.live) same) (subst (λ (x : Held). Turns session picked.caller parked x new) same turned))
 
-        pub serves_told : asks_for_point c ≡ false → Serves (Some o.told) h session c new false
-        serves_told alone = told_serves h new session c o k.chosen numbers whole decided chosen (k.change ∙ none) turned_on alone
+        pub serves_told : Serves (Some o.told) h session c new false
+        serves_told = told_serves h new session c o k.chosen numbers whole decided chosen (k.change ∙ none) alone turned_on
 
         pub whole_on : IsWorld version_1 new.world
-        whole_on = told_whole h new session c o k.chosen numbers whole decided chosen (k.change ∙ none) turned_on
+        whole_on = told_whole h new session c o k.chosen numbers whole decided chosen (k.change ∙ none) alone turned_on
 
         pub runs_on : RunsNow p → RunsNow new
-        runs_on r = told_runs h new session c o k.chosen numbers whole decided chosen (k.change ∙ none) turned_on (subst RunsNow same r)
+        runs_on r = told_runs h new session c o k.chosen numbers whole decided chosen (k.change ∙ none) alone turned_on (subst RunsNow same r)

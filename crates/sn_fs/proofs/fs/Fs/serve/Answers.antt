@@ -215,7 +215,7 @@ returns-in-None-clause-served g c told =
     let picks = c.in-Some.ensures.picked (tree_of p) m.over in
     let turns = turns_now h (held p) c.args.session c.args.call.now o c.in-Ok.ensures.numbers whole decided same picked picks c.in-None.is (room_of p.world) c.in-Ok-prepare.ensures.room in
     let turned = c.turn-in-None.ensures.turned (record { over = m.over; can = turns; only = no_loss version_1 (held p).world m.whole }) in
-    let a = serves_told h (held p) c.args.session c.args.call.now o c.in-Ok.ensures.numbers whole decided same picked picks c.in-None.is (held new) c.nameless-parked.result (c.nameless-parked.ensures.tells (tree_of p) m.over) turned c.requires.alone in
+    let a = serves_told h (held p) c.args.session c.args.call.now o c.in-Ok.ensures.numbers whole decided same picked picks c.in-None.is c.requires.alone (held new) c.nameless-parked.result (c.nameless-parked.ensures.tells (tree_of p) m.over) turned in
     subst (Serves (Some o.told) h c.args.session c.args.call.now (held new)) (sym (ap has_stopped c.turn-in-None.ensures.rest ∙ running)) a
 
 pub returns-in-None-clause-sound : goal.returns-in-None-clause-sound
@@ -252,8 +252,8 @@ returns-in-None-clause-sound g c =
           let count = c.nameless-parked.ensures.tells (tree_of p) m.over in
           record {
             over = subst (λ (x : Fs _ _). IsOver x.world (tree_of x)) c.turn-in-None.ensures.rest (c.turn-in-None.ensures.over can);
-            whole = whole_on h (held p) c.args.session c.args.call.now o c.in-Ok.ensures.numbers whole decided same picked picks c.in-None.is (held new) c.nameless-parked.result count turned;
-            runs = runs_on h (held p) c.args.session c.args.call.now o c.in-Ok.ensures.numbers whole decided same picked picks c.in-None.is (held new) c.nameless-parked.result count turned m.runs;
+            whole = whole_on h (held p) c.args.session c.args.call.now o c.in-Ok.ensures.numbers whole decided same picked picks c.in-None.is c.requires.alone (held new) c.nameless-parked.result count turned;
+            runs = runs_on h (held p) c.args.session c.args.call.now o c.in-Ok.ensures.numbers whole decided same picked picks c.in-None.is c.requires.alone (held new) c.nameless-parked.result count turned m.runs;
             stands = m.stands;
           };
     })
