@@ -1,4 +1,5 @@
 pub mod BuildLemmas
+pub mod EditLemmas
 pub mod LiveLemmas
 pub mod RecoverLemmas
 pub mod RoomLemmas

@@ -27,14 +27,15 @@ use Rattle.sn_limits.specs.declared.limits.Limits.{Limits}
 use Rattle.sn_limits.specs.Versions.{version_1}
 use Rattle.sn_map.specs.Free.{is_free_word}
 use Rattle.sn_model.specs.NameTree.{IsTree}
+use Rattle.sn_model.specs.Outcomes.{AskedPoint}
 use Rattle.sn_model.specs.Tree.{Tree}
-use Rattle.sn_model.specs.World.{World}
+use Rattle.sn_model.specs.World.{Trees, World, trees_of}
 use Rattle.sn_ondisk.specs.MapCopy.{HasMap}
 use Rattle.sn_ondisk.specs.TreeLaws.{SameIn}
 use Rattle.sn_ondisk.specs.Trees.{Store, store_of}
 use Rattle.sn_opening.specs.Opens.{Shows}
 use Rattle.sn_opening.specs.Points.{HoldsAll, IsBuilt}
-use Rattle.sn_opening.specs.Worlds.{all_reach}
+use Rattle.sn_opening.specs.Worlds.{all_reach, frozen_of}
 use Rattle.sn_overlay.specs.Layers.{through}
 use Rattle.sn_overlay.specs.Needs.{nameless_in, need}
 use Rattle.sn_overlay.specs.Seen.{LiesOver}
@@ -53,6 +54,7 @@ use Rattle.sn_cp_build.specs.Bits.{TellsBlocks}
 use Rattle.sn_cp_build.specs.Building.{Builds}
 use Rattle.sn_cp_build.specs.declared.building.Built.{Built}
 use Rattle.sn_cp_held.specs.Builds.{CanBeBuilt, IsBuiltOf, IsOfBuild, plan_of, room_behind, work_for}
+use Rattle.sn_cp_held.specs.Snapshots.{trees_behind}
 use Rattle.sn_cp_held.specs.Wholes.{IsOfLive, StandsKept}
 use Rattle.sn_cp_held.proofs.BuildLemmas.{builds_are_built, builds_are_sound, frozen_reach, live_reached}
 use Rattle.sn_cp_held.proofs.RoomLemmas.{builds_leave_room}
@@ -163,7 +165,7 @@ module _ (n : ℕ) (c : Contents) (world : World) (k : Kept) (st : StandsKept n 
     );
   }
 
-  module _ (kind : PointKind) (built : Built) (next : RootBody) (x : IsBuiltOf n c kind k built next) where
+  module _ (kind : PointKind) (asked : AskedPoint) (bit : ℕ) (built : Built) (next : RootBody) (x : IsBuiltOf n c kind k asked bit built next) where
     -- what is built over the blocks that are read is built over those that the root was made of
     builds_here : Builds n k.root.limits now k.root.inode_file k.words k.changed built → Builds n k.root.limits s k.root.inode_file k.words k.changed built
     builds_here builds on tell u same holds =
@@ -176,8 +178,9 @@ module _ (n : ℕ) (c : Contents) (world : World) (k : Kept) (st : StandsKept n 
           within = λ block among. ⊎_elim (λ old. inl (subst (λ (blocks : List ℕ). Contains blocks block) depends.reach old)) (λ new. inr new) (frozen.within block among);
         }
 
-    pub of_build : IsOfBuild n s k.root k.words k.changed built next
+    pub of_build : IsOfBuild n s k.root k.words k.changed asked bit built next
     of_build = record {
+      root_body = body;
       sound = st.sound;
       count = count;
       tells = tells;
@@ -190,11 +193,15 @@ module _ (n : ℕ) (c : Contents) (world : World) (k : Kept) (st : StandsKept n 
       limits = ap (λ (b : RootBody). b.limits) x.is;
       generation = ap (λ (b : RootBody). b.generation) x.is;
       inode_file = ap (λ (b : RootBody). b.inode_file) x.is;
-      snapshots = ap (λ (b : RootBody). b.snapshots) x.is;
+      snapshots = x.snapshots;
     }
 
-    pub made : IsBuilt n s k.root world.live (plan_of built next)
-    made = subst (λ (tree : Tree). IsBuilt n s k.root tree (plan_of built next)) st.changed.shows (builds_are_built n s k.root k.words k.changed built next of_build)
+    -- the trees that the root and what changed stand for
+    trees_are : record { live = through k.changed (image s k.root.inode_file); frozen = frozen_of s k.root.snapshots } ≡ trees_of world
+    trees_are = λ i. record { live = st.changed.shows i; frozen = (sym st.frozen) i }
+
+    pub made : IsBuilt n s k.root (trees_behind asked (trees_of world)) (plan_of built next)
+    made = subst (λ (trees : Trees). IsBuilt n s k.root (trees_behind asked trees) (plan_of built next)) trees_are (builds_are_built n s k.root k.words k.changed asked bit built next of_build)
 
     pub new_count : length built.map ≡ n
     new_count = of_build.well.as_many ∙ count
@@ -203,7 +210,7 @@ module _ (n : ℕ) (c : Contents) (world : World) (k : Kept) (st : StandsKept n 
       new_free : free_data built.map (start_of n Data) ≡ free_blocks n t next
       new_free =
           words_counted is_free_word built.map (start_of n Data) n new_count data_within
-          ∙ sym (free_counted n t next (slice_index built.map) (builds_are_sound n s k.root k.words k.changed built next of_build t same holds))
+          ∙ sym (free_counted n t next (slice_index built.map) (builds_are_sound n s k.root k.words k.changed asked bit built next of_build t same holds))
 
       pub new_tree : image t next.inode_file ≡ world.live
       new_tree = made.tree t same holds
@@ -219,14 +226,14 @@ module _ (n : ℕ) (c : Contents) (world : World) (k : Kept) (st : StandsKept n 
           ap nameless_in new_tree,
           fitting,
           new_free,
-          builds_leave_room n s k.root k.words k.changed built next of_build t same holds,
+          builds_leave_room n s k.root k.words k.changed asked bit built next of_build t same holds,
           of_build.well.few,
           ap (λ (l : Limits). need l k.changed) st.limits,
         );
       }
 
     pub sound_next : (t : Store) → SameIn (all_reach s k.root) s t → HoldsAll t (plan_of built next).blocks → IsSoundRoot n t next (slice_index built.map)
-    sound_next = builds_are_sound n s k.root k.words k.changed built next of_build
+    sound_next = builds_are_sound n s k.root k.words k.changed asked bit built next of_build
 
     pub whole_work : (slot : Slot) (gate : Gate) → IsWhole (record { blocks = n; slot = slot; gate = gate; plan = plan_of built next })
     whole_work slot gate = record {
@@ -259,6 +266,7 @@ module _ (h : Held) (world : World) (k : Kept) (rr : RunsReady h world k) where
     sound = subst (λ (b : RootBody). IsSoundRoot h.at.blocks r.store b (slice_index k.words)) (sym rr.ready.root)
         (subst (λ (ws : List ℕ). IsSoundRoot h.at.blocks r.store r.root (slice_index ws)) (sym rr.ready.words) r.stands.sound);
     limits = ap (λ (b : RootBody). b.limits) rr.ready.root ∙ r.limits;
+    frozen = subst (λ (b : RootBody). world.frozen ≡ frozen_of r.store b.snapshots) (sym rr.ready.root) r.frozen;
     charged = h.room.charged;
     changed = subst (λ (b : RootBody). HasChanged version_1 k.changed (image r.store b.inode_file) world.live h.room.charged) (sym rr.ready.root) rr.ready.changed;
     fits = subst (λ (b : RootBody). h.room.charged + version_1.inode_charge * nameless_in (image r.store b.inode_file) ≤ free_blocks h.at.blocks r.store b) (sym rr.ready.root)
@@ -269,18 +277,18 @@ module _ (h : Held) (world : World) (k : Kept) (rr : RunsReady h world k) where
   pub can_be_built : CanBeBuilt h.at.blocks (store_of (reads h.disk)) k
   can_be_built = kept_can_be_built h.at.blocks (reads h.disk) world k stands_kept
 
-  module _ (gate : Gate) (built : Built) (next : RootBody) (x : IsBuiltOf h.at.blocks (reads h.disk) Ordinary k built next) where
+  module _ (gate : Gate) (asked : AskedPoint) (bit : ℕ) (built : Built) (next : RootBody) (x : IsBuiltOf h.at.blocks (reads h.disk) Ordinary k asked bit built next) where
     here : (t : Store) → SameIn (all_reach r.store r.root) r.store t → SameIn (all_reach r.store k.root) r.store t
     here t same = subst (λ (b : RootBody). SameIn (all_reach r.store b) r.store t) (sym rr.ready.root) same
 
-    pub of_live : IsOfLive h world r (work_for h.at.blocks k gate built next) (room_behind h.at.blocks built)
+    pub of_live : IsOfLive h world r asked (work_for h.at.blocks k gate built next) (room_behind h.at.blocks built)
     of_live = record {
-      whole = whole_work h.at.blocks (reads h.disk) world k stands_kept Ordinary built next x (other_slot k.slot) gate;
+      whole = whole_work h.at.blocks (reads h.disk) world k stands_kept Ordinary asked bit built next x (other_slot k.slot) gate;
       blocks = refl;
       slot = ap other_slot (sym rr.ready.slot);
       epoch = ap (λ (b : RootBody). b.epoch) x.is ∙ ap (λ (b : RootBody). b.epoch + 1) rr.ready.root;
-      built = subst (λ (b : RootBody). IsBuilt h.at.blocks r.store b world.live (plan_of built next)) rr.ready.root (made h.at.blocks (reads h.disk) world k stands_kept Ordinary built next x);
-      sound = λ t same holds. sound_next h.at.blocks (reads h.disk) world k stands_kept Ordinary built next x t (here t same) holds;
-      charged = λ t same holds. charged h.at.blocks (reads h.disk) world k stands_kept Ordinary built next x t (here t same) holds;
+      built = subst (λ (b : RootBody). IsBuilt h.at.blocks r.store b (trees_behind asked (trees_of world)) (plan_of built next)) rr.ready.root (made h.at.blocks (reads h.disk) world k stands_kept Ordinary asked bit built next x);
+      sound = λ t same holds. sound_next h.at.blocks (reads h.disk) world k stands_kept Ordinary asked bit built next x t (here t same) holds;
+      charged = λ t same holds. charged h.at.blocks (reads h.disk) world k stands_kept Ordinary asked bit built next x t (here t same) holds;
       age = x.age;
     }

@@ -20,9 +20,10 @@ use Rattle.sn_limits.specs.declared.limits.Limits.{Limits}
 use Rattle.sn_limits.specs.Versions.{version_1}
 use Rattle.sn_model.specs.declared.change.Change.{Change}
 use Rattle.sn_model.specs.Changes.{apply_all}
+use Rattle.sn_model.specs.Outcomes.{Plain}
 use Rattle.sn_model.specs.Settling.{settled}
 use Rattle.sn_model.specs.Tree.{Tree}
-use Rattle.sn_model.specs.World.{World}
+use Rattle.sn_model.specs.World.{World, trees_of}
 use Rattle.sn_model.proofs.SettlingLemmas.{dropping_kept, settle_alike}
 use Rattle.sn_model.proofs.ListLemmas.{covers_itself}
 use Rattle.sn_ondisk.specs.Blocks.{block_at}
@@ -51,7 +52,6 @@ use Rattle.sn_cp.specs.Showing.{Finishes, HasRecords, InAround, InPoint, ShowsBe
 use Rattle.sn_cp.specs.Steps.{IsWhole, StandsAtStage}
 use Rattle.sn_cp.specs.declared.stage.Stage.TheVariants.{Done}
 use Rattle.sn_cp.proofs.AroundLemmas.{stays_apart}
-use Rattle.sn_cp.proofs.NextLemmas.{frozen_stay}
 use Rattle.sn_cp_build.specs.declared.building.Built.{Built}
 use Rattle.sn_cp_held.specs.Builds.{IsBuiltOf, plan_of, work_for}
 use Rattle.sn_cp_held.specs.Recovering.{HasReplayed, IsRecovered}
@@ -100,6 +100,9 @@ module _ (old new : Disk) (world : World) (im : IsImage (reads old) world) (k : 
   pub fits_one : Fits version_1 (older ++ newer) (image s im.opens.root.inode_file) (free_blocks n s im.opens.root)
   fits_one = subst (λ (l : Limits). Fits l (older ++ newer) (image s im.opens.root.inode_file) (free_blocks n s im.opens.root)) (sym limits_one) im.fits
 
+  pub stands : StandsFor s k.root (older ++ newer) world
+  stands = subst (λ (b : RootBody). StandsFor s b (older ++ newer) world) (sym r.root) im.opens.stands
+
   abbrev pub replayed_stands : StandsKept n (reads old) world k
   replayed_stands = record {
     store = s;
@@ -110,14 +113,12 @@ module _ (old new : Disk) (world : World) (im : IsImage (reads old) world) (k : 
     map = subst (λ (slot : Slot). HasMap n (reads old) slot k.words) (sym r.slot) (subst (λ (ws : List ℕ). HasMap n (reads old) im.opens.slot ws) (sym r.words) im.map);
     sound = subst (λ (b : RootBody). IsSoundRoot n s b (slice_index k.words)) (sym r.root) (subst (λ (ws : List ℕ). IsSoundRoot n s im.opens.root (slice_index ws)) (sym r.words) im.sound);
     limits = ap (λ (b : RootBody). b.limits) r.root ∙ sym limits_one;
+    frozen = ap (λ (y : World). y.frozen) stands.settles;
     charged = charges_from version_1 (older ++ newer) (image s im.opens.root.inode_file);
     changed = subst (λ (b : RootBody). HasChanged version_1 k.changed (image s b.inode_file) world.live (charges_from version_1 (older ++ newer) (image s im.opens.root.inode_file))) (sym r.root) r.changed;
     fits = subst (λ (b : RootBody). charges_from version_1 (older ++ newer) (image s im.opens.root.inode_file) + version_1.inode_charge * nameless_in (image s b.inode_file) ≤ free_blocks n s b) (sym r.root) fits_one;
     tree = r.tree;
   }
-
-  stands : StandsFor s k.root (older ++ newer) world
-  stands = subst (λ (b : RootBody). StandsFor s b (older ++ newer) world) (sym r.root) im.opens.stands
 
   all_fits : Fits k.root.limits (older ++ newer) (image s k.root.inode_file) (free_blocks n s k.root)
   all_fits = subst (λ (b : RootBody). Fits b.limits (older ++ newer) (image s b.inode_file) (free_blocks n s b)) (sym r.root) im.fits
@@ -136,15 +137,15 @@ module _ (old new : Disk) (world : World) (im : IsImage (reads old) world) (k : 
       image_shown n s k.slot k.root k.words older newer world im.opens.older_spelled im.opens.newer_spelled replayed_stands.sound stands all_fits age c a.disk a.formatted a.map
       (each_half n k.root.epoch (λ (b : ℕ). HasNoLater c b (k.root.epoch + 1)) a.own a.other) shows
 
-  module _ (gate : Gate) (built : Built) (next : RootBody) (x : IsBuiltOf n (reads old) Recovery k built next) where
+  module _ (gate : Gate) (built : Built) (next : RootBody) (x : IsBuiltOf n (reads old) Recovery k Plain 0 built next) where
     abbrev w : Work
     w = work_for n k gate built next
 
-    is_built : IsBuilt n s k.root world.live (plan_of built next)
-    is_built = made n (reads old) world k replayed_stands Recovery built next x
+    is_built : IsBuilt n s k.root (trees_of world) (plan_of built next)
+    is_built = made n (reads old) world k replayed_stands Recovery Plain 0 built next x
 
     whole_point : IsWhole w
-    whole_point = whole_work n (reads old) world k replayed_stands Recovery built next x (other_slot k.slot) gate
+    whole_point = whole_work n (reads old) world k replayed_stands Recovery Plain 0 built next x (other_slot k.slot) gate
 
     epoch_is : next.epoch ≡ k.root.epoch + 2
     epoch_is = ap (λ (b : RootBody). b.epoch) x.is
@@ -164,13 +165,13 @@ module _ (old new : Disk) (world : World) (im : IsImage (reads old) world) (k : 
 
     module _ (t : Store) (same : SameIn (all_reach s k.root) s t) (holds : HoldsAll t (plan_of built next).blocks) where
       tree_is : image t next.inode_file ≡ world.live
-      tree_is = new_tree n (reads old) world k replayed_stands Recovery built next x t same holds
+      tree_is = new_tree n (reads old) world k replayed_stands Recovery Plain 0 built next x t same holds
 
       next_limits : next.limits ≡ version_1
       next_limits = is_built.limits ∙ replayed_stands.limits
 
       frozen_is : world.frozen ≡ frozen_of t next.snapshots
-      frozen_is = ap (λ (y : World). y.frozen) stands.settles ∙ frozen_stay s t k.root same ∙ ap (frozen_of t) (sym is_built.snapshots)
+      frozen_is = sym (is_built.frozen t same holds)
 
       live_is : world.live ≡ settled (image t next.inode_file)
       live_is = sym (settled_again stands.tree world.live (ap (λ (y : World). y.live) stands.settles)) ∙ ap settled (sym tree_is)
@@ -189,7 +190,7 @@ module _ (old new : Disk) (world : World) (im : IsImage (reads old) world) (k : 
 
       next_fits : Fits next.limits [] (image t next.inode_file) (free_blocks n t next)
       next_fits =
-          let charged = live.charged n (reads old) world k replayed_stands Recovery built next x t same holds in
+          let charged = live.charged n (reads old) world k replayed_stands Recovery Plain 0 built next x t same holds in
           subst (λ (l : Limits). Fits l [] (image t next.inode_file) (free_blocks n t next)) (sym next_limits)
           (subst (Fits version_1 [] (image t next.inode_file)) charged.free charged.fits)
 
@@ -224,7 +225,7 @@ module _ (old new : Disk) (world : World) (im : IsImage (reads old) world) (k : 
         };
         words = built.map;
         map = shows.map;
-        sound = sound_next n (reads old) world k replayed_stands Recovery built next x (store_of c) shows.same shows.blocks;
+        sound = sound_next n (reads old) world k replayed_stands Recovery Plain 0 built next x (store_of c) shows.same shows.blocks;
         none_later = none_after c a;
         fits = next_fits (store_of c) shows.same shows.blocks;
         age = λ recovers. absurd (nothing_left (store_of c) shows.same shows.blocks recovers);
@@ -256,7 +257,7 @@ module _ (old new : Disk) (world : World) (im : IsImage (reads old) world) (k : 
       recovered = OnOk-both result recovered_on finishes.done either.done
 
 pub recoveries_leave_the_world : (old new : Disk) (world : World) (im : IsImage (reads old) world) (k : Kept) (gate : Gate) (built : Built) (next : RootBody) (result : Result (Unit {0}) Fault) → HasReplayed old world im k
-    → IsBuiltOf im.blocks (reads old) Recovery k built next → AreSectors (reads new) → Finishes (work_for im.blocks k gate built next) result old new
+    → IsBuiltOf im.blocks (reads old) Recovery k Plain 0 built next → AreSectors (reads new) → Finishes (work_for im.blocks k gate built next) result old new
     → LeavesOnly old new (λ c. IsImage c world) × OnOk result (IsRecovered new world (work_for im.blocks k gate built next))
 recoveries_leave_the_world old new world im k gate built next result replayed is whole finishes =
     (recovery_leaves old new world im k replayed gate built next is result whole finishes, recovered old new world im k replayed gate built next is result whole finishes)

@@ -38,8 +38,9 @@ use Rattle.sn_cp_held.specs.Wholes.{IsOfLive}
 abbrev pub plan_of : Built → RootBody → Plan
 plan_of built next = record { blocks = map written_by built.blocks.items; words = built.map; next = next }
 
--- A build over a root that is sound with its snapshots and its map, of a layer that shows a name tree, and the root that follows on it with the new inode file and the snapshots that are asked for.
+-- A build over a root that can be written, sound with its snapshots and its map, of a layer that shows a name tree, and the root that follows on it with the new inode file and the snapshots that are asked for.
 pub record IsOfBuild (n : ℕ) (s : Store) (root : RootBody) (words : List ℕ) (layer : Layer) (asked : AskedPoint) (bit : ℕ) (built : Built) (next : RootBody) : Type 0 where
+  pub root_body : IsRootBody root
   pub sound : IsSoundRoot n s root (slice_index words)
   pub count : length words ≡ n
   pub tells : TellsBlocks words (reach s root.inode_file)

@@ -1,19 +1,14 @@
--- What a whole point leaves of the world.
+-- What the beginning of a point leaves of the world.
 use Rattle.std.specs.Prelude.{Result, OnOk}
-use Rattle.sn_device.specs.Sectors.{AreSectors}
-use Rattle.sn_device.specs.Disk.{Disk, reads}
+use Rattle.sn_device.specs.Disk.{Disk}
 use Rattle.sn_device.specs.Crash.{LeavesOnly}
-use Rattle.sn_device.specs.declared.device.Fault.{Fault}
 use Rattle.sn_block.specs.declared.fault.ReadFault.{ReadFault}
 use Rattle.sn_model.specs.Settling.{settle}
 use Rattle.sn_model.specs.World.{World}
-use Rattle.sn_room.specs.Rooms.{RoomCounts}
-use Rattle.sn_held.specs.Held.{Held, IsBetween, Kept, Runs, RunsReady}
+use Rattle.sn_held.specs.Held.{Held, IsBetween, Runs}
 use Rattle.sn_held.specs.Images.{IsImage}
 use Rattle.sn_cp.specs.Beginning.{Begins}
-use Rattle.sn_cp.specs.Points.{Work}
-use Rattle.sn_cp.specs.Showing.{Finishes}
-use Rattle.sn_cp_held.specs.Wholes.{HasBegun, IsOfLive, behind_point, kept_behind}
+use Rattle.sn_cp_held.specs.Wholes.{HasBegun}
 
 -- A point begins: whatever the answer, a crash at any moment leaves an image of the settled world. At `Ok` it has begun.
 abbrev pub BeginningsLeaveTheWorld : Type 0

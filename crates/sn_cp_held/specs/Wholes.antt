@@ -20,7 +20,7 @@ use Rattle.sn_ondisk.specs.TreeLaws.{SameIn}
 use Rattle.sn_ondisk.specs.Trees.{Store}
 use Rattle.sn_opening.specs.Opens.{IsDisk, Shows}
 use Rattle.sn_opening.specs.Points.{HoldsAll, IsBuilt}
-use Rattle.sn_opening.specs.Worlds.{all_reach}
+use Rattle.sn_opening.specs.Worlds.{all_reach, frozen_of}
 use Rattle.sn_overlay.specs.Needs.{nameless_in}
 use Rattle.sn_overlay.specs.Overlays.{no_changes}
 use Rattle.sn_room.specs.Rooms.{RoomCounts}
@@ -56,7 +56,7 @@ pub record HasBegun (h : Held) (world : World) (r : Runs h world) (d : Disk) : T
   pub shows : Always d (Shows h.at.blocks r.store r.slot r.root r.older [])
   pub around : Always d (StandsAround h.at.blocks r.slot r.words r.root.epoch)
 
--- The root that is kept stands in these contents with its records, sound with its map, and the world's live tree, a name tree, is seen through what changed since. What that was charged, with a charge for each file that the root's tree has without a name, is no more than is free.
+-- The root that is kept stands in these contents with its records, sound with its map, and its snapshots stand for the world's frozen trees. The live tree, a name tree, is seen through what changed since. What that was charged, with a charge for each file that the root's tree has without a name, is no more than is free.
 pub record StandsKept (n : ℕ) (c : Contents) (world : World) (k : Kept) : Type 0 where
   pub store : Store
   pub older : List Change
@@ -66,6 +66,7 @@ pub record StandsKept (n : ℕ) (c : Contents) (world : World) (k : Kept) : Type
   pub map : HasMap n c k.slot k.words
   pub sound : IsSoundRoot n store k.root (slice_index k.words)
   pub limits : k.root.limits ≡ version_1
+  pub frozen : world.frozen ≡ frozen_of store k.root.snapshots
   pub charged : ℕ
   pub changed : HasChanged version_1 k.changed (image store k.root.inode_file) world.live charged
   pub fits : charged + version_1.inode_charge * nameless_in (image store k.root.inode_file) ≤ free_blocks n store k.root

@@ -7,13 +7,13 @@ pub returns-clause-built : goal.returns-clause-built
 returns-clause-built c = builds_are_built
 
 pub returns-clause-sound : goal.returns-clause-sound
-returns-clause-sound c n s root words layer built next of r same holds = builds_are_sound n s root words layer built next of r same holds
+returns-clause-sound c n s root words layer asked bit built next of r same holds = builds_are_sound n s root words layer asked bit built next of r same holds
 
 pub returns-clause-room : goal.returns-clause-room
-returns-clause-room c n s root words layer built next of r same holds = builds_leave_room n s root words layer built next of r same holds
+returns-clause-room c n s root words layer asked bit built next of r same holds = builds_leave_room n s root words layer asked bit built next of r same holds
 
 pub returns-clause-live : goal.returns-clause-live
-returns-clause-live c h world k gate built next r is = of_live h world k r gate built next is
+returns-clause-live c h world k gate asked bit built next r is = of_live h world k r gate asked bit built next is
 
 pub returns-clause-fit : goal.returns-clause-fit
 returns-clause-fit c h world k r = can_be_built h world k r
