@@ -52,15 +52,15 @@ module _ (old new : Held) (world next : World) (p : Progress) (change : Change) 
   appends_either : LeavesEither old.at change old.disk new.disk → LeavesOnly old.disk new.disk (λ c. IsImage c (settle world) ⊎ IsImage c (settle next))
   appends_either leaves = leaves_either old new world next change tree r spelled applied of hierarchy has_room aged touched leaves
 
-  -- one more covers the live tree, over the old root and over the frozen tree
+  -- one more covers the live tree, over the old root and over the tree that the point was built of
   old_cover : MakesCover version_1 (r.older ++ (r.newer ++ change ∷ [])) (image r.store r.root.inode_file) next.live
   old_cover =
       subst (λ (cs : List Change). MakesCover version_1 cs (image r.store r.root.inode_file) next.live) (append_assoc r.older r.newer (change ∷ []))
       (left_covers ((r.older ++ r.newer) ++ change ∷ []) (image r.store r.root.inode_file) tree next.live of.held of.live
       (one_more_covers version_1 (r.older ++ r.newer) change (image r.store r.root.inode_file) world.live tree r.cover applied))
 
-  new_cover : MakesCover version_1 (r.newer ++ change ∷ []) p.frozen next.live
-  new_cover = left_covers (r.newer ++ change ∷ []) p.frozen tree next.live of.held of.live (one_more_covers version_1 r.newer change p.frozen world.live tree ro.point.cover applied)
+  new_cover : MakesCover version_1 (r.newer ++ change ∷ []) p.trees.live next.live
+  new_cover = left_covers (r.newer ++ change ∷ []) p.trees.live tree next.live of.held of.live (one_more_covers version_1 r.newer change p.trees.live world.live tree ro.point.cover applied)
 
   -- it is charged on some root
   one_charged : (room : RoomCounts) (s : Store) (root : RootBody) (changes : List Change) → IsCharged room n s root changes world.live → MakesCover version_1 changes (image s root.inode_file) world.live
@@ -137,7 +137,7 @@ module _ (old new : Held) (world next : World) (p : Progress) (change : Change) 
                 (subst (λ (from : Tree). MakesCover version_1 r.newer from world.live) (sym (ro.point.of.built.tree t same holds)) ro.point.cover) fits_next no_fewer;
             slot = carried.slot ∙ ro.point.slot;
             root = carried.root ∙ ro.point.root;
-            changed = carried.changed p.frozen ro.point.changed;
+            changed = carried.changed p.trees.live ro.point.changed;
             tree = hierarchic;
           };
         }
@@ -173,11 +173,11 @@ module _ (h : Held) (world next : World) (p : Progress) (kept since : ℕ → Bo
             epoch = q.epoch;
             ready = q.ready;
             none_later = q.none_later;
-            cover = left_covers ro.runs.newer p.frozen world.live next.live of.held of.live q.cover;
+            cover = left_covers ro.runs.newer p.trees.live world.live next.live of.held of.live q.cover;
             charged = λ t same holds. let it = q.charged t same holds in record { free = it.free; charged = it.charged; parked = omega (arith, it.parked, counted); fits = it.fits };
             slot = carried.slot ∙ q.slot;
             root = carried.root ∙ q.root;
-            changed = carried.changed p.frozen q.changed;
+            changed = carried.changed p.trees.live q.changed;
             tree = hierarchic;
           };
         }

@@ -1,5 +1,5 @@
 -- What the beginning of a point and its last step leave of the world that a mount runs over.
-use Rattle.std.proofs.Common.{◌≡◌, inl, inr, ⊎_elim, ℕ, ◌+◌, ◌^◌, ◌<◌, List, [], ◌++◌, Result, refl, sym, ap, subst, ◌∙◌, append-nil, arith}
+use Rattle.std.proofs.Common.{◌≡◌, inl, inr, ⊎_elim, ℕ, ◌+◌, ◌^◌, ◌<◌, List, [], ◌++◌, Result, refl, sym, subst, ◌∙◌, append-nil, arith}
 use Rattle.std.specs.Prelude.{OnOk}
 use Rattle.sn_changed.specs.Changed.{HasChanged}
 use Rattle.sn_changed.proofs.ChangedLemmas.{nothing_changed}
@@ -14,9 +14,10 @@ use Rattle.sn_limits.specs.Versions.{version_1}
 use Rattle.sn_log.specs.Positions.{first_of, payloads_of}
 use Rattle.sn_model.specs.declared.change.Change.{Change}
 use Rattle.sn_model.specs.Changes.{apply_all}
+use Rattle.sn_model.specs.declared.outcome.AskedPoint.{AskedPoint}
 use Rattle.sn_model.specs.Settling.{settle}
 use Rattle.sn_model.specs.Tree.{Tree}
-use Rattle.sn_model.specs.World.{World}
+use Rattle.sn_model.specs.World.{World, trees_of}
 use Rattle.sn_model.proofs.ListLemmas.{covers_itself}
 use Rattle.sn_ondisk.specs.LogHalf.{HasNoLater, base_of}
 use Rattle.sn_ondisk.specs.MapCopy.{HasMap}
@@ -44,11 +45,13 @@ use Rattle.sn_cp.specs.Showing.{Finishes, InPoint, ShowsNext}
 use Rattle.sn_cp.specs.Steps.{IsWithin, StandsAtStage, StepsTo}
 use Rattle.sn_cp.specs.declared.stage.Stage.{Stage}
 use Rattle.sn_cp.specs.declared.stage.Stage.TheVariants.{Bodied, Done}
-use Rattle.sn_cp.proofs.NextLemmas.{done_points_stand, frozen_stay}
+use Rattle.sn_cp.proofs.NextLemmas.{done_points_stand}
 use Rattle.sn_cp.proofs.ShowLemmas.{opening_shows}
+use Rattle.sn_cp_held.specs.Snapshots.{trees_behind}
 use Rattle.sn_cp_held.specs.Wholes.{HasBegun, IsOfLive}
 use Rattle.sn_cp_held.proofs.WholeLemmas.{later_weaker}
-use Rattle.sn_cp_progress.specs.Progress.{Progress, RunsOn, kept_behind}
+use Rattle.sn_cp_progress.specs.Meaning.{EitherImage}
+use Rattle.sn_cp_progress.specs.Progress.{Progress, RunsOn, kept_behind, world_behind}
 use Rattle.sn_cp_progress.proofs.StepLemmas.{LiesAround, around_stays, around_then, beside, in_point, none_behind, old_image}
 
 -- ---- the beginning
@@ -58,7 +61,7 @@ covers_alone : (tree : Tree) → MakesCover version_1 [] tree tree
 unfolding apply_all
 covers_alone tree = record { tree = tree; applied = refl; covers = covers_itself tree }
 
-module _ (h : Held) (world : World) (k : Kept) (ready : RunsReady h world k) (w : Work) (free : ℕ) (stage : Stage) (d : Disk) (of : IsOfLive h world ready.runs w (fresh free)) (whole : AreSectors (reads d)) (has : HasBegun h world ready.runs d)
+module _ (h : Held) (world : World) (k : Kept) (ready : RunsReady h world k) (asked : AskedPoint) (w : Work) (free : ℕ) (stage : Stage) (d : Disk) (of : IsOfLive h world ready.runs asked w (fresh free)) (whole : AreSectors (reads d)) (has : HasBegun h world ready.runs d)
     (within : IsWithin w stage) (stands : StandsAtStage w stage d) where
   abbrev old : Runs h world
   old = ready.runs
@@ -111,7 +114,7 @@ module _ (h : Held) (world : World) (k : Kept) (ready : RunsReady h world k) (w 
     frozen = old.frozen;
   }
 
-  begins_on : RunsOn (record h { room = begun h.room; at = first_of geometry (old.root.epoch + 1); base = record k { changed = no_changes }; disk = d }) world (record { work = w; stage = stage; frozen = world.live; free = free })
+  begins_on : RunsOn (record h { room = begun h.room; at = first_of geometry (old.root.epoch + 1); base = record k { changed = no_changes }; disk = d }) world (record { work = w; stage = stage; trees = trees_behind asked (trees_of world); free = free })
   unfolding begins_runs
   begins_on = record {
     runs = begins_runs;
@@ -131,10 +134,10 @@ module _ (h : Held) (world : World) (k : Kept) (ready : RunsReady h world k) (w 
     };
   }
 
-pub point_begins : (h : Held) (world : World) (k : Kept) (r : RunsReady h world k) (w : Work) (free : ℕ) (stage : Stage) (d : Disk) → IsOfLive h world r.runs w (fresh free) → AreSectors (reads d)
+pub point_begins : (h : Held) (world : World) (k : Kept) (r : RunsReady h world k) (asked : AskedPoint) (w : Work) (free : ℕ) (stage : Stage) (d : Disk) → IsOfLive h world r.runs asked w (fresh free) → AreSectors (reads d)
     → HasBegun h world r.runs d → IsWithin w stage → StandsAtStage w stage d
-    → RunsOn (record h { room = begun h.room; at = first_of h.at.blocks (r.runs.root.epoch + 1); base = record k { changed = no_changes }; disk = d }) world (record { work = w; stage = stage; frozen = world.live; free = free })
-point_begins h world k ready w free stage d of whole has within stands = begins_on h world k ready w free stage d of whole has within stands
+    → RunsOn (record h { room = begun h.room; at = first_of h.at.blocks (r.runs.root.epoch + 1); base = record k { changed = no_changes }; disk = d }) world (record { work = w; stage = stage; trees = trees_behind asked (trees_of world); free = free })
+point_begins h world k ready asked w free stage d of whole has within stands = begins_on h world k ready asked w free stage d of whole has within stands
 
 -- ---- the steps that end with the last one
 
@@ -149,6 +152,9 @@ module _ (h : Held) (world : World) (p : Progress) (ro : RunsOn h world p) (resu
   abbrev r : Runs h world
   r = ro.runs
 
+  abbrev after : World
+  after = world_behind p world
+
   abbrev around : Contents → Type 0
   around = LiesAround n r.slot r.words r.root.epoch h.at r.newer
 
@@ -157,20 +163,20 @@ module _ (h : Held) (world : World) (p : Progress) (ro : RunsOn h world p) (resu
     next_limits : w.plan.next.limits ≡ version_1
     next_limits = ro.point.of.built.limits ∙ r.limits
 
-    next_tree : image t w.plan.next.inode_file ≡ p.frozen
+    next_tree : image t w.plan.next.inode_file ≡ p.trees.live
     next_tree = ro.point.of.built.tree t same holds
 
     next_cover : MakesCover version_1 (r.newer ++ []) (image t w.plan.next.inode_file) world.live
     next_cover = subst (λ (cs : List Change). MakesCover version_1 cs (image t w.plan.next.inode_file) world.live) (sym (append-nil r.newer)) (subst (λ (from : Tree). MakesCover version_1 r.newer from world.live) (sym next_tree) ro.point.cover)
 
-    next_frozen : world.frozen ≡ frozen_of t w.plan.next.snapshots
-    next_frozen = r.frozen ∙ frozen_stay r.store t r.root same ∙ ap (frozen_of t) (sym ro.point.of.built.snapshots)
+    next_frozen : p.trees.frozen ≡ frozen_of t w.plan.next.snapshots
+    next_frozen = sym (ro.point.of.built.frozen t same holds)
 
     next_charged : IsCharged (done p.free h.room) n t w.plan.next (r.newer ++ []) world.live
     next_charged = subst (λ (cs : List Change). IsCharged (done p.free h.room) n t w.plan.next cs world.live) (sym (append-nil r.newer)) (ro.point.charged t same holds)
 
-    next_stands : StandsFor t w.plan.next (r.newer ++ []) (settle world)
-    next_stands = stands_of t w.plan.next (r.newer ++ []) world next_limits next_cover next_frozen
+    next_stands : StandsFor t w.plan.next (r.newer ++ []) (settle after)
+    next_stands = stands_of t w.plan.next (r.newer ++ []) after next_limits next_cover next_frozen
 
     next_fits : Fits w.plan.next.limits (r.newer ++ []) (image t w.plan.next.inode_file) (free_blocks n t w.plan.next)
     next_fits =
@@ -183,20 +189,20 @@ module _ (h : Held) (world : World) (p : Progress) (ro : RunsOn h world p) (resu
   next_shows : (c : Contents) → ShowsNext w r.store r.root r.newer [] c → Shows n (store_of c) w.slot w.plan.next r.newer [] c
   next_shows c next = record { shown = subst (λ (m : ℕ). Shown m c w.slot w.plan.next (payloads_of r.newer) (payloads_of [])) ro.point.of.blocks next.shown; same = λ block among. refl }
 
-  next_image : (c : Contents) → around c → ShowsNext w r.store r.root r.newer [] c → IsImage c (settle world)
+  next_image : (c : Contents) → around c → ShowsNext w r.store r.root r.newer [] c → IsImage c (settle after)
   next_image c here next =
-      image_shown n (store_of c) w.slot w.plan.next w.plan.words r.newer [] (settle world) r.newer_spelled tt (ro.point.of.sound (store_of c) next.same next.blocks)
+      image_shown n (store_of c) w.slot w.plan.next w.plan.words r.newer [] (settle after) r.newer_spelled tt (ro.point.of.sound (store_of c) next.same next.blocks)
       (next_stands (store_of c) next.same next.blocks) (next_fits (store_of c) next.same next.blocks) (λ recovers. ro.point.of.age)
       c here.disk here.formatted (subst (λ (m : ℕ). HasMap m c w.slot w.plan.words) ro.point.of.blocks next.map) (none_after c here) (next_shows c next)
 
-  last_leaves : LeavesOnly h.disk d (λ c. IsImage c (settle world))
+  last_leaves : LeavesOnly h.disk d (EitherImage world after)
   last_leaves = record {
     follows = either.any_moment.follows;
     each = λ c since.
         let here = (around_stays h world p ro d touched).each c since in
         ⊎_elim
-        (λ shows. old_image h world p ro c here (subst (λ (m : ℕ). Shows m r.store r.slot r.root r.older r.newer c) ro.point.of.blocks shows))
-        (λ next. next_image c here next)
+        (λ shows. inl (old_image h world p ro c here (subst (λ (m : ℕ). Shows m r.store r.slot r.root r.older r.newer c) ro.point.of.blocks shows)))
+        (λ next. inr (next_image c here next))
         (either.any_moment.each c since);
   }
 
@@ -208,14 +214,14 @@ module _ (h : Held) (world : World) (p : Progress) (ro : RunsOn h world p) (resu
     now = Always-reads d (ShowsNext w r.store r.root r.newer []) whole next
 
     abbrev behind : Held
-    behind = record h { room = done p.free h.room; disk = d }
+    behind = record h { world = after; room = done p.free h.room; disk = d }
 
-    last_runs : Runs behind world
+    last_runs : Runs behind after
     last_runs =
-        let shown = done_points_stand w r.store r.root p.frozen r.newer d whole (subst (λ (m : ℕ). IsBuilt m r.store r.root p.frozen w.plan) (sym ro.point.of.blocks) ro.point.of.built) stands next in
+        let shown = done_points_stand w r.store r.root p.trees r.newer d whole (subst (λ (m : ℕ). IsBuilt m r.store r.root p.trees w.plan) (sym ro.point.of.blocks) ro.point.of.built) stands next in
         let here = around_then h world p ro d touched in
         record {
-          is = r.is;
+          is = refl;
           store = t;
           slot = w.slot;
           root = w.plan.next;
@@ -240,7 +246,7 @@ module _ (h : Held) (world : World) (p : Progress) (ro : RunsOn h world p) (resu
           frozen = next_frozen t now.same now.blocks;
         }
 
-    last_ready : RunsReady behind world (kept_behind h p)
+    last_ready : RunsReady behind after (kept_behind h p)
     unfolding last_runs
     last_ready =
         let here = around_then h world p ro d touched in
@@ -256,11 +262,11 @@ module _ (h : Held) (world : World) (p : Progress) (ro : RunsOn h world p) (resu
           };
         }
 
-  last_ends : OnOk result (RunsReady (record h { room = done p.free h.room; disk = d }) world (kept_behind h p))
+  last_ends : OnOk result (RunsReady (record h { world = after; room = done p.free h.room; disk = d }) after (kept_behind h p))
   last_ends = OnOk-both result last_ready reached either.done
 
 module _ (h : Held) (world : World) (p : Progress) (result : Result (Unit {0}) Fault) (d : Disk) (ro : RunsOn h world p) (whole : AreSectors (reads d)) where
-  pub point_ends : p.stage ≡ Bodied → StepsTo p.work p.stage result h.disk d → LeavesOnly h.disk d (λ c. IsImage c (settle world)) × OnOk result (RunsReady (record h { room = done p.free h.room; disk = d }) world (kept_behind h p))
+  pub point_ends : p.stage ≡ Bodied → StepsTo p.work p.stage result h.disk d → LeavesOnly h.disk d (EitherImage world (world_behind p world)) × OnOk result (RunsReady (record h { world = world_behind p world; room = done p.free h.room; disk = d }) (world_behind p world) (kept_behind h p))
   point_ends is_last step =
       let old = ro.runs in
       let stands = subst (λ (stage : Stage). StandsAtStage p.work stage h.disk) is_last ro.point.stands in
@@ -269,7 +275,7 @@ module _ (h : Held) (world : World) (p : Progress) (result : Result (Unit {0}) F
       let either = opening_shows p.work ro.point.of.whole old.store old.slot old.root old.older old.newer old.newer [] result h.disk d old.stands.disk.whole (beside h world p ro) stands last in
       (last_leaves h world p ro result d whole touched last.next either, last_ends h world p ro result d whole touched last.next either)
 
-  pub point_finishes : Finishes p.work result h.disk d → LeavesOnly h.disk d (λ c. IsImage c (settle world)) × OnOk result (RunsReady (record h { room = done p.free h.room; disk = d }) world (kept_behind h p))
+  pub point_finishes : Finishes p.work result h.disk d → LeavesOnly h.disk d (EitherImage world (world_behind p world)) × OnOk result (RunsReady (record h { world = world_behind p world; room = done p.free h.room; disk = d }) (world_behind p world) (kept_behind h p))
   point_finishes all =
       let old = ro.runs in
       let either = all.shown old.store old.slot old.root old.older old.newer old.newer [] (beside h world p ro) in

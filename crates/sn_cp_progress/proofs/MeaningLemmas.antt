@@ -1,5 +1,5 @@
 -- What is so of a mount that runs, between two points or with one in progress.
-use Rattle.std.proofs.Common.{◌≡◌, ◌⊎◌, inl, ℕ, ◌+◌, ◌≤◌, Bool, Option, None, Some, subst}
+use Rattle.std.proofs.Common.{◌≡◌, ◌⊎◌, inl, ℕ, ◌+◌, ◌≤◌, Bool, Option, None, Some, sym, subst}
 use Rattle.sn_device.specs.Sectors.{AreSectors}
 use Rattle.sn_device.specs.Disk.{Always, IsSynced, reads}
 use Rattle.sn_device.specs.Crash.{Touches}
@@ -15,6 +15,7 @@ use Rattle.sn_model.specs.NameTree.{IsHierarchy, IsTree}
 use Rattle.sn_model.specs.Tree.{Tree}
 use Rattle.sn_model.specs.World.{World}
 use Rattle.sn_ondisk.specs.LogHalf.{InHalf}
+use Rattle.sn_opening.specs.Worlds.{FrozenTrees}
 use Rattle.sn_overlay.specs.Needs.{nameless_in}
 use Rattle.sn_record.specs.Payload.{IsSpelled}
 use Rattle.sn_room.specs.Rooms.{RoomCounts, dropping, logged}
@@ -32,16 +33,16 @@ module _ (h : Held) (world : World) where
   -- it stands on the root that counts
   abbrev pub runs_with : (point : Option Going) → RunsWith point h world → Runs h world
   runs_with None ready = ready.runs
-  runs_with (Some going) (frozen, on) = on.runs
+  runs_with (Some going) (built, on) = on.runs
 
   -- of which what is kept is
   pub root_with : (point : Option Going) (r : RunsWith point h world) → h.base.root ≡ (runs_with point r).root
   root_with None ready = ready.ready.root
-  root_with (Some going) (frozen, on) = on.point.root
+  root_with (Some going) (built, on) = on.point.root
 
   pub tree_with : (point : Option Going) → RunsWith point h world → IsTree version_1 world.live
   tree_with None ready = ready.ready.tree
-  tree_with (Some going) (frozen, on) = on.point.tree
+  tree_with (Some going) (built, on) = on.point.tree
 
 pub room_with : (point : Option Going) (room : RoomCounts) (tree : Tree) (change : Change) → HasRoomWith point room tree change → HasRoomFor room tree change
 room_with None room tree change has = has
@@ -61,6 +62,14 @@ stays_lasts h has_stopped s m =
 
 -- ---- calls
 
+-- a point in progress of this tree, which leaves the snapshots as they are
+abbrev point_over : Going → Tree → World → Progress
+point_over going built world = progress_over going (record { live = built; frozen = world.frozen })
+
+-- what leaves the frozen trees leaves them to its root too
+still : (h : Held) (world next : World) (going : Going) (built : Tree) → next.frozen ≡ world.frozen → RunsOn h next (point_over going built world) → RunsOn h next (point_over going built next)
+still h world next going built same on = subst (λ (f : FrozenTrees). RunsOn h next (progress_over going (record { live = built; frozen = f }))) (sym same) on
+
 -- a change that is appended
 pub appends_with : (point : Option Going) (old new : Held) (world next : World) (change : Change) (tree : Tree) → RunsWith point old world → IsSpelled change → apply version_1 change world.live ≡ Some tree → IsOfTree world tree next → IsHierarchy world.live → HasRoomWith point old.room world.live change → HasAgeLeft old.base.root
     → Touches (InHalf (base_at old.at)) old.disk new.disk → LeavesMore old.at change old.disk new.disk
@@ -68,16 +77,20 @@ pub appends_with : (point : Option Going) (old new : Held) (world next : World) 
     → ((figure : ℕ) → CarriesOn old.base world.live figure new.base next.live (figure + charge_for version_1 world.live change)) → IsTree version_1 next.live → RunsWith point new next
 appends_with None old new world next change tree ready spelled applied of hierarchy has_room aged touched leaves whole synced at charged is no_fewer carried hierarchic =
     appends_ready old new world next change tree ready spelled applied of hierarchy has_room aged touched leaves whole synced at charged is no_fewer (carried old.room.charged) hierarchic
-appends_with (Some going) old new world next change tree (frozen, on) spelled applied of hierarchy has_room aged touched leaves whole synced at charged is no_fewer carried hierarchic = (
-  frozen,
-  appends_go_on old new world next (progress_over going frozen) change tree on spelled applied of hierarchy has_room.0 has_room.1 (subst HasAgeLeft on.point.root aged) touched leaves whole at charged is no_fewer (carried old.room.charged_since) hierarchic,
+appends_with (Some going) old new world next change tree (built, on) spelled applied of hierarchy has_room aged touched leaves whole synced at charged is no_fewer carried hierarchic = (
+  built,
+  still new world next going built of.frozen
+      (appends_go_on old new world next (point_over going built world) change tree on spelled applied of hierarchy has_room.0 has_room.1 (subst HasAgeLeft on.point.root aged) touched leaves whole at charged is no_fewer (carried old.room.charged_since) hierarchic),
 )
 
 -- files without names that go
 pub drops_with : (point : Option Going) (h : Held) (world next : World) (kept since : ℕ → Bool) (count : ℕ) (base : Kept) → RunsWith point h world → IsOfTree world world.live next → nameless_in world.live ≤ nameless_in next.live + count
     → ((figure : ℕ) → CarriesOn h.base world.live figure base next.live figure) → IsTree version_1 next.live → RunsWith point (record h { world = next; kept = kept; kept_since = since; room = dropping count h.room; base = base }) next
 drops_with None h world next kept since count base ready of counted carried hierarchic = drops_ready h world next kept since count base ready of counted (carried h.room.charged) hierarchic
-drops_with (Some going) h world next kept since count base (frozen, on) of counted carried hierarchic = (frozen, drops_go_on h world next (progress_over going frozen) kept since count base on of counted (carried h.room.charged_since) hierarchic)
+drops_with (Some going) h world next kept since count base (built, on) of counted carried hierarchic = (
+  built,
+  still _ world next going built of.frozen (drops_go_on h world next (point_over going built world) kept since count base on of counted (carried h.room.charged_since) hierarchic),
+)
 
 -- ---- what says nothing of a point in progress
 
@@ -106,4 +119,4 @@ on_with h world p kept since point status on =
 
 pub counted_with : (point : Option Going) (h : Held) (world : World) (status : Status) → RunsWith point h world → RunsWith point (record h { status = status }) world
 counted_with None h world status ready = ready_with h world h.base h.kept h.kept_since h.base h.point status ready
-counted_with (Some going) h world status (frozen, on) = (frozen, on_with h world (progress_over going frozen) h.kept h.kept_since h.point status on)
+counted_with (Some going) h world status (built, on) = (built, on_with h world (point_over going built world) h.kept h.kept_since h.point status on)

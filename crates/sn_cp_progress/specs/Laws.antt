@@ -12,7 +12,7 @@ use Rattle.sn_model.specs.Charges.{charge_for}
 use Rattle.sn_model.specs.NameTree.{IsHierarchy, IsTree}
 use Rattle.sn_model.specs.Settling.{settle}
 use Rattle.sn_model.specs.Tree.{Tree}
-use Rattle.sn_model.specs.Outcomes.{AskedPoint}
+use Rattle.sn_model.specs.declared.outcome.AskedPoint.{AskedPoint}
 use Rattle.sn_model.specs.World.{World, trees_of}
 use Rattle.sn_ondisk.specs.LogHalf.{InHalf}
 use Rattle.sn_overlay.specs.Needs.{nameless_in}

@@ -1,8 +1,8 @@
 //! The laws that the definitions of `specs/` keep.
 ghost use Rattle.sn_cp_progress.specs.Laws.{AppendsGoOn, AppendsLeaveEither, DropsGoOn, PointsBegin, PointsEnd, PointsFinish, StepsGoOn};
 
-/// From its beginning to its last step a point leaves the world as it is, and what is logged between two steps stands on top
-/// of the root that counts, whichever it is.
+/// From its beginning to its last step a point leaves the world as it is, but for the snapshots that come with its root; and
+/// what is logged between two steps stands on top of the root that counts, whichever it is.
 pub fn progress_laws()
     ensures begins { PointsBegin }
     ensures steps { StepsGoOn }

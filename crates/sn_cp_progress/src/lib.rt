@@ -1,17 +1,18 @@
 //! Consistency points in progress, with calls between any two of their steps. Definitions and laws, and no code that runs.
 //!
 //! The model. `sn_held` says what a mounted file system holds (`Runs`), `sn_cp` what the steps of a point leave of a disk, and
-//! `sn_cp_held` what a whole point leaves of the world. Here stands what holds between two steps (`RunsOn`): the root that
-//! counts is the old one still, with its records, and behind them those of the next epoch, which were logged since the point
-//! began. The point was built of the tree that was frozen then. Each record since is so at once one on top of the old root
-//! and its records, and one on top of the next root alone: that is why its last step, which makes the next root the one that
-//! counts, changes nothing of the world.
+//! `sn_cp_held` what a point is built of. Here stands what holds between two steps (`RunsOn`): the root that counts is the
+//! old one still, with its records, and behind them those of the next epoch, which were logged since the point began. The
+//! point was built of the live tree as it was then, with the frozen trees that its root is to have. Each record since is so at
+//! once one on top of the old root and its records, and one on top of the next root alone: that is why its last step, which
+//! makes the next root the one that counts, changes nothing of the world but the snapshots, where the point makes one or lets
+//! one go.
 //!
 //! The laws, each of them one clause of [`progress_laws`]:
 //! - `begins`: from a mount that is ready for a point to one with a point in progress.
-//! - `steps`, `ends`: a crash at any moment of a step leaves an image of the settled world; behind the last one the mount is
-//!   ready for another point, over the next root, with what was logged since. So do all that are left, made in a row
-//!   (`finishes`).
+//! - `steps`, `ends`: a crash at any moment of a step leaves an image of the settled world, in the last one maybe of that with
+//!   the point's snapshots (`EitherImage`); behind that one the mount is ready for another point, over the next root, with
+//!   these snapshots and with what was logged since. So do all that are left, made in a row (`finishes`).
 //! - `either`, `appends`: a call that is logged between two steps leaves to a crash the world before it or the one after it,
 //!   and the point where it was. It has to fit on both roots.
 //! - `drops`: so does a call that logs nothing.
