@@ -10,8 +10,7 @@ use Rattle.sn_device.proofs.CrashLemmas.{Always-reads, Touches-within}
 use Rattle.sn_held.specs.Held.{Held}
 use Rattle.sn_held.proofs.RoomLemmas.{image_same}
 use Rattle.sn_layout.specs.declared.root.RootBody.{RootBody}
-use Rattle.sn_model.specs.Tree.{Tree}
-use Rattle.sn_model.specs.World.{World}
+use Rattle.sn_model.specs.World.{Trees, World}
 use Rattle.sn_cp.specs.Points.{Work, stage_of, work_of}
 use Rattle.sn_cp.specs.Showing.{InPoint, IsBeforeOpening}
 use Rattle.sn_cp.specs.Steps.{InStep, IsWhole, IsWithin, StandsAtStage, StepsTo, next_stage}
@@ -39,15 +38,15 @@ before_opening w Done within more = within
 pub stepped : (w : Work) (stage : Stage) → IsWithin w stage → (result : Result (Unit {0}) Fault) (old new : Disk) → StepsTo w stage result old new → Touches (InPoint w) old new
 stepped w stage within result old new step = Touches-within (InStep w stage) (InPoint w) old new (λ i is. record { stage = stage; within = within; of_step = is }) step.touched
 
-pub advanced : (h : Held) (world : World) (old : GoingPoint) (new : Point) (frozen : Tree) (result : Result (Unit {0}) Fault) (d : Disk) → RunsOn h world (progress_over (going_of old) frozen) → AreSectors (reads d) → IsBeforeOpening (stage_of old.point)
-    → StepsTo (work_of old.point) (stage_of old.point) result h.disk d → work_of new ≡ work_of old.point → OnOk result (stage_of new ≡ next_stage (work_of old.point) (stage_of old.point)) → StepsOn result world h (record old { point = new }) frozen h.disk d
-advanced h world old new frozen result d on whole before step same onward = (step_leaves h world (progress_over (going_of old) frozen) on result d whole step before, OnOk-both result ahead (step_goes_on h world (progress_over (going_of old) frozen) on result d whole step before) onward)
+pub advanced : (h : Held) (world : World) (old : GoingPoint) (new : Point) (trees : Trees) (result : Result (Unit {0}) Fault) (d : Disk) → RunsOn h world (progress_over (going_of old) trees) → AreSectors (reads d) → IsBeforeOpening (stage_of old.point)
+    → StepsTo (work_of old.point) (stage_of old.point) result h.disk d → work_of new ≡ work_of old.point → OnOk result (stage_of new ≡ next_stage (work_of old.point) (stage_of old.point)) → StepsOn result world h (record old { point = new }) trees h.disk d
+advanced h world old new trees result d on whole before step same onward = (step_leaves h world (progress_over (going_of old) trees) on result d whole step before, OnOk-both result ahead (step_goes_on h world (progress_over (going_of old) trees) on result d whole step before) onward)
   where
-    ahead : RunsOn (record h { disk = d }) world (record { work = work_of old.point; stage = next_stage (work_of old.point) (stage_of old.point); frozen = frozen; free = old.free }) → stage_of new ≡ next_stage (work_of old.point) (stage_of old.point)
-        → RunsOn (record h { disk = d }) world (progress_over (going_of (record old { point = new })) frozen)
+    ahead : RunsOn (record h { disk = d }) world (record { work = work_of old.point; stage = next_stage (work_of old.point) (stage_of old.point); trees = trees; free = old.free }) → stage_of new ≡ next_stage (work_of old.point) (stage_of old.point)
+        → RunsOn (record h { disk = d }) world (progress_over (going_of (record old { point = new })) trees)
     ahead runs next =
-        subst (λ (w : Work). RunsOn (record h { disk = d }) world (record { work = w; stage = stage_of new; frozen = frozen; free = old.free })) (sym same)
-        (subst (λ (stage : Stage). RunsOn (record h { disk = d }) world (record { work = work_of old.point; stage = stage; frozen = frozen; free = old.free })) (sym next) runs)
+        subst (λ (w : Work). RunsOn (record h { disk = d }) world (record { work = w; stage = stage_of new; trees = trees; free = old.free })) (sym same)
+        (subst (λ (stage : Stage). RunsOn (record h { disk = d }) world (record { work = work_of old.point; stage = stage; trees = trees; free = old.free })) (sym next) runs)
 
 -- it stands at its next stage, which has a step to make
 module _ (old new : Point) where

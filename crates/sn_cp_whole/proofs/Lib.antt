@@ -1,3 +1,4 @@
+mod AskingLemmas
 mod GoingLemmas
 mod PointLemmas
 pub mod RecoverLemmas

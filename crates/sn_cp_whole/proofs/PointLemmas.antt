@@ -1,5 +1,5 @@
 -- What a whole point makes of a mount, and what it costs.
-use Rattle.std.proofs.Common.{◌≡◌, ◌⊎◌, ℕ, zero, suc, ◌+◌, ◌*◌, ◌<◌, ◌≤◌, ◌==◌, if◌then◌else◌, Bool, true, false, List, [], ◌∷◌, length, map, All, Contains, Result, Ok, Err, IsTrue, refl, sym, ap, subst, ◌∙◌, arith}
+use Rattle.std.proofs.Common.{◌≡◌, ◌⊎◌, inl, ℕ, zero, suc, ◌+◌, ◌*◌, ◌<◌, ◌≤◌, ◌==◌, if◌then◌else◌, Bool, true, false, List, [], ◌∷◌, length, map, All, Contains, Result, Ok, Err, IsTrue, refl, sym, ap, subst, ◌∙◌, arith}
 use Rattle.std.specs.Prelude.{MatchBool}
 use Rattle.std.specs.List.Sorted.{IsStrictlyIncreasing}
 use Rattle.std.proofs.lemmas.Bool.{eqb-true}
@@ -12,7 +12,7 @@ use Rattle.sn_device.specs.Disk.{Always, Disk, IsSynced, reads}
 use Rattle.sn_device.specs.Sectors.{AreSectors}
 use Rattle.sn_device.specs.Status.{has_ended, one_failure}
 use Rattle.sn_device.specs.declared.status.Status.{Status}
-use Rattle.sn_device.proofs.CrashLemmas.{Always-synced, LeavesOnly-start, Touches-present}
+use Rattle.sn_device.proofs.CrashLemmas.{Always-synced, LeavesOnly-join, LeavesOnly-start, LeavesOnly-weaker, Touches-present}
 use Rattle.sn_layout.specs.declared.gate.Gate.{Gate}
 use Rattle.sn_layout.specs.declared.gate.Gate.TheVariants.{Open, Closed}
 use Rattle.sn_layout.specs.declared.geometry.Area.TheVariants.{Data}
@@ -23,8 +23,11 @@ use Rattle.sn_layout.specs.Geometry.{IsDiskSize, gate_sector, map_blocks, other_
 use Rattle.sn_layout.specs.RootBody.{IsRootBody}
 use Rattle.sn_limits.specs.declared.limits.Limits.{Limits}
 use Rattle.sn_log.specs.Positions.{LogPosition, first_of}
+use Rattle.sn_model.specs.declared.outcome.AskedPoint.{AskedPoint}
+use Rattle.sn_model.specs.declared.outcome.AskedPoint.TheVariants.{Unasked, Plain, Freezes, Thaws}
 use Rattle.sn_model.specs.Settling.{settle}
-use Rattle.sn_model.specs.World.{World}
+use Rattle.sn_model.specs.Steps.{pointed}
+use Rattle.sn_model.specs.World.{World, trees_of}
 use Rattle.sn_ondisk.specs.LogHalf.{InHalf, base_of}
 use Rattle.sn_ondisk.specs.Trees.{store_of}
 use Rattle.sn_opening.specs.Points.{Written}
@@ -47,28 +50,31 @@ use Rattle.sn_cp.specs.Steps.{IsWhole, IsWithin, StandsAtStage}
 use Rattle.sn_cp.specs.declared.stage.Stage.{Stage}
 use Rattle.sn_cp.specs.declared.stage.Stage.TheVariants.{Blocks, MapBlocks}
 use Rattle.sn_cp_build.specs.Building.{Builds, IsWellBuilt}
-use Rattle.sn_cp_build.specs.declared.edits.SnapshotEdit.TheVariants.{None as NoEdit}
+use Rattle.sn_cp_build.specs.declared.edits.SnapshotEdit.{SnapshotEdit}
 use Rattle.sn_cp_build.specs.declared.building.Built.{Built}
 use Rattle.sn_cp_held.specs.Builds.{CanBeBuilt, IsBuiltOf, plan_of, room_behind, work_for}
+use Rattle.sn_cp_held.specs.Snapshots.{trees_behind}
 use Rattle.sn_cp_held.specs.Wholes.{HasBegun, IsOfLive}
 use Rattle.sn_cp_held.proofs.BuildLemmas.{numbers_same, place_all}
 use Rattle.sn_cp_held.proofs.LiveLemmas.{can_be_built, of_live}
 use Rattle.sn_cp_held.proofs.WholeLemmas.{begin_leaves, has_begun}
-use Rattle.sn_cp_progress.specs.Meaning.{progress_over}
+use Rattle.sn_cp_progress.specs.Meaning.{EitherImage, progress_over}
 use Rattle.sn_cp_progress.specs.Progress.{RunsOn}
 use Rattle.sn_cp_progress.proofs.EndLemmas.{point_begins}
-use Rattle.sn_cp_whole.specs.Going.{BeginsPoint, CostsBeginning, IsGoing, going_of}
-use Rattle.sn_cp_whole.specs.Making.{CostsPoint, HasCauseFor, MakesPoint, most_syncs, most_writes, syncs_of_point, with_parts, writes_of_point}
-use Rattle.sn_cp_whole.specs.Planning.{HasCauseToStop, IsNextRoot, IsSpellable, IsWholeBlock}
+use Rattle.sn_cp_whole.specs.Asking.{CanBeMade}
+use Rattle.sn_cp_whole.specs.Going.{BeginsPoint, CostsBeginning, IsGoing, going_of, with_frozen}
+use Rattle.sn_cp_whole.specs.Making.{CanBeAsked, CostsPoint, HasCauseFor, MakesPoint, most_syncs, most_writes, syncs_of_point, with_parts, writes_of_point}
+use Rattle.sn_cp_whole.specs.Planning.{HasCauseToStop, IsPlanned, IsSpellable, IsWholeBlock, kept_in}
 use Rattle.sn_cp_whole.specs.declared.base.PointBase.{PointBase}
 use Rattle.sn_cp_whole.specs.declared.fault.PointFault.{PointFault}
 use Rattle.sn_cp_whole.specs.declared.going.GoingPoint.{GoingPoint}
 use Rattle.sn_cp_whole.specs.declared.fault.PointFault.TheVariants as fault
+use Rattle.sn_cp_whole.proofs.AskingLemmas.{asked_can}
 
 -- ---- what is planned
 
 -- it is a point that can be made on any device
-pub whole_work : (n : ℕ) (limits : Limits) (words : List ℕ) (layer : Layer) (built : Built) (next : RootBody) (slot : Slot) (gate : Gate) → IsDiskSize n → length words ≡ n → IsWellBuilt n limits words layer NoEdit built → IsSpellable built → IsRootBody next
+pub whole_work : {edit : SnapshotEdit} (n : ℕ) (limits : Limits) (words : List ℕ) (layer : Layer) (built : Built) (next : RootBody) (slot : Slot) (gate : Gate) → IsDiskSize n → length words ≡ n → IsWellBuilt n limits words layer edit built → IsSpellable built → IsRootBody next
     → IsWhole (record { blocks = n; slot = slot; gate = gate; plan = plan_of built next })
 whole_work n limits words layer built next slot gate size count well spelled body = record {
   size = size;
@@ -93,29 +99,38 @@ gate_stays n epoch slot gate old new touched synced is =
 
 -- ---- a point of a mount that is ready
 
-module _ (h : Held) (world : World) (k : Kept) (rr : RunsReady h world k) where
+module _ (h : Held) (world : World) (k : Kept) (rr : RunsReady h world k) (asked : AskedPoint) where
+  -- what can be asked over the world can be made of the snapshots of the root that is kept
+  can_be_made : IsRootBody k.root → CanBeAsked asked world → CanBeMade asked k.root.limits k.root.snapshots
+  can_be_made body can =
+      let of = rr.ready.root in
+      subst (λ (r : RootBody). CanBeMade asked r.limits r.snapshots) (sym of) (asked_can asked world rr.runs.store rr.runs.root (subst IsRootBody of body) rr.runs.frozen can)
+
   -- nothing was written
-  pub nothing_written : {T : Type 0} (any : Held) (result : Result T PointFault) (f : PointFault) (at : LogPosition) (d : Disk) → result ≡ Err f → d ≡ h.disk → (result ≡ Err fault.Damaged → CanBeBuilt h.at.blocks (store_of (reads h.disk)) k → ⊥) → BeginsPoint (Err f) world any k at h.disk d
-  nothing_written any result fault.Memory at d is same readable = same
-  nothing_written any result fault.Age at d is same readable = same
-  nothing_written any result fault.Read at d is same readable = same
-  nothing_written any result fault.Damaged at d is same readable = readable is (can_be_built h world k rr)
-  nothing_written any result fault.Device at d is same readable =
+  pub nothing_written : {T : Type 0} (any : Held) (result : Result T PointFault) (f : PointFault) (at : LogPosition) (d : Disk) → result ≡ Err f → d ≡ h.disk → IsRootBody k.root → CanBeAsked asked world
+      → (result ≡ Err fault.Damaged → CanBeBuilt h.at.blocks (store_of (reads h.disk)) k → CanBeMade asked k.root.limits k.root.snapshots → ⊥) → BeginsPoint (Err f) asked world any k at h.disk d
+  nothing_written any result fault.Memory at d is same body can readable = same
+  nothing_written any result fault.Age at d is same body can readable = same
+  nothing_written any result fault.Read at d is same body can readable = same
+  nothing_written any result fault.Damaged at d is same body can readable = readable is (can_be_built h world k rr) (can_be_made body can)
+  nothing_written any result fault.Device at d is same body can readable =
       subst (λ (e : Disk). LeavesOnly h.disk e (λ c. IsImage c (settle world))) (sym same) (LeavesOnly-start h.disk (λ c. IsImage c (settle world)) (runs_show h world rr.runs))
 
   pub begins_leave : {T E : Type 0} (result : Result T E) (planned d : Disk) → planned ≡ h.disk → Begins h.at result planned d → LeavesOnly h.disk d (λ c. IsImage c (settle world))
   begins_leave result planned d same begins = begin_leaves h world rr.runs result d rr.ready.between (subst (λ (e : Disk). Begins h.at result e d) same begins)
 
-  module _ (built : Built) (next : RootBody) (gate : Gate) (well : IsWellBuilt h.at.blocks k.root.limits k.words k.changed NoEdit built)
-      (builds : Builds h.at.blocks k.root.limits (store_of (reads h.disk)) k.root.inode_file k.words k.changed built) (spelled : IsSpellable built) (follows : IsNextRoot Ordinary k.root built next) where
-    is_built : IsBuiltOf h.at.blocks (reads h.disk) Ordinary k built next
-    is_built = record { well = well; builds = builds; numbers = spelled.numbers; whole = whole_written built.blocks.items spelled.whole; body = follows.body; is = follows.is; age = follows.age }
+  module _ (built : Built) (next : RootBody) (gate : Gate) (plans : IsPlanned h.at.blocks Ordinary k asked built next)
+      (builds : Builds h.at.blocks k.root.limits (store_of (reads h.disk)) k.root.inode_file k.words k.changed built) (spelled : IsSpellable built) where
+    is_built : IsBuiltOf h.at.blocks (reads h.disk) Ordinary k asked plans.bit built next
+    is_built =
+        let follows = plans.follows in
+        record { well = plans.well; builds = builds; numbers = spelled.numbers; whole = whole_written built.blocks.items spelled.whole; body = follows.body; is = follows.is; snapshots = follows.snapshots; age = follows.age }
 
     abbrev work : Work
     work = work_for h.at.blocks k gate built next
 
-    live : IsOfLive h world rr.runs work (room_behind h.at.blocks built)
-    live = of_live h world k rr gate built next is_built
+    live : IsOfLive h world rr.runs asked work (room_behind h.at.blocks built)
+    live = of_live h world k rr gate asked plans.bit built next is_built
 
     module _ (planned begun : Disk) (same : planned ≡ h.disk) (begins : Begins {T = Unit {0}} {E = ReadFault} h.at (Ok (tt {0})) planned begun) (whole_begun : AreSectors (reads begun)) where
       begins_here : Begins {T = Unit {0}} {E = ReadFault} h.at (Ok (tt {0})) h.disk begun
@@ -127,45 +142,65 @@ module _ (h : Held) (world : World) (k : Kept) (rr : RunsReady h world k) where
       -- the mount runs on with it in progress
       pub goes_on : (going : GoingPoint) (since : Layer) (at : LogPosition) → work_of going.point ≡ work → IsWithin (work_of going.point) (stage_of going.point) → StandsAtStage (work_of going.point) (stage_of going.point) begun
           → going.free ≡ free_data built.map (start_of h.at.blocks Data) → since ≡ no_changes → at ≡ first_of h.at.blocks (h.at.epoch + 1)
-          → RunsOn (record h { room = begun_room h.room; at = at; base = record k { changed = since }; disk = begun }) world (progress_over (going_of going) world.live)
+          → RunsOn (record h { room = begun_room h.room; at = at; base = record k { changed = since }; disk = begun }) world (progress_over (going_of going) (trees_behind asked (trees_of world)))
       goes_on going since at is within stands free none turned =
-          let of = subst (λ (f : ℕ). IsOfLive h world rr.runs work (fresh f)) (sym free) live in
-          let here = subst (λ (w : Work). IsOfLive h world rr.runs w (fresh going.free)) (sym is) of in
-          let on = point_begins h world k rr (work_of going.point) going.free (stage_of going.point) begun here whole_begun has within stands in
+          let of = subst (λ (f : ℕ). IsOfLive h world rr.runs asked work (fresh f)) (sym free) live in
+          let here = subst (λ (w : Work). IsOfLive h world rr.runs asked w (fresh going.free)) (sym is) of in
+          let on = point_begins h world k rr asked (work_of going.point) going.free (stage_of going.point) begun here whole_begun has within stands in
           let epoch : first_of h.at.blocks (rr.runs.root.epoch + 1) ≡ at = ap (λ (e : ℕ). first_of h.at.blocks (e + 1)) (sym rr.ready.between.epoch) ∙ sym turned in
-          subst (λ (x : LogPosition). RunsOn (record h { room = begun_room h.room; at = x; base = record k { changed = since }; disk = begun }) world (progress_over (going_of going) world.live)) epoch
-          (subst (λ (l : Layer). RunsOn (record h { room = begun_room h.room; at = first_of h.at.blocks (rr.runs.root.epoch + 1); base = record k { changed = l }; disk = begun }) world (progress_over (going_of going) world.live)) (sym none) on)
+          subst (λ (x : LogPosition). RunsOn (record h { room = begun_room h.room; at = x; base = record k { changed = since }; disk = begun }) world (progress_over (going_of going) (trees_behind asked (trees_of world)))) epoch
+          (subst (λ (l : Layer). RunsOn (record h { room = begun_room h.room; at = first_of h.at.blocks (rr.runs.root.epoch + 1); base = record k { changed = l }; disk = begun }) world (progress_over (going_of going) (trees_behind asked (trees_of world)))) (sym none) on)
 
       pub leaves : LeavesOnly h.disk begun (λ c. IsImage c (settle world))
       leaves = begins_leave {T = Unit {0}} {E = ReadFault} (Ok (tt {0})) planned begun same begins
 
+-- an image of the world from before is one of either
+at_first : (world after : World) (old new : Disk) → LeavesOnly old new (λ c. IsImage c (settle world)) → LeavesOnly old new (EitherImage world after)
+at_first world after old new leaves = LeavesOnly-weaker old new (λ c. IsImage c (settle world)) (EitherImage world after) (λ c here. inl here) leaves
+
+-- the world with the frozen trees of a point's root is the one that was asked for
+abbrev pub world_after : AskedPoint → World → World
+world_after asked world = with_frozen world (trees_behind asked (trees_of world)).frozen
+
+pub world_asked : (asked : AskedPoint) (world : World) → world_after asked world ≡ pointed asked world
+world_asked Unasked world = refl
+world_asked Plain world = refl
+world_asked (Freezes name) world = refl
+world_asked (Thaws name) world = refl
+
+-- the beginning of a whole point and its steps, one after the other
+pub joined : (asked : AskedPoint) (world : World) (old begun new : Disk) → LeavesOnly old begun (λ c. IsImage c (settle world)) → LeavesOnly begun new (EitherImage world (world_after asked world)) → LeavesOnly old new (EitherImage world (pointed asked world))
+joined asked world old begun new first rest =
+    LeavesOnly-join old begun new (EitherImage world (pointed asked world)) (at_first world (pointed asked world) old begun first)
+    (subst (λ (w : World). LeavesOnly begun new (EitherImage world w)) (world_asked asked world) rest)
+
 -- what was refused before it began is refused of a whole point, and what failed has failed
-pub refused : (f : PointFault) (world : World) (h : Held) (at whole_at : LogPosition) (room : RoomCounts) (old new : Disk) (before k : Kept) → BeginsPoint (Err f) world h before at old new → MakesPoint (Err f) world old (with_parts h whole_at room new) k
-refused fault.Memory world h at whole_at room old new before k same = same
-refused fault.Age world h at whole_at room old new before k same = same
-refused fault.Read world h at whole_at room old new before k same = same
-refused fault.Damaged world h at whole_at room old new before k never = never
-refused fault.Device world h at whole_at room old new before k leaves = leaves
+pub refused : (f : PointFault) (asked : AskedPoint) (world : World) (h : Held) (at whole_at : LogPosition) (room : RoomCounts) (old new : Disk) (before k : Kept) → BeginsPoint (Err f) asked world h before at old new → MakesPoint (Err f) asked world old (with_parts h whole_at room new) k
+refused fault.Memory asked world h at whole_at room old new before k same = same
+refused fault.Age asked world h at whole_at room old new before k same = same
+refused fault.Read asked world h at whole_at room old new before k same = same
+refused fault.Damaged asked world h at whole_at room old new before k never = never
+refused fault.Device asked world h at whole_at room old new before k leaves = at_first world (pointed asked world) old new leaves
 
 pub written_count : (xs : List NewBlock) → length (map written_by xs) ≡ length xs
 written_count [] = refl
 written_count (x ∷ xs) = omega (arith, written_count xs)
 
 -- what is planned is what goes on
-pub is_going : (n m : ℕ) (base : PointBase) (changed : Layer) (built : Built) (next : RootBody) (slot : Slot) (gate : Gate) (going : GoingPoint) → m ≡ n → IsDiskSize m → length base.map ≡ m → IsWellBuilt m base.root.limits base.map changed NoEdit built → IsSpellable built
-    → IsNextRoot Ordinary base.root built next → slot ≡ other_slot base.slot → work_of going.point ≡ record { blocks = m; slot = slot; gate = gate; plan = plan_of built next } → stage_of going.point ≡ first_stage (length built.blocks.items)
+pub is_going : (n m : ℕ) (base : PointBase) (changed : Layer) (asked : AskedPoint) (built : Built) (next : RootBody) (slot : Slot) (gate : Gate) (going : GoingPoint) → m ≡ n → IsDiskSize m → length base.map ≡ m → IsPlanned m Ordinary (kept_in base changed) asked built next → IsSpellable built
+    → slot ≡ other_slot base.slot → work_of going.point ≡ record { blocks = m; slot = slot; gate = gate; plan = plan_of built next } → stage_of going.point ≡ first_stage (length built.blocks.items)
     → IsWithin (work_of going.point) (stage_of going.point) → going.free ≡ free_data built.map (start_of m Data) → IsGoing n base changed going
-is_going n m base changed built next slot gate going in_n size count well spelled follows other is first within free =
+is_going n m base changed asked built next slot gate going in_n size count plans spelled other is first within free =
     let made : Work = record { blocks = m; slot = slot; gate = gate; plan = plan_of built next } in
     record {
-      whole = subst IsWhole (sym is) (whole_work m base.root.limits base.map changed built next slot gate size count well spelled follows.body);
+      whole = subst IsWhole (sym is) (whole_work m base.root.limits base.map changed built next slot gate size count plans.well spelled plans.follows.body);
       within = within;
       first = first ∙ ap first_stage (sym (ap (λ (w : Work). length w.plan.blocks) is ∙ written_count built.blocks.items));
       blocks = ap (λ (w : Work). w.blocks) is ∙ in_n;
       slot = sym (ap (λ (w : Work). w.slot) is ∙ other);
-      epoch = ap (λ (w : Work). w.plan.next.epoch) is ∙ ap (λ (r : RootBody). r.epoch) follows.is;
-      age = subst (λ (w : Work). HasAgeLeft w.plan.next) (sym is) follows.age;
-      few = omega (arith, ap (λ (w : Work). length w.plan.blocks) is, written_count built.blocks.items, well.few);
+      epoch = ap (λ (w : Work). w.plan.next.epoch) is ∙ ap (λ (r : RootBody). r.epoch) plans.follows.is;
+      age = subst (λ (w : Work). HasAgeLeft w.plan.next) (sym is) plans.follows.age;
+      few = omega (arith, ap (λ (w : Work). length w.plan.blocks) is, written_count built.blocks.items, plans.well.few);
       free = free ∙ ap (free_data built.map) (ap (λ (b : ℕ). start_of b Data) in_n) ∙ ap (λ (w : Work). free_data w.plan.words (start_of n Data)) (sym is);
     }
 

@@ -18,6 +18,7 @@ use Rattle.sn_layout.specs.declared.root.RootBody.{RootBody}
 use Rattle.sn_layout.specs.Geometry.{gate_sector, half_of_epoch, map_blocks, other_slot}
 use Rattle.sn_limits.specs.declared.limits.Limits.{Limits}
 use Rattle.sn_log.specs.Positions.{LogPosition}
+use Rattle.sn_model.specs.declared.outcome.AskedPoint.TheVariants.{Plain}
 use Rattle.sn_model.specs.World.{World}
 use Rattle.sn_ondisk.specs.Blocks.{InBlock}
 use Rattle.sn_ondisk.specs.LogHalf.{InHalf, base_of}
@@ -42,14 +43,14 @@ use Rattle.sn_cp.proofs.AroundLemmas.{stays_apart}
 use Rattle.sn_cp.proofs.FrameLemmas.{body_low, gate_low, map_start}
 use Rattle.sn_cp.proofs.StepLemmas.{lies_at}
 use Rattle.sn_cp_build.specs.Building.{Builds, IsWellBuilt}
-use Rattle.sn_cp_build.specs.declared.edits.SnapshotEdit.TheVariants.{None as NoEdit}
+use Rattle.sn_cp_build.specs.declared.edits.SnapshotEdit.{SnapshotEdit}
 use Rattle.sn_cp_build.specs.declared.building.Built.{Built}
 use Rattle.sn_cp_held.specs.Builds.{CanBeBuilt, IsBuiltOf, plan_of, work_for}
 use Rattle.sn_cp_held.specs.Recovering.{HasReplayed, IsRecovered}
 use Rattle.sn_cp_held.specs.Wholes.{kept_behind}
 use Rattle.sn_cp_held.proofs.LiveLemmas.{kept_can_be_built}
 use Rattle.sn_cp_held.proofs.RecoverLemmas.{recovered, recovery_leaves, replayed_stands}
-use Rattle.sn_cp_whole.specs.Planning.{HasCauseToStop, IsNextRoot, IsSpellable}
+use Rattle.sn_cp_whole.specs.Planning.{HasCauseToStop, IsPlanned, IsSpellable}
 use Rattle.sn_cp_whole.specs.Recovering.{CostsSteps, IsApart, IsImageOver, MakesRecovery, syncs_of_steps, writes_of_steps}
 use Rattle.sn_cp_whole.specs.declared.fault.PointFault.{PointFault}
 use Rattle.sn_cp_whole.specs.declared.fault.PointFault.TheVariants as fault
@@ -68,10 +69,12 @@ module _ (old : Disk) (world : World) (im : IsImage (reads old) world) (k : Kept
       subst (λ (e : Disk). LeavesOnly old e (λ c. IsImage c world)) (sym same)
       (LeavesOnly-start old (λ c. IsImage c world) (Always-synced old (λ c. IsImage c world) r.synced im))
 
-  module _ (built : Built) (next : RootBody) (gate : Gate) (well : IsWellBuilt im.blocks k.root.limits k.words k.changed NoEdit built)
-      (builds : Builds im.blocks k.root.limits (store_of (reads old)) k.root.inode_file k.words k.changed built) (spelled : IsSpellable built) (follows : IsNextRoot Recovery k.root built next) where
-    is_built : IsBuiltOf im.blocks (reads old) Recovery k built next
-    is_built = record { well = well; builds = builds; numbers = spelled.numbers; whole = whole_written built.blocks.items spelled.whole; body = follows.body; is = follows.is; age = follows.age }
+  module _ (built : Built) (next : RootBody) (gate : Gate) (plans : IsPlanned im.blocks Recovery k Plain built next)
+      (builds : Builds im.blocks k.root.limits (store_of (reads old)) k.root.inode_file k.words k.changed built) (spelled : IsSpellable built) where
+    is_built : IsBuiltOf im.blocks (reads old) Recovery k Plain 0 built next
+    is_built =
+        let follows = plans.follows in
+        record { well = plans.well; builds = builds; numbers = spelled.numbers; whole = whole_written built.blocks.items spelled.whole; body = follows.body; is = follows.is; snapshots = follows.snapshots; age = follows.age }
 
     abbrev work : Work
     work = work_for im.blocks k gate built next
@@ -184,7 +187,7 @@ numbers_count [] = refl
 numbers_count (x ∷ xs) = omega (arith, numbers_count xs)
 
 -- there are no more new blocks than blocks
-pub few_blocks : (n : ℕ) (limits : Limits) (words : List ℕ) (layer : Layer) (built : Built) → length words ≡ n → IsWellBuilt n limits words layer NoEdit built → length built.blocks.items ≤ n
+pub few_blocks : {edit : SnapshotEdit} (n : ℕ) (limits : Limits) (words : List ℕ) (layer : Layer) (built : Built) → length words ≡ n → IsWellBuilt n limits words layer edit built → length built.blocks.items ≤ n
 few_blocks n limits words layer built count well = told (length built.blocks.items) refl
   where
     told : (m : ℕ) → length built.blocks.items ≡ m → length built.blocks.items ≤ n

@@ -12,7 +12,7 @@ use Rattle.sn_layout.specs.declared.root.RootBody.{RootBody}
 use Rattle.sn_layout.specs.Geometry.{other_slot, start_of}
 use Rattle.sn_log.specs.Positions.{LogPosition}
 use Rattle.sn_model.specs.Settling.{settle}
-use Rattle.sn_model.specs.Outcomes.{AskedPoint}
+use Rattle.sn_model.specs.declared.outcome.AskedPoint.{AskedPoint}
 use Rattle.sn_model.specs.World.{Trees, World, trees_of}
 use Rattle.sn_ondisk.specs.Trees.{store_of}
 use Rattle.sn_opening.specs.Worlds.{FrozenTrees}

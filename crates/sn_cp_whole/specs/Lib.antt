@@ -1,3 +1,4 @@
+pub mod Asking
 pub mod Planning
 pub mod Making
 pub mod Going

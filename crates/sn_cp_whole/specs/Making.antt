@@ -13,7 +13,8 @@ use Rattle.sn_layout.specs.declared.geometry.Area.TheVariants.{Data}
 use Rattle.sn_layout.specs.Geometry.{map_blocks, start_of}
 use Rattle.sn_log.specs.Positions.{LogPosition}
 use Rattle.sn_limits.specs.Versions.{version_1}
-use Rattle.sn_model.specs.Outcomes.{AskedPoint, Unasked, Plain, Freezes, Thaws}
+use Rattle.sn_model.specs.declared.outcome.AskedPoint.{AskedPoint}
+use Rattle.sn_model.specs.declared.outcome.AskedPoint.TheVariants.{Unasked, Plain, Freezes, Thaws}
 use Rattle.sn_model.specs.Steps.{pointed}
 use Rattle.sn_model.specs.World.{World}
 use Rattle.sn_overlay.specs.declared.overlay.Overlay.{Overlay}

@@ -5,14 +5,15 @@ use Rattle.sn_layout.specs.Bytes.{AreNumbers}
 use Rattle.sn_layout.specs.RootBody.{IsRootBody}
 use Rattle.sn_layout.specs.declared.root.RootBody.{RootBody}
 use Rattle.sn_log.specs.Positions.{LogPosition}
-use Rattle.sn_model.specs.Outcomes.{AskedPoint}
+use Rattle.sn_model.specs.declared.outcome.AskedPoint.{AskedPoint}
 use Rattle.sn_overlay.specs.Layers.{Layer}
 use Rattle.sn_root.specs.Following.{epochs_of, following}
 use Rattle.sn_root.specs.declared.following.PointKind.{PointKind}
 use Rattle.sn_held.specs.Held.{Kept}
+use Rattle.sn_cp_build.specs.Building.{IsWellBuilt}
 use Rattle.sn_cp_build.specs.declared.building.Built.{Built}
 use Rattle.sn_cp_held.specs.Builds.{LeavesAge}
-use Rattle.sn_cp_held.specs.Snapshots.{FollowsBy}
+use Rattle.sn_cp_held.specs.Snapshots.{FollowsBy, edit_for}
 use Rattle.sn_block.specs.Counts.{FailsRead}
 use Rattle.sn_block.specs.declared.fault.ReadFault.{ReadFault}
 use Rattle.sn_block.specs.declared.fault.ReadFault.TheVariants as read
@@ -44,6 +45,12 @@ pub record IsNextRoot (kind : PointKind) (root : RootBody) (asked : AskedPoint) 
   pub snapshots : FollowsBy asked bit root next
   pub body : IsRootBody next
   pub age : LeavesAge kind next
+
+-- What is planned for a point of this kind over what is kept, on a disk of n blocks: what was built of what changed, and the root that follows with it, with the bit of the snapshot that is made or goes.
+pub record IsPlanned (n : ℕ) (kind : PointKind) (k : Kept) (asked : AskedPoint) (built : Built) (next : RootBody) : Type 0 where
+  pub bit : ℕ
+  pub follows : IsNextRoot kind k.root asked bit built next
+  pub well : IsWellBuilt n k.root.limits k.words k.changed (edit_for asked bit) built
 
 -- a block of 4,096 bytes
 abbrev pub IsWholeBlock : NewBlock → Type 0

@@ -13,12 +13,12 @@ ghost use Rattle.sn_device.specs.Crash.{Touches};
 ghost use Rattle.sn_layout.specs.Geometry.{other_slot};
 ghost use Rattle.sn_held.specs.Held.{Held, RunsReady};
 ghost use Rattle.sn_log.specs.Positions.{first_of};
-ghost use Rattle.sn_model.specs.Tree.{Tree};
-ghost use Rattle.sn_model.specs.World.{World};
+ghost use Rattle.sn_model.specs.World.{Trees, World};
 ghost use Rattle.sn_ondisk.specs.LogHalf.{InHalf, base_of};
 ghost use Rattle.sn_overlay.specs.Overlays.{HasRoom, layer_of, no_changes};
 ghost use Rattle.sn_root.specs.declared.following.PointKind.TheVariants.{Ordinary as OrdinaryPoint};
 ghost use Rattle.sn_cp_whole.specs.Going.{BeginsPoint, CostsBeginning, FinishesPoint, IsGoing, KeepsTree, StepsOn, base_behind, going_of, with_disk, with_log};
+ghost use Rattle.sn_cp_whole.specs.Making.{CanBeAsked};
 ghost use Rattle.sn_cp_whole.specs.Planning.{HasAgeFor, IsBaseAt, kept_in};
 ghost use Rattle.sn_cp_whole.specs.Recovering.{IsApart};
 ghost use Rattle.sn_cp_whole.specs.declared.fault.PointFault.TheVariants.{Age as AgeFault};
@@ -30,11 +30,12 @@ use sn_cp::{Point, Stage, begin};
 use sn_device::{Device, Fault};
 use sn_layout::Area;
 use sn_log::Log;
+use sn_model::AskedPoint;
 use sn_overlay::Overlay;
 use sn_root::PointKind;
 use std::alloc::Global;
 
-/// A consistency point that a mount has begun: the live tree is frozen in it as it was then.
+/// A consistency point that a mount has begun: it is built of the live tree as it was then.
 #[derive(Drop)]
 pub struct GoingPoint {
     /// What it writes, and how far it is.
@@ -51,8 +52,9 @@ pub struct Begun {
     pub since: Overlay,
 }
 
-/// Begins a point of what changed since the root that counts. From then on the log goes on under the next epoch, behind
-/// the root that is being made, and what changes goes into an overlay of its own, with room for so many drops of files.
+/// Begins a point of what changed since the root that counts, with the snapshots that are asked for. From then on the log
+/// goes on under the next epoch, behind the root that is being made, and what changes goes into an overlay of its own, with
+/// room for so many drops of files.
 pub fn begin_point<D: Device>(
     alloc: Global,
     blocks: &mut Blocks<D>,
@@ -60,12 +62,14 @@ pub fn begin_point<D: Device>(
     changed: &Overlay,
     log: &mut Log,
     drops: u16,
+    asked: &AskedPoint,
 ) -> Result<Begun, PointFault>
     requires disk { 8 * log.old.blocks ≤ (D.status (device_of blocks.old)).sectors }
     requires base { IsBaseAt log.old base.now }
     ensures begins { IsTrue D.tells_bytes → (h : Held) (world : World)
         → RunsReady (with_log h log.old (D.disk (device_of blocks.old))) world (kept_in base.now (layer_of changed.now))
-        → BeginsPoint result world h (kept_in base.now (layer_of changed.now)) log.new (D.disk (device_of blocks.old)) (D.disk (device_of blocks.new)) }
+        → CanBeAsked asked.now world
+        → BeginsPoint result asked.now world h (kept_in base.now (layer_of changed.now)) log.new (D.disk (device_of blocks.old)) (D.disk (device_of blocks.new)) }
     ensures going { IfOk result (λ begins. IsGoing log.old.blocks base.now (layer_of changed.now) begins.going) }
     ensures empty { IfOk result (λ begins. layer_of begins.since ≡ no_changes) }
     ensures stands { IsTrue D.tells_bytes → IfOk result (λ begins. StandsAtStage (work_of begins.going.point) (stage_of begins.going.point) (D.disk (device_of blocks.new))) }
@@ -87,6 +91,7 @@ pub fn begin_point<D: Device>(
         base,
         changed,
         PointKind::Ordinary,
+        asked,
     ) {
         Ok(planned) => planned,
         Err(fault) => return Err(fault),
@@ -123,11 +128,11 @@ impl GoingPoint {
         requires within { IsWithin (work_of self.old.point) (stage_of self.old.point) }
         requires more { stage_of self.old.point ≢ Bodied }
         requires stands { IsTrue D.tells_bytes → StandsAtStage (work_of self.old.point) (stage_of self.old.point) (D.disk (device_of blocks.old)) }
-        ensures goes_on { IsTrue D.tells_bytes → (h : Held) (world : World) (frozen : Tree)
-            → RunsOn (with_disk h (D.disk (device_of blocks.old))) world (progress_over (going_of self.old) frozen)
-            → StepsOn result world h self.new frozen (D.disk (device_of blocks.old)) (D.disk (device_of blocks.new)) }
-        ensures tree { IsTrue D.tells_bytes → (h : Held) (world : World) (frozen : Tree)
-            → RunsOn (with_disk h (D.disk (device_of blocks.old))) world (progress_over (going_of self.old) frozen)
+        ensures goes_on { IsTrue D.tells_bytes → (h : Held) (world : World) (trees : Trees)
+            → RunsOn (with_disk h (D.disk (device_of blocks.old))) world (progress_over (going_of self.old) trees)
+            → StepsOn result world h self.new trees (D.disk (device_of blocks.old)) (D.disk (device_of blocks.new)) }
+        ensures tree { IsTrue D.tells_bytes → (h : Held) (world : World) (trees : Trees)
+            → RunsOn (with_disk h (D.disk (device_of blocks.old))) world (progress_over (going_of self.old) trees)
             → KeepsTree h.base.root (D.disk (device_of blocks.old)) (D.disk (device_of blocks.new)) }
         ensures touched { IsTrue D.tells_bytes → Touches (InPoint (work_of self.old.point)) (D.disk (device_of blocks.old)) (D.disk (device_of blocks.new)) }
         ensures counts { CountsCalls (writes_of (work_of self.old.point) (stage_of self.old.point)) (syncs_of (work_of self.old.point) (stage_of self.old.point)) result
@@ -153,9 +158,9 @@ impl GoingPoint {
         requires whole { IsWhole (work_of self.point) }
         requires within { IsWithin (work_of self.point) (stage_of self.point) }
         requires stands { IsTrue D.tells_bytes → StandsAtStage (work_of self.point) (stage_of self.point) (D.disk (device_of blocks.old)) }
-        ensures finishes { IsTrue D.tells_bytes → (h : Held) (world : World) (frozen : Tree)
-            → RunsOn (with_disk h (D.disk (device_of blocks.old))) world (progress_over (going_of self) frozen)
-            → FinishesPoint result world h self.free (kept_in base.new h.base.changed) (D.disk (device_of blocks.old)) (D.disk (device_of blocks.new)) }
+        ensures finishes { IsTrue D.tells_bytes → (h : Held) (world : World) (trees : Trees)
+            → RunsOn (with_disk h (D.disk (device_of blocks.old))) world (progress_over (going_of self) trees)
+            → FinishesPoint result world trees.frozen h self.free (kept_in base.new h.base.changed) (D.disk (device_of blocks.old)) (D.disk (device_of blocks.new)) }
         ensures touched { IsTrue D.tells_bytes → Touches (InPoint (work_of self.point)) (D.disk (device_of blocks.old)) (D.disk (device_of blocks.new)) }
         ensures counts { CountsCalls (writes_left (work_of self.point) (stage_of self.point)) (syncs_left (work_of self.point) (stage_of self.point)) result
             (D.status (device_of blocks.old)) (D.status (device_of blocks.new)) }

@@ -9,7 +9,7 @@ ghost use Rattle.sn_root.specs.declared.following.PointKind.TheVariants.{Ordinar
 ghost use Rattle.sn_model.specs.World.{World};
 ghost use Rattle.sn_overlay.specs.Needs.{need};
 ghost use Rattle.sn_overlay.specs.Overlays.{HasRoom, layer_of, no_changes};
-ghost use Rattle.sn_cp_whole.specs.Making.{CostsPoint, MakesPoint, room_over, with_parts};
+ghost use Rattle.sn_cp_whole.specs.Making.{CanBeAsked, CostsPoint, MakesPoint, room_over, with_parts};
 ghost use Rattle.sn_cp_whole.specs.Planning.{HasAgeFor, IsBaseAt, kept_in};
 ghost use Rattle.sn_cp_whole.specs.Recovering.{IsApart};
 ghost use Rattle.sn_cp_whole.specs.declared.fault.PointFault.TheVariants.{Age as AgeFault, Device as DeviceFault};
@@ -18,13 +18,14 @@ use crate::{Begun, PointBase, PointFault, begin_point};
 use sn_block::Blocks;
 use sn_device::Device;
 use sn_log::Log;
+use sn_model::AskedPoint;
 use sn_overlay::Overlay;
 use sn_room::Room;
 use std::alloc::Global;
 
-/// Makes a whole consistency point of what changed since the root that counts: then the next root counts, the log is
-/// empty, and nothing is charged. Answers the empty overlay for what changes from then on, with room for so many drops
-/// of files.
+/// Makes a whole consistency point of what changed since the root that counts, with the snapshots that are asked for: then
+/// the next root counts, the log is empty, and nothing is charged. Answers the empty overlay for what changes from then on,
+/// with room for so many drops of files.
 pub fn make_point<D: Device>(
     alloc: Global,
     blocks: &mut Blocks<D>,
@@ -33,12 +34,14 @@ pub fn make_point<D: Device>(
     log: &mut Log,
     room: &mut Room,
     drops: u16,
+    asked: &AskedPoint,
 ) -> Result<Overlay, PointFault>
     requires disk { 8 * log.old.blocks ≤ (D.status (device_of blocks.old)).sectors }
     requires base { IsBaseAt log.old base.old }
     ensures point { IsTrue D.tells_bytes → (h : Held) (world : World)
         → RunsReady (with_parts h log.old room.old (D.disk (device_of blocks.old))) world (kept_in base.old (layer_of changed.now))
-        → MakesPoint result world (D.disk (device_of blocks.old)) (with_parts h log.new room.new (D.disk (device_of blocks.new))) (kept_in base.new no_changes) }
+        → CanBeAsked asked.now world
+        → MakesPoint result asked.now world (D.disk (device_of blocks.old)) (with_parts h log.new room.new (D.disk (device_of blocks.new))) (kept_in base.new no_changes) }
     ensures touched { IsTrue D.tells_bytes → Touches (IsApart log.old.blocks base.old.slot) (D.disk (device_of blocks.old)) (D.disk (device_of blocks.new)) }
     ensures costs { CostsPoint result log.old.blocks (need base.old.root.limits (layer_of changed.now))
         (D.status (device_of blocks.old)) (D.status (device_of blocks.new)) }
@@ -52,7 +55,9 @@ pub fn make_point<D: Device>(
     ensures keeps { OnErr result ((base.new ≡ base.old) × (room.new ≡ room.old)) }
     ensures stays { IfErr result (λ fault. fault ≢ DeviceFault → log.new ≡ log.old) }
 {
-    let Begun { going, since } = match begin_point(alloc, blocks, base, changed, log, drops) {
+    let Begun { going, since } = match begin_point(
+        alloc, blocks, base, changed, log, drops, asked,
+    ) {
         Ok(begun) => begun,
         Err(fault) => return Err(fault),
     };

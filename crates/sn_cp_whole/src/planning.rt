@@ -9,17 +9,19 @@ ghost use Rattle.sn_ondisk.specs.Trees.{store_of};
 ghost use Rattle.sn_overlay.specs.Overlays.{HasRoom, layer_of, no_changes};
 ghost use Rattle.sn_root.specs.Following.{following};
 ghost use Rattle.sn_root.specs.Slots.{gate_in};
-ghost use Rattle.sn_cp_build.specs.Building.{Builds, IsWellBuilt};
-ghost use Rattle.sn_cp_build.specs.declared.edits.SnapshotEdit.TheVariants.{None as NoEdit};
+ghost use Rattle.sn_cp_build.specs.Building.{Builds};
 ghost use Rattle.sn_cp_held.specs.Builds.{CanBeBuilt, LeavesAge};
+ghost use Rattle.sn_cp_whole.specs.Asking.{CanBeMade};
 ghost use Rattle.sn_cp_whole.specs.declared.fault.PointFault.TheVariants.{Age as AgePoint, Damaged as DamagedPoint};
-ghost use Rattle.sn_cp_whole.specs.Planning.{HasAgeFor, HasCauseToStop, IsNextRoot, IsSpellable, IsWholeBlock, kept_in, point_fault_of, read_fault_of};
+ghost use Rattle.sn_cp_whole.specs.Planning.{HasAgeFor, HasCauseToStop, IsPlanned, IsSpellable, IsWholeBlock, kept_in, point_fault_of, read_fault_of};
 
+use crate::asking::{bit_in, edit_for, with_snapshots};
 use crate::{PointBase, PointFault};
 use sn_block::{Blocks, ReadFault};
-use sn_cp_build::{Built, SnapshotEdit, build};
+use sn_cp_build::{Built, build};
 use sn_device::Device;
 use sn_layout::{Area, Block, Gate, Geometry, LARGEST_AGE, LogHalf, RootBody, Slot};
+use sn_model::AskedPoint;
 use sn_overlay::Overlay;
 use sn_root::{PointKind, next_root, read_gate};
 use sn_tree::{NewBlock, PlanFault};
@@ -114,7 +116,7 @@ fn with_inode_file(root: RootBody, built: &Built) -> RootBody
     RootBody { inode_file, ..root }
 }
 
-/// Builds the live tree, and the root that follows with it.
+/// Builds the live tree, and the root that follows with it and with the snapshots that are asked for.
 fn plan_tree<D: Device>(
     alloc: Global,
     blocks: &mut Blocks<D>,
@@ -122,17 +124,18 @@ fn plan_tree<D: Device>(
     base: &PointBase,
     changed: &Overlay,
     kind: PointKind,
+    asked: &AskedPoint,
 ) -> Result<(RootBody, Built), PointFault>
     requires disk { 8 * geometry ≤ (D.status (device_of blocks.old)).sectors }
     requires body { IsRootBody base.now.root }
     requires words { length base.now.map ≡ geometry }
-    ensures next { IfOk result (λ made. IsNextRoot kind base.now.root made.1 made.0) }
+    ensures planned { IfOk result (λ made. IsPlanned geometry kind (kept_in base.now (layer_of changed.now)) asked.now made.1 made.0) }
     ensures spelled { IfOk result (λ made. IsSpellable made.1) }
-    ensures well { IfOk result (λ made. IsWellBuilt geometry base.now.root.limits base.now.map (layer_of changed.now) NoEdit made.1) }
     ensures builds { IsTrue D.tells_bytes → IfOk result (λ made. Builds geometry base.now.root.limits
         (store_of (reads (D.disk (device_of blocks.old)))) base.now.root.inode_file base.now.map (layer_of changed.now) made.1) }
     ensures aged { result ≡ Err AgePoint → HasAgeFor kind base.now.root → ⊥ }
-    ensures damaged { IsTrue D.tells_bytes → result ≡ Err DamagedPoint → CanBeBuilt geometry (store_of (reads (D.disk (device_of blocks.old)))) (kept_in base.now (layer_of changed.now)) → ⊥ }
+    ensures damaged { IsTrue D.tells_bytes → result ≡ Err DamagedPoint → CanBeBuilt geometry (store_of (reads (D.disk (device_of blocks.old)))) (kept_in base.now (layer_of changed.now))
+        → CanBeMade asked.now base.now.root.limits base.now.root.snapshots → ⊥ }
     ensures same { IsTrue D.tells_bytes → D.disk (device_of blocks.new) ≡ D.disk (device_of blocks.old) }
     ensures idle { OnOk result (D.status (device_of blocks.new) ≡ D.status (device_of blocks.old)) }
     ensures cause { IfErr result (λ fault. HasCauseToStop fault (D.status (device_of blocks.old)) (D.status (device_of blocks.new))) }
@@ -140,22 +143,19 @@ fn plan_tree<D: Device>(
     let Some(next) = following_root(&base.root, kind) else {
         return Err(PointFault::Age);
     };
+    let Some(edit) = edit_for(&base.root, asked) else {
+        return Err(PointFault::Damaged);
+    };
+    let bit = bit_in(&edit);
     let Ok(copy) = changed.copy(alloc) else {
         return Err(PointFault::Memory);
     };
-    match build(
-        alloc,
-        blocks,
-        geometry,
-        &base.root,
-        &base.map,
-        copy,
-        SnapshotEdit::None,
-    ) {
+    match build(alloc, blocks, geometry, &base.root, &base.map, copy, edit) {
         Ok(built) => {
             words_fit(built.map.words());
             blocks_fit(built.blocks.as_slice());
-            Ok((with_inode_file(next, &built), built))
+            let next = with_inode_file(next, &built);
+            Ok((with_snapshots(next, asked, bit), built))
         }
         Err(fault) => Err(plan_fault(fault)),
     }
@@ -200,7 +200,7 @@ fn read_ahead<D: Device>(
     }
 }
 
-/// Plans a point of this kind. It only reads.
+/// Plans a point of this kind, with the snapshots that are asked for. It only reads.
 pub(crate) fn plan<D: Device>(
     alloc: Global,
     blocks: &mut Blocks<D>,
@@ -208,23 +208,24 @@ pub(crate) fn plan<D: Device>(
     base: &PointBase,
     changed: &Overlay,
     kind: PointKind,
+    asked: &AskedPoint,
 ) -> Result<Planned, PointFault>
     requires disk { 8 * geometry ≤ (D.status (device_of blocks.old)).sectors }
     requires body { IsRootBody base.now.root }
     requires words { length base.now.map ≡ geometry }
-    ensures next { IfOk result (λ p. IsNextRoot kind base.now.root p.built p.next) }
+    ensures planned { IfOk result (λ p. IsPlanned geometry kind (kept_in base.now (layer_of changed.now)) asked.now p.built p.next) }
     ensures spelled { IfOk result (λ p. IsSpellable p.built) }
-    ensures well { IfOk result (λ p. IsWellBuilt geometry base.now.root.limits base.now.map (layer_of changed.now) NoEdit p.built) }
     ensures builds { IsTrue D.tells_bytes → IfOk result (λ p. Builds geometry base.now.root.limits
         (store_of (reads (D.disk (device_of blocks.old)))) base.now.root.inode_file base.now.map (layer_of changed.now) p.built) }
     ensures gate { IsTrue D.tells_bytes → IfOk result (λ p. gate_in (reads (D.disk (device_of blocks.old))) (other_slot base.now.slot) ≡ p.gate) }
     ensures aged { result ≡ Err AgePoint → HasAgeFor kind base.now.root → ⊥ }
-    ensures damaged { IsTrue D.tells_bytes → result ≡ Err DamagedPoint → CanBeBuilt geometry (store_of (reads (D.disk (device_of blocks.old)))) (kept_in base.now (layer_of changed.now)) → ⊥ }
+    ensures damaged { IsTrue D.tells_bytes → result ≡ Err DamagedPoint → CanBeBuilt geometry (store_of (reads (D.disk (device_of blocks.old)))) (kept_in base.now (layer_of changed.now))
+        → CanBeMade asked.now base.now.root.limits base.now.root.snapshots → ⊥ }
     ensures same { IsTrue D.tells_bytes → D.disk (device_of blocks.new) ≡ D.disk (device_of blocks.old) }
     ensures idle { OnOk result (D.status (device_of blocks.new) ≡ D.status (device_of blocks.old)) }
     ensures cause { IfErr result (λ fault. HasCauseToStop fault (D.status (device_of blocks.old)) (D.status (device_of blocks.new))) }
 {
-    let (next, built) = match plan_tree(alloc, blocks, geometry, base, changed, kind) {
+    let (next, built) = match plan_tree(alloc, blocks, geometry, base, changed, kind, asked) {
         Ok(made) => made,
         Err(fault) => return Err(fault),
     };

@@ -22,6 +22,7 @@ use sn_block::Blocks;
 use sn_cp::Point;
 use sn_device::Device;
 use sn_layout::Geometry;
+use sn_model::AskedPoint;
 use sn_overlay::Overlay;
 use sn_root::PointKind;
 use std::alloc::Global;
@@ -62,6 +63,7 @@ pub fn make_recovery<D: Device>(
         base,
         changed,
         PointKind::Recovery,
+        &AskedPoint::Plain,
     ) {
         Ok(planned) => planned,
         Err(fault) => return Err(fault),

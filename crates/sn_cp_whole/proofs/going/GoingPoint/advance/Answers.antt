@@ -6,15 +6,15 @@ use Rattle.sn_cp_whole.proofs.GoingLemmas.{advanced, before_opening, stands_next
 use Rattle.sn_cp_whole.proofs.going.GoingPoint.advance.Goals as goal
 
 pub returns-clause-goes_on : goal.returns-clause-goes_on
-returns-clause-goes_on g c told h world frozen on =
+returns-clause-goes_on g c told h world trees on =
     let point = c.args.self.now.point in
-    advanced (with_disk h (g.D.Device.disk (device_of c.args.blocks.now))) world c.args.self.now c.advance.new.self frozen c.advance.result _ on (g.met.D.Device.whole (device_of c.advance.new.blocks) told)
+    advanced (with_disk h (g.D.Device.disk (device_of c.args.blocks.now))) world c.args.self.now c.advance.new.self trees c.advance.result _ on (g.met.D.Device.whole (device_of c.advance.new.blocks) told)
     (before_opening (work_of point) (stage_of point) c.requires.within c.requires.more) (c.advance.ensures.bytes told) c.advance.ensures.same c.advance.ensures.onward
 
 pub returns-clause-tree : goal.returns-clause-tree
-returns-clause-tree g c told h world frozen on =
+returns-clause-tree g c told h world trees on =
     let point = c.args.self.now.point in
-    tree_stays (with_disk h (g.D.Device.disk (device_of c.args.blocks.now))) world (progress_over (going_of c.args.self.now) frozen) on c.advance.result _ (g.met.D.Device.whole (device_of c.advance.new.blocks) told)
+    tree_stays (with_disk h (g.D.Device.disk (device_of c.args.blocks.now))) world (progress_over (going_of c.args.self.now) trees) on c.advance.result _ (g.met.D.Device.whole (device_of c.advance.new.blocks) told)
     (before_opening (work_of point) (stage_of point) c.requires.within c.requires.more) (c.advance.ensures.bytes told)
 
 pub returns-clause-touched : goal.returns-clause-touched

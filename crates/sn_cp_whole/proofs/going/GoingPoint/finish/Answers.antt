@@ -8,17 +8,17 @@ use Rattle.sn_cp_whole.specs.Going.{FinishesPoint, going_of, with_disk}
 use Rattle.sn_cp_whole.proofs.going.GoingPoint.finish.Goals as goal
 
 pub returns-in-Err-clause-finishes : goal.returns-in-Err-clause-finishes
-returns-in-Err-clause-finishes g c told h world frozen on =
-    point_finishes (with_disk h (g.D.Device.disk (device_of c.args.blocks.now))) world (progress_over (going_of c.args.self) frozen) (Err c.in-Err.fault) _ on (g.met.D.Device.whole (device_of c.finish.new.blocks) told) (c.in-Err.ensures.bytes told)
+returns-in-Err-clause-finishes g c told h world trees on =
+    point_finishes (with_disk h (g.D.Device.disk (device_of c.args.blocks.now))) world (progress_over (going_of c.args.self) trees) (Err c.in-Err.fault) _ on (g.met.D.Device.whole (device_of c.finish.new.blocks) told) (c.in-Err.ensures.bytes told)
 
 pub returns-in-Err-clause-touched : goal.returns-in-Err-clause-touched
 returns-in-Err-clause-touched g c told = (c.in-Err.ensures.bytes told).touched
 
 pub returns-clause-finishes : goal.returns-clause-finishes
-returns-clause-finishes g c told h world frozen on =
+returns-clause-finishes g c told h world trees on =
     let after = c.in-Ok.ensures.same in
-    let done = point_finishes (with_disk h (g.D.Device.disk (device_of c.args.blocks.now))) world (progress_over (going_of c.args.self) frozen) (Ok (tt {0})) _ on (g.met.D.Device.whole (device_of c.finish.new.blocks) told) (c.in-Ok.ensures.bytes told) in
-    subst (λ (k : Kept). FinishesPoint (Ok (tt {0})) world h c.args.self.free k (g.D.Device.disk (device_of c.args.blocks.now)) (g.D.Device.disk (device_of c.finish.new.blocks)))
+    let done = point_finishes (with_disk h (g.D.Device.disk (device_of c.args.blocks.now))) world (progress_over (going_of c.args.self) trees) (Ok (tt {0})) _ on (g.met.D.Device.whole (device_of c.finish.new.blocks) told) (c.in-Ok.ensures.bytes told) in
+    subst (λ (k : Kept). FinishesPoint (Ok (tt {0})) world trees.frozen h c.args.self.free k (g.D.Device.disk (device_of c.args.blocks.now)) (g.D.Device.disk (device_of c.finish.new.blocks)))
     (λ i. record {
       slot = (sym (c.other-base.ensures ∙ c.requires.slot)) i;
       root = (sym (c.into_root-root.ensures.root ∙ ap (λ (w : Work). w.plan.next) after)) i;
