@@ -1,6 +1,6 @@
 use sn_acl::Acl;
-use sn_core_files::{FileFault, FileView};
 use sn_core_decide::CallView;
+use sn_core_files::{FileFault, FileView};
 use sn_core_names::MoveView;
 use sn_frozen::HasSnapshots;
 use sn_limits::SnapshotName;
