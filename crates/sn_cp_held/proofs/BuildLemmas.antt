@@ -13,7 +13,7 @@ use Rattle.sn_layout.specs.declared.tree.BlockTree.{BlockTree}
 use Rattle.sn_layout.specs.Geometry.{IsIn, map_blocks, start_of}
 use Rattle.sn_layout.specs.RootBody.{IsRootBody}
 use Rattle.sn_limits.specs.declared.limits.Limits.{Limits}
-use Rattle.sn_model.specs.Outcomes.{AskedPoint}
+use Rattle.sn_model.specs.declared.outcome.AskedPoint.{AskedPoint}
 use Rattle.sn_image.specs.Image.{image}
 use Rattle.sn_image.specs.Reach.{reach}
 use Rattle.sn_image.specs.Sound.{IsSound}
@@ -128,7 +128,7 @@ module _ (n : ℕ) (s : Store) (root : RootBody) (words : List ℕ) (layer : Lay
   live = record { bit = 0; inodes = next.inode_file }
 
   not_live : (k : Rooted) → Contains (map frozen_root next.snapshots) k → k.bit ≢ 0
-  not_live k among zero = let above = rises_above 0 next.snapshots (catalogue_of of.body).rising k among in omega (arith, above, zero)
+  not_live k among is = let above = rises_above 0 next.snapshots (catalogue_of of.body).rising k among in omega (arith, above, is)
 
   becomes : (k : ℕ) → k ≢ 0 → Becomes words built.map root next k
   becomes = each_bit asked bit words built.map root next of.root_body of.snapshots of.well.snapshots
@@ -245,7 +245,7 @@ module _ (n : ℕ) (s : Store) (root : RootBody) (words : List ℕ) (layer : Lay
     }
       where
         each : (block : ℕ) → block < 1024 * map_blocks n → (k : ℕ) → (bit_at (slice_index built.map block) k ≡ 1) ↔ IsReachedBy r (rooted_in next) block k
-            each block within zero = live_bit block
+        each block within zero = live_bit block
         each block within (suc k) = bit_told block (suc k) within (λ is. omega (arith, is)) (becomes (suc k) (λ is. omega (arith, is)))
 
   pub builds_are_built : IsBuilt n s root (trees_behind asked (record { live = through layer (image s root.inode_file); frozen = frozen_of s root.snapshots })) (plan_of built next)

@@ -10,7 +10,8 @@ use Rattle.sn_layout.specs.declared.snapshot.Snapshot.{Snapshot}
 use Rattle.sn_layout.specs.declared.tree.BlockTree.{BlockTree}
 use Rattle.sn_layout.specs.RootBody.{IsRootBody}
 use Rattle.sn_layout.specs.Snapshot.{are_distinct, are_rising, are_within, has_no_bit, with_snapshot}
-use Rattle.sn_model.specs.Outcomes.{AskedPoint, Unasked, Plain, Freezes, Thaws}
+use Rattle.sn_model.specs.declared.outcome.AskedPoint.{AskedPoint}
+use Rattle.sn_model.specs.declared.outcome.AskedPoint.TheVariants.{Unasked, Plain, Freezes, Thaws}
 use Rattle.sn_model.specs.Tree.{Tree}
 use Rattle.sn_image.specs.Image.{image}
 use Rattle.sn_ondisk.specs.TreeLaws.{SameIn}
@@ -260,11 +261,11 @@ module _ (words new : List ℕ) (root next : RootBody) (k : ℕ) (other : k ≢ 
       told (inr apart) = inl (record {
         told = λ block. freezes.others block k other apart;
         roots = λ inodes. (
-            λ among. ⊎_elim
-            (λ (is : record { bit = k; inodes = inodes } ≡ frozen_root one). absurd (apart (ap (λ (y : Rooted). y.bit) is)))
-            (λ old. old)
-            (only k inodes among),
-            λ among. each k inodes (inr among),
+          λ among. ⊎_elim
+              (λ (is : record { bit = k; inodes = inodes } ≡ frozen_root one). absurd (apart (ap (λ (y : Rooted). y.bit) is)))
+              (λ old. old)
+              (only k inodes among),
+          λ among. each k inodes (inr among),
         );
       })
 

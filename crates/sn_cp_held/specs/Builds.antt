@@ -15,7 +15,7 @@ use Rattle.sn_ondisk.specs.TreeLaws.{SameIn}
 use Rattle.sn_ondisk.specs.Trees.{Store, store_of}
 use Rattle.sn_opening.specs.Points.{HoldsAll, IsBuilt, Plan, Written}
 use Rattle.sn_opening.specs.Worlds.{all_reach, frozen_of}
-use Rattle.sn_model.specs.Outcomes.{AskedPoint}
+use Rattle.sn_model.specs.declared.outcome.AskedPoint.{AskedPoint}
 use Rattle.sn_model.specs.World.{World}
 use Rattle.sn_overlay.specs.Layers.{Layer, through}
 use Rattle.sn_overlay.specs.Needs.{need}
