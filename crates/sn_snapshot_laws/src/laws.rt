@@ -1,11 +1,13 @@
 //! The laws of `specs/`. The function does nothing: its clauses are the laws.
+ghost use Rattle.sn_snapshot_laws.specs.Reading.{SnapshotsReadAlike};
 ghost use Rattle.sn_snapshot_laws.specs.Staying.{CrashesKeepFrozenTrees, EventsKeepFrozenTrees, LivesKeepFrozenTrees, RunsKeepFrozenTrees};
 
 /// A frozen tree stays what it is until a call deletes its snapshot: over an event, over a run, over one that a crash cuts
-/// short, and over lives of many.
+/// short, and over lives of many. And who may read what in it is its own to say, whatever has become of the live tree.
 pub fn snapshot_laws()
     ensures events { EventsKeepFrozenTrees }
     ensures runs { RunsKeepFrozenTrees }
     ensures crashes { CrashesKeepFrozenTrees }
     ensures lives { LivesKeepFrozenTrees }
+    ensures reads { SnapshotsReadAlike }
 {}

@@ -4,7 +4,8 @@
 //! restarts come, whatever fails, and wherever a crash cuts a run short. So whoever reads below `/.snapshot/NAME` meets
 //! the names, the bytes, the owners and the access lists that were there when the snapshot was made.
 //!
-//! The way through: `specs/Staying.antt` has the laws, and [`snapshot_laws`] proves them.
+//! The way through: `specs/Staying.antt` has the laws of what stays, `specs/Reading.antt` that of who reads what in it, and
+//! [`snapshot_laws`] proves them.
 //!
 //! What the sources leave open is decided in `docs/DECISIONS.md`, under "Decisions of calls".
 #![tactic(auto)]

@@ -1,3 +1,4 @@
+use Rattle.sn_snapshot_laws.proofs.ReadLemmas.{reads_alike}
 use Rattle.sn_snapshot_laws.proofs.StayLemmas.{crashes_keep, events_keep, lives_keep, runs_keep}
 use Rattle.sn_snapshot_laws.proofs.laws.snapshot_laws.Goals as goal
 
@@ -12,3 +13,6 @@ returns-clause-crashes c = crashes_keep
 
 pub returns-clause-lives : goal.returns-clause-lives
 returns-clause-lives c = lives_keep
+
+pub returns-clause-reads : goal.returns-clause-reads
+returns-clause-reads c = reads_alike
