@@ -115,9 +115,9 @@ module _ (sectors : ℕ) (c : Contents) (k : Kept) (at : LogPosition) (shown : T
   abbrev pub newer : List Change
   newer = f.both.has_newer.all.replayed.changes
 
-  -- nobody is logged in over the tree without files that no name stands for
-  abbrev pub settled_world : World
-  settled_world = record new_world { live = settled shown }
+  -- nobody is logged in over the tree without files that no name stands for, beside the frozen trees of a root
+  abbrev settled_over : RootBody → World
+  settled_over b = record new_world { live = settled shown; frozen = frozen_of s b.snapshots }
 
   pub limits_one : version_1 ≡ k.root.limits
   limits_one = only_version k.root.limits f.roots.newest.body.fits.version
@@ -146,7 +146,7 @@ module _ (sectors : ℕ) (c : Contents) (k : Kept) (at : LogPosition) (shown : T
     pub fits_one : Fits version_1 (older ++ newer) img (free_blocks n s k.root)
     fits_one = omega (arith, covers, charged_one)
 
-    module _ (k2 : Kept) (w : World) (settles : SettlesChanges k shown k2) (live : w.live ≡ settled shown) (tree : IsTree version_1 shown) where
+    module _ (k2 : Kept) (w : World) (settles : SettlesChanges k shown k2) (live : w.live ≡ settled shown) (frozen : w.frozen ≡ frozen_of s k2.root.snapshots) (tree : IsTree version_1 shown) where
       tree_left : IsTree version_1 w.live
       tree_left = subst (IsTree version_1) (sym live) (dropping_tree version_1 shown (λ _. false) tree)
 
@@ -163,6 +163,7 @@ module _ (sectors : ℕ) (c : Contents) (k : Kept) (at : LogPosition) (shown : T
         map = subst (λ (slot : Slot). HasMap n c slot k2.words) (sym settles.slot) (subst (λ (ws : List ℕ). HasMap n c k.slot ws) (sym settles.words) spelled);
         sound = subst (λ (b : RootBody). IsSoundRoot n s b (slice_index k2.words)) (sym settles.root) (subst (λ (ws : List ℕ). IsSoundRoot n s k.root (slice_index ws)) (sym settles.words) sound);
         limits = ap (λ (b : RootBody). b.limits) settles.root ∙ sym limits_one;
+        frozen = frozen;
         charged = f.charges;
         changed = subst (λ (b : RootBody). HasChanged version_1 k2.changed (image s b.inode_file) w.live f.charges) (sym settles.root) changed_left;
         fits = subst (λ (b : RootBody). f.charges + version_1.inode_charge * nameless_in (image s b.inode_file) ≤ free_blocks n s b) (sym settles.root) covers;
@@ -174,7 +175,7 @@ module _ (sectors : ℕ) (c : Contents) (k : Kept) (at : LogPosition) (shown : T
     unsound : (words : List ℕ) → HasMap n c k.slot words → IsSoundRoot n s k.root (slice_index words) → ⊥
     unsound words spelled sound =
         let same = f.words words spelled in
-        never (kept_can_be_built n c settled_world k2 (stands whole count (subst (λ (ws : List ℕ). HasMap n c k.slot ws) (sym same) spelled) (subst (λ (ws : List ℕ). IsSoundRoot n s k.root (slice_index ws)) (sym same) sound) k2 settled_world settles refl tree))
+        never (kept_can_be_built n c (settled_over k2.root) k2 (stands whole count (subst (λ (ws : List ℕ). HasMap n c k.slot ws) (sym same) spelled) (subst (λ (ws : List ℕ). IsSoundRoot n s k.root (slice_index ws)) (sym same) sound) k2 (settled_over k2.root) settles refl refl tree))
 
     pub map_refuses : (damage : Damage) (block : ℕ) → damage ≡ MapWord → block ≡ start_of n (MapCopy k2.slot) → Refuses (fault.Damaged damage block) sectors c
     map_refuses damage block is at_map =
