@@ -73,6 +73,16 @@ fn push_file_call(text: &mut String, call: &Call) -> Result<()> {
         }
         Call::Seek { fd, offset } => push_on_file(text, ("seek", "offset"), *fd, *offset),
         Call::Ftruncate { fd, size } => push_on_file(text, ("ftruncate", "size"), *fd, *size),
+        _ => push_snapshot_call(text, call),
+    }
+}
+
+/// A call on snapshots.
+fn push_snapshot_call(text: &mut String, call: &Call) -> Result<()> {
+    match call {
+        Call::SnapCreate { name } => push_word(text, "snap-create, name", name),
+        Call::SnapDelete { name } => push_word(text, "snap-delete, name", name),
+        Call::SnapList => push(text, "snap-list"),
         _ => bail!("another call"),
     }
 }
