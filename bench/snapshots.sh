@@ -6,13 +6,13 @@
 #
 # usage: bench/snapshots.sh [PROGRAM]
 #
-# A call costs what a run with twenty pairs of them takes more than one with none, which mounts the same image; each time is the least
+# A call costs what a run with 500 pairs of them takes more than one with none, which mounts the same image; each time is the least
 # of nine runs.
 set -eu
 top=$(cd "$(dirname "$0")/.." && pwd)
 program=${1:-$top/crates/sn_bin/out/sn_bin}
 rounds=9
-pairs=20
+pairs=500
 place=/tmp
 if [ -w /dev/shm ]; then place=/dev/shm; fi
 work=$(mktemp -d -p "$place")
