@@ -109,10 +109,10 @@ fn gathered<B: Below>(
     Ok(bytes)
 }
 
-/// The bytes of a node from an offset on: so many, or as many as there are before its end, and none of a directory or
-/// of a number without a node. It is `Memory` where there is none for the answer, and `View` where the tree finds a
-/// fault.
-pub fn read<B: Below>(
+/// The bytes of a node from an offset on, gathered block by block: so many, or as many as there are before its end, and
+/// none of a directory or of a number without a node. It is `Memory` where there is none for the answer, and `View`
+/// where the tree finds a fault.
+pub(crate) fn gathered_from<B: Below>(
     tree: &mut B,
     alloc: Global,
     number: u16,

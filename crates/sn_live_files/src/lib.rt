@@ -2,32 +2,33 @@
 //! them.
 //!
 //! Calls read files and list directories. A tree below an overlay ([`Below`](sn_overlay::Below)) is asked for nodes,
-//! names and blocks one by one; here whole answers are made of these. [`read`] gathers bytes block by block, up to the
-//! end of the file and no further. A tree that [`ListsNames`] answers the names of a directory in their order, each
-//! with its number. Through an overlay these are the ones that changed, merged with those below in one pass, and
-//! below nothing is asked of a directory that is gone or was made anew.
+//! names and blocks one by one; a tree that [`HasContents`] makes whole answers. It answers bytes of a file, up to its
+//! end and no further. Through an overlay those of a file that changed are gathered block by block, and those of any
+//! other are what the tree below answers. It answers the names of a directory in their order, each with its number.
+//! Through an overlay these are the ones that changed, merged with those below in one pass, and below nothing is asked
+//! of a directory that is gone or was made anew.
 //!
 //! Memory for an answer is told apart from the tree's own fault (`FileFault` of `sn_core_files`).
 //!
 //! The way through it:
 //!
 //! 1. `specs/Listing`: the names of a directory with their numbers, and changed entries merged over others.
-//! 2. `bytes`: how many bytes a node has, and [`read`].
-//! 3. [`ListsNames`]; `merge`, the merge of two sorted lists; `through` and `logged`, the trees that list.
+//! 2. `bytes`: how many bytes a node has, and those that are gathered block by block.
+//! 3. [`HasContents`]; `merge`, the merge of two sorted lists; `through` and `logged`, the trees that have contents.
 //!
 //! What the sources leave open is decided in `docs/DECISIONS.md`, under "Reading a root on demand".
 //!
 //! ```text
-//! let part = read(&mut tree, alloc, number, offset, most)?;
+//! let part = tree.read(alloc, number, offset, most)?;
 //! let names = Through { overlay: &changed, below: &mut root }.names(alloc, directory)?;
 //! ```
 #![tactic(auto)]
 
 mod bytes;
-mod lists;
+mod contents;
 mod logged;
 mod merge;
 mod through;
 
-pub use bytes::{read, size};
-pub use lists::ListsNames;
+pub use bytes::size;
+pub use contents::HasContents;

@@ -1,10 +1,20 @@
-use crate::ListsNames;
+use crate::HasContents;
 use sn_core_files::FileFault;
 use sn_directories::{KeepsNames, LoggedTree};
 use sn_model::Link;
 use std::alloc::Global;
 
-impl<'a, B: KeepsNames + ListsNames> ListsNames for LoggedTree<'a, B> {
+impl<'a, B: KeepsNames + HasContents> HasContents for LoggedTree<'a, B> {
+    fn read(
+        &mut self,
+        alloc: Global,
+        number: u16,
+        offset: u64,
+        most: usize,
+    ) -> Result<Vec<u8>, FileFault<B::Fault>> {
+        self.shown.read(alloc, number, offset, most)
+    }
+
     fn names(
         &mut self,
         alloc: Global,

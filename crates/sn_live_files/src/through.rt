@@ -2,7 +2,8 @@ ghost use Rattle.std.specs.Prelude.{◌≡◌};
 ghost use Rattle.std.specs.Option.{option_copied};
 ghost use Rattle.sn_overlay.specs.Layers.{hides_names};
 
-use crate::ListsNames;
+use crate::HasContents;
+use crate::bytes::gathered_from;
 use crate::merge::merged;
 use sn_core_files::FileFault;
 use sn_model::Link;
@@ -20,7 +21,20 @@ fn hides_names(change: Option<&NodeChange>) -> bool
     }
 }
 
-impl<'a, B: ListsNames> ListsNames for Through<'a, B> {
+impl<'a, B: HasContents> HasContents for Through<'a, B> {
+    fn read(
+        &mut self,
+        alloc: Global,
+        number: u16,
+        offset: u64,
+        most: usize,
+    ) -> Result<Vec<u8>, FileFault<B::Fault>> {
+        match self.overlay.node(number) {
+            Some(_) => gathered_from(self, alloc, number, offset, most),
+            None => self.below.read(alloc, number, offset, most),
+        }
+    }
+
     fn names(
         &mut self,
         alloc: Global,

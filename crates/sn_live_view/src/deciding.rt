@@ -19,14 +19,14 @@ use sn_desc::Sessions;
 use sn_directories::{Directories, KeepsNames, LoggedTree};
 use sn_frozen::HasSnapshots;
 use sn_live::LiveTree;
-use sn_live_files::ListsNames;
+use sn_live_files::HasContents;
 use sn_model::{Call, Outcome};
 use sn_number_table::NumberTable;
 use sn_overlay::{Overlay, Through};
 use std::alloc::Global;
 
 // What a call comes to over a live tree, with the table of its numbers.
-fn decide_on<'x, 'c, T: NamedTree + ListsNames + HasSnapshots>(
+fn decide_on<'x, 'c, T: NamedTree + HasContents + HasSnapshots>(
     alloc: Global,
     tree: &'x mut T,
     numbers: &'x NumberTable,
@@ -49,7 +49,7 @@ fn decide_on<'x, 'c, T: NamedTree + ListsNames + HasSnapshots>(
 }
 
 // What a call comes to over a tree that is seen through an overlay.
-fn decide_over<'x, 'c, B: KeepsNames + ListsNames + HasSnapshots>(
+fn decide_over<'x, 'c, B: KeepsNames + HasContents + HasSnapshots>(
     alloc: Global,
     below: &'x mut B,
     overlay: &'x Overlay,
@@ -79,7 +79,7 @@ fn decide_over<'x, 'c, B: KeepsNames + ListsNames + HasSnapshots>(
 
 /// What a call comes to over a live tree of a root and the frozen ones, or why it has no outcome: `Memory` where what it
 /// tells found none, `View` where the root found a fault. Nothing changes.
-pub fn decide_live<'x, 'c, B: KeepsNames + ListsNames + HasSnapshots>(
+pub fn decide_live<'x, 'c, B: KeepsNames + HasContents + HasSnapshots>(
     alloc: Global,
     root: &'x mut B,
     live: &'x LiveTree,

@@ -6,7 +6,7 @@ use crate::LiveView;
 use sn_applies::NamedTree;
 use sn_core_files::{FileFault, FileView};
 use sn_frozen::HasSnapshots;
-use sn_live_files::{ListsNames, read, size};
+use sn_live_files::{HasContents, size};
 use sn_model::{Link, Names};
 use sn_walk::{Home, Object};
 use std::alloc::{AllocError, Global};
@@ -22,7 +22,7 @@ fn names_alone(alloc: Global, links: Vec<(Link, u16)>) -> Result<Names, AllocErr
     Ok(Names::new(names))
 }
 
-impl<'a, T: NamedTree + ListsNames + HasSnapshots> FileView for LiveView<'a, T> {
+impl<'a, T: NamedTree + HasContents + HasSnapshots> FileView for LiveView<'a, T> {
     ghost use Rattle.std.proofs.Common.{ap₂};
     ghost use Rattle.sn_core_files.specs.Shown.{bytes_in};
     ghost use Rattle.sn_live_view.specs.Live.{live_trees};
@@ -45,7 +45,7 @@ impl<'a, T: NamedTree + ListsNames + HasSnapshots> FileView for LiveView<'a, T> 
         most: usize,
     ) -> Result<Vec<u8>, FileFault<T::Fault>> {
         match home {
-            Home::Live => read(self.tree, alloc, number, offset, most),
+            Home::Live => self.tree.read(alloc, number, offset, most),
             Home::Frozen(snapshot) => self.tree.frozen_read(alloc, snapshot, number, offset, most),
         }
     }

@@ -9,7 +9,7 @@
 //! one of the table. Where the tree is told, it has to be a name tree, and the table has to tell its numbers
 //! (`IsNumbered`); then each answer is the one that the model has. A fault is the tree's.
 //!
-//! Where the tree lists names too (`ListsNames` of `sn_live_files`), it is a view that calls are decided over
+//! Where the tree answers bytes and names too (`HasContents` of `sn_live_files`), it is a view that calls are decided over
 //! (`FileView` of `sn_core_files`): its files are read, and its directories listed.
 //!
 //! The way through it: `specs/Live` says which trees are seen, and when a table belongs to one; `reads` has what

@@ -1,4 +1,4 @@
-//! The names of a directory of a root's tree, as overlays list them.
+//! Bytes of a file of a root's tree, and the names of a directory as overlays list them.
 ghost use Rattle.std.specs.Prelude.{◌≡◌, IfOk, map};
 ghost use Rattle.sn_dir.specs.declared.listings.ListedName.{ListedName as TheName};
 ghost use Rattle.sn_model.specs.Tree.{link_to};
@@ -8,9 +8,9 @@ use crate::rooted::fault_of;
 use sn_core_files::FileFault;
 use sn_device::Device;
 use sn_dir::ListedName;
-use sn_live_files::ListsNames;
+use sn_live_files::HasContents;
 use sn_model::Link;
-use sn_rooted::names;
+use sn_rooted::{names, read};
 use sn_tree_read::TreeFault;
 use std::alloc::{AllocError, Global};
 
@@ -30,7 +30,33 @@ fn links_of(
     Ok(links)
 }
 
-impl<'a, D: Device> ListsNames for RootedTree<'a, D> {
+impl<'a, D: Device> HasContents for RootedTree<'a, D> {
+    fn read(
+        &mut self,
+        alloc: Global,
+        number: u16,
+        offset: u64,
+        most: usize,
+    ) -> Result<Vec<u8>, FileFault<TreeFault>> {
+        if let Some(fault) = self.fault {
+            return Err(FileFault::View(fault));
+        }
+        let answer = read(
+            alloc,
+            self.blocks,
+            &self.root.limits,
+            &self.root.inode_file,
+            number,
+            offset,
+            most,
+        );
+        self.fault = fault_of(&answer);
+        match answer {
+            Ok(bytes) => Ok(bytes),
+            Err(fault) => Err(FileFault::View(fault)),
+        }
+    }
+
     fn names(
         &mut self,
         alloc: Global,

@@ -7,8 +7,8 @@ use Rattle.sn_overlay.specs.Lists.{changed_names}
 use Rattle.sn_overlay.specs.Overlays.{layer_of}
 use Rattle.sn_live_files.specs.Listing.{links_of, merged}
 use Rattle.sn_live_files.proofs.ListingLemmas.{below_seen, links_of-through}
-use Rattle.sn_live_files.proofs.through.ThroughListsNames.names.Goals as goal
-use Rattle.sn_live_files.proofs.through.ThroughListsNames.names.Goals.{then-hides_names, else-hides_names+in_ok-below}
+use Rattle.sn_live_files.proofs.through.ThroughHasContents.names.Goals as goal
+use Rattle.sn_live_files.proofs.through.ThroughHasContents.names.Goals.{then-hides_names, else-hides_names+in_ok-below}
 
 pub returns-clause-found : goal.returns-clause-found
 returns-clause-found g c told =

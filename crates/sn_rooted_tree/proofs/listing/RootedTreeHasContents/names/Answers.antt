@@ -1,7 +1,7 @@
 use Rattle.std.proofs.Common.{◌∙◌}
 use Rattle.sn_rooted.specs.Roots.{tree_on}
 use Rattle.sn_rooted_tree.proofs.ListedLemmas.{listed_links}
-use Rattle.sn_rooted_tree.proofs.listing.RootedTreeListsNames.names.Goals as goal
+use Rattle.sn_rooted_tree.proofs.listing.RootedTreeHasContents.names.Goals as goal
 
 pub returns-in_ok-links_of-in-Ok-clause-found : goal.returns-in_ok-links_of-in-Ok-clause-found
 returns-in_ok-links_of-in-Ok-clause-found g c told =

@@ -1,0 +1,44 @@
+use sn_core_files::FileFault;
+use sn_model::Link;
+use sn_overlay::Below;
+use std::alloc::Global;
+
+/// A tree below an overlay that answers bytes of a file, and the names of a directory.
+pub trait HasContents: Below {
+    ghost use Rattle.std.specs.Prelude.{◌≡◌, IsTrue, IfOk, drop, take};
+    ghost use Rattle.std.specs.FinMap as map;
+    ghost use Rattle.sn_core_files.specs.Faults.{IfLookUp};
+    ghost use Rattle.sn_overlay.specs.Layers.{bytes_of};
+    ghost use Rattle.sn_live_files.specs.Listing.{links_of};
+
+    /// The bytes of a node from an offset on: so many, or as many as there are before its end, and none of a directory or
+    /// of a number without a node. It is `Memory` where there is none for the answer, and `View` where the tree finds a
+    /// fault.
+    fn read(
+        &mut self,
+        alloc: Global,
+        number: u16,
+        offset: u64,
+        most: usize,
+    ) -> Result<Vec<u8>, FileFault<Self::Fault>>
+        requires { Self.holds self.old }
+        ensures kept { Self.holds self.new }
+        ensures follows { Self.follows self.old self.new }
+        ensures same { IsTrue Self.is_told → Self.shows self.new ≡ Self.shows self.old }
+        ensures found { IsTrue Self.is_told → IfOk result (λ read. read.items ≡ take most (drop offset (bytes_of (map.get (Self.shows self.old).nodes number)))) }
+        ensures cause { IfLookUp result (λ f. Self.causes self.old self.new f) };
+
+    /// The names of a directory in the order of their bytes, each with its number: none where the number isn't a
+    /// directory's. It is `Memory` where there is none for the answer, and `View` where the tree finds a fault.
+    fn names(
+        &mut self,
+        alloc: Global,
+        directory: u16,
+    ) -> Result<Vec<(Link, u16)>, FileFault<Self::Fault>>
+        requires { Self.holds self.old }
+        ensures kept { Self.holds self.new }
+        ensures follows { Self.follows self.old self.new }
+        ensures same { IsTrue Self.is_told → Self.shows self.new ≡ Self.shows self.old }
+        ensures found { IsTrue Self.is_told → IfOk result (λ names. names.items ≡ links_of (Self.shows self.old) directory) }
+        ensures cause { IfLookUp result (λ f. Self.causes self.old self.new f) };
+}
