@@ -28,9 +28,10 @@ pub struct StoredInode {
     pub acls: AclBlock,
 }
 
-/// The inode of a number, `None` where no node has it. `Damaged` comes only where its record can't be read,
-/// and never where the root is sound.
-pub(crate) fn inode_of<D: Device>(
+/// The inode that a number has in a root's tree, `None` where no node has it. `file` is the root's inode file, and of
+/// the number only the inode is read. `Damaged` comes only where its record can't be read, and never where the root is
+/// sound. Memory is taken for blocks that aren't kept.
+pub fn inode_of<D: Device>(
     blocks: &mut Blocks<D>,
     limits: &Limits,
     file: &BlockTree,

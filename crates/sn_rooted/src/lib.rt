@@ -36,6 +36,6 @@ mod view;
 
 pub use directories::{link, names};
 pub use files::read;
-pub use inodes::{StoredInode, stored_inode};
+pub use inodes::{StoredInode, inode_of, stored_inode};
 pub use nodes::{attributes, default_acl, is_nameless};
 pub use view::{RootedView, file_in};

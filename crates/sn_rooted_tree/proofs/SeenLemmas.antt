@@ -17,7 +17,7 @@ use Rattle.sn_model.specs.FileCalls.{bytes_of}
 use Rattle.sn_model.specs.NameTree.{IsTree}
 use Rattle.sn_model.specs.Tree.{Node, Tree}
 use Rattle.sn_ondisk.specs.Trees.{Store, store_of}
-use Rattle.sn_image.specs.Acls.{acls_at}
+use Rattle.sn_image.specs.Acls.{acls_at, no_acls}
 use Rattle.sn_image.specs.Image.{image, file_bytes, node_of}
 use Rattle.sn_image.specs.Inodes.{inode_at}
 use Rattle.sn_image.proofs.ByteLemmas.{data_whole}
@@ -55,6 +55,11 @@ module _ (limits : Limits) (sectors : ℕ) (c : Contents) (file : BlockTree) (ar
         size = long valid i;
       }))
       ∙ sym (ap (option_map _) (node_is (store_of c) file number inode used))
+
+-- an inode without an ACL block has no ACLs
+pub plain_acls : (s : Store) (block : ℕ) → block ≡ 0 → no_acls ≡ acls_at s block
+unfolding acls_at
+plain_acls s block none = sym (ap (acls_at s) none)
 
 -- ---- the tree of a root
 
