@@ -2,7 +2,9 @@
 ghost use Rattle.std.specs.Prelude.{◌≡◌, ℕ, ◌++◌, Option as TheOption, Err, drop, length, min, replicate, take, IsTrue, IfOk, OnOk};
 ghost use Rattle.sn_block.specs.Lending.{device_of};
 ghost use Rattle.sn_image.specs.Acls.{no_acls};
+ghost use Rattle.sn_layout_node.specs.Inode.{size_of};
 ghost use Rattle.sn_overlay.specs.Seen.{seen_block, seen_node};
+ghost use Rattle.sn_rooted.specs.Nodes.{shown_size};
 ghost use Rattle.sn_rooted.specs.Roots.{IsSoundOn, tree_on};
 ghost use Rattle.sn_tree_read.specs.Counts.{CountsTree};
 ghost use Rattle.sn_tree_read.specs.declared.fault.TreeFault.TheVariants.{Damaged};
@@ -20,6 +22,16 @@ use sn_rooted::{StoredInode, inode_of, read, stored_inode};
 use sn_tree_read::TreeFault;
 use std::alloc::Global;
 
+// How many bytes a file has.
+fn shown_size(inode: &Inode) -> u64
+    ensures { result ≡ shown_size inode.now.kind (size_of inode.now.content) }
+{
+    match inode.kind {
+        Kind::File => inode.content.size(),
+        Kind::Directory => 0,
+    }
+}
+
 // A node, without its bytes and names.
 fn seen(stored: StoredInode) -> SeenNode
     ensures { result ≡ seen_in stored.inode stored.acls }
@@ -36,10 +48,7 @@ fn seen(stored: StoredInode) -> SeenNode
             default_acl: acls.default,
         },
         links: inode.links,
-        size: match inode.kind {
-            Kind::File => inode.content.size(),
-            Kind::Directory => 0,
-        },
+        size: shown_size(&inode),
     }
 }
 
@@ -58,10 +67,7 @@ fn seen_plain(inode: &Inode) -> SeenNode
             default_acl: None,
         },
         links: inode.links,
-        size: match inode.kind {
-            Kind::File => inode.content.size(),
-            Kind::Directory => 0,
-        },
+        size: shown_size(inode),
     }
 }
 
