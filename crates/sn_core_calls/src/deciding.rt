@@ -21,7 +21,7 @@ use crate::deciding_snapshots::{
 use sn_acl::{Cred, Mode, Permissions};
 use sn_core_decide as decide;
 use sn_core_decide::{
-    acl_argument, id_argument, mode_bits_argument, new_mode_argument, path_argument,
+    acl_argument, asks, id_argument, mode_bits_argument, new_mode_argument, path_argument,
 };
 use sn_core_files::{
     CallError, FileView, decide_close, decide_ftruncate, decide_logout, decide_open, decide_read,
@@ -183,13 +183,7 @@ fn decide_getacl<V: FileView>(
     let path = path_argument(path)?;
     let acl = decide::getacl(view, caller, &path, kind)?;
     let told = Reply::Acl(StoredAcl::of_option(alloc, acl.as_ref())?);
-    Ok(Outcome {
-        charge: 0,
-        change: Pending::Nothing,
-        caller: Caller::Stays,
-        told,
-        point: AskedPoint::Unasked,
-    })
+    Ok(asks(Caller::Stays, told))
 }
 
 fn decide_setacl<V: FileView>(

@@ -5,12 +5,12 @@ ghost use Rattle.sn_desc.specs.Sessions.{in_use_of};
 ghost use Rattle.sn_core_files.specs.Decided.{DecidesShown};
 ghost use Rattle.sn_core_files.specs.Faults.{IfView};
 
-use sn_core_decide::path_argument;
+use sn_core_decide::{asks, path_argument};
 use sn_core_files::{CallError, FileView, decided, logged_in};
 use sn_core_names as decide;
 use sn_desc::Sessions;
 use sn_limits::Limits;
-use sn_model::{AskedPoint, Caller, Outcome, Pending, Reply, Word};
+use sn_model::{Caller, Outcome, Reply, Word};
 use std::alloc::Global;
 
 pub(crate) fn decide_rmdir<'a, V: FileView>(
@@ -89,11 +89,5 @@ pub(crate) fn decide_readdir<V: FileView>(
     let path = path_argument(path)?;
     let directory = decide::readdir(view, caller, &path)?;
     let names = view.listed(alloc, &directory)?;
-    Ok(Outcome {
-        charge: 0,
-        change: Pending::Nothing,
-        caller: Caller::Stays,
-        told: Reply::Names(names),
-        point: AskedPoint::Unasked,
-    })
+    Ok(asks(Caller::Stays, Reply::Names(names)))
 }

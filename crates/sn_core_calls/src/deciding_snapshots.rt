@@ -13,7 +13,7 @@ ghost use Rattle.sn_core_files.specs.Decided.{DecidesShown};
 ghost use Rattle.sn_core_files.specs.Faults.{IfView};
 
 use sn_acl::Cred;
-use sn_core_decide::forbidden;
+use sn_core_decide::{asks, forbidden};
 use sn_core_files::{CallError, FileView, logged_in};
 use sn_desc::Sessions;
 use sn_limits::{Limits, SnapshotName};
@@ -174,11 +174,5 @@ pub(crate) fn decide_snap_list<V: FileView>(
 {
     logged_in(sessions, session)?;
     let names = view.listed(alloc, &Object::Snapshots)?;
-    Ok(Outcome {
-        charge: 0,
-        change: Pending::Nothing,
-        caller: Caller::Stays,
-        told: Reply::Names(names),
-        point: AskedPoint::Unasked,
-    })
+    Ok(asks(Caller::Stays, Reply::Names(names)))
 }

@@ -4,12 +4,13 @@ ghost use Rattle.sn_model.specs.AccessCalls as calls;
 ghost use Rattle.sn_model.specs.Outcomes.{tells};
 ghost use Rattle.sn_walk.specs.Gives.{Gives, IfFault};
 
+use crate::outcomes::{asks, does};
 use crate::rights::{by_owner, full, granted, has_acl, live, live_if, to_group, to_owner};
 use sn_acl::{Acl, Cred, Mode};
 use sn_limits::{Kind, Limits};
 use sn_model::{
-    Access, AclKind, AskedPoint, Caller, Change, ModeBits, NewAcl, Outcome, Ownership, PathNumber,
-    Pending, Refusal, Reply, Session,
+    Access, AclKind, Caller, Change, ModeBits, NewAcl, Outcome, Ownership, PathNumber, Refusal,
+    Reply, Session,
 };
 use sn_walk::{Attributes, Failure, Found, Object, Path, TreeView};
 
@@ -116,26 +117,17 @@ fn kind_of(acl: &NewAcl) -> AclKind
 fn sets(limits: &Limits, number: u16, ownership: Ownership) -> Outcome<'static>
     ensures { result ≡ calls.sets limits.now.inode_charge number ownership }
 {
-    Outcome {
-        charge: u64::from(limits.inode_charge),
-        change: Pending::Does(Change::SetAttributes { number, ownership }),
-        caller: Caller::Stays,
-        told: Reply::Done,
-        point: AskedPoint::Unasked,
-    }
+    does(
+        u64::from(limits.inode_charge),
+        Change::SetAttributes { number, ownership },
+    )
 }
 
 /// What umask comes to: it is told what it was.
 pub fn umask(caller: &Session, mask: Mode) -> Outcome<'static>
     ensures { result ≡ calls.umask_outcome caller.now mask }
 {
-    Outcome {
-        charge: 0,
-        change: Pending::Nothing,
-        caller: Caller::SetsUmask(mask),
-        told: Reply::Mode(caller.umask),
-        point: AskedPoint::Unasked,
-    }
+    asks(Caller::SetsUmask(mask), Reply::Mode(caller.umask))
 }
 
 /// What chmod comes to.
@@ -219,13 +211,7 @@ pub fn access<V: TreeView>(
         want,
         &found.attributes,
     )?;
-    Ok(Outcome {
-        charge: 0,
-        change: Pending::Nothing,
-        caller: Caller::Stays,
-        told: Reply::Done,
-        point: AskedPoint::Unasked,
-    })
+    Ok(asks(Caller::Stays, Reply::Done))
 }
 
 /// What getacl tells, which a reply has to find memory for: the ACL of this kind, as it is stored.

@@ -4,6 +4,7 @@ ghost use Rattle.sn_walk.specs.Gives.{Gives, IfFault};
 ghost use Rattle.sn_core_decide.specs.Views.{seen_by};
 
 use crate::charges::name_charge;
+use crate::outcomes::asks;
 use crate::rights::{full, given_in, live, not_present, prefix, writable_parent};
 use crate::view::CallView;
 use sn_acl::{Acl, Inherited, Mode, inherit};
@@ -104,11 +105,6 @@ pub fn stat<'a, V: TreeView>(
     ensures cause { IfFault result (λ f. V.causes view.old view.new f) }
 {
     let found = full(view, &caller.cred, PathNumber::FIRST, path)?;
-    Ok(Outcome {
-        charge: 0,
-        change: Pending::Nothing,
-        caller: Caller::Stays,
-        told: Reply::Status(status_of(found.object.number(), &found.attributes)),
-        point: AskedPoint::Unasked,
-    })
+    let status = status_of(found.object.number(), &found.attributes);
+    Ok(asks(Caller::Stays, Reply::Status(status)))
 }

@@ -1,7 +1,6 @@
 //! The calls on files by their names.
 ghost use Rattle.std.specs.Prelude.{◌≡◌, IsTrue};
 ghost use Rattle.sn_model.specs.FileCalls as calls;
-ghost use Rattle.sn_model.specs.Calls.{last_name};
 ghost use Rattle.sn_walk.specs.Gives.{Answers, Gives, IfFault};
 ghost use Rattle.sn_model.specs.Seen.{parent_of};
 ghost use Rattle.sn_walk.specs.declared.walking.Walked.{Walked};
@@ -9,6 +8,7 @@ ghost use Rattle.sn_core_decide.specs.Unlinking.{unlink_in};
 ghost use Rattle.sn_core_decide.specs.Views.{seen_by};
 
 use crate::charges::{name_charge, size_charge, unlink_charge};
+use crate::outcomes::{asks, does};
 use crate::rights::{
     given_in, granted, live, live_if, no_directory, parent_of, prefix, sticky, there,
     writable_parent,
@@ -78,13 +78,7 @@ fn opens_there(
             point: AskedPoint::Unasked,
         };
     }
-    Outcome {
-        charge: 0,
-        change: Pending::Nothing,
-        caller,
-        told,
-        point: AskedPoint::Unasked,
-    }
+    asks(caller, told)
 }
 
 /// What open comes to where the name is there.
@@ -245,16 +239,11 @@ fn unlink_in<'a, V: TreeView>(
 {
     let attributes = writable_parent(view, &caller.cred, PathNumber::FIRST, place, directory)?;
     sticky(&caller.cred, PathNumber::FIRST, &attributes, found)?;
-    Ok(Outcome {
-        charge: unlink_charge(limits),
-        change: Pending::Does(Change::Remove {
-            directory: directory.number(),
-            name: Bytes::new(path.last().unwrap_or(b"")),
-        }),
-        caller: Caller::Stays,
-        told: Reply::Done,
-        point: AskedPoint::Unasked,
-    })
+    let removed = Change::Remove {
+        directory: directory.number(),
+        name: Bytes::new(path.last().unwrap_or(b"")),
+    };
+    Ok(does(unlink_charge(limits), removed))
 }
 
 /// What unlink comes to: a name of a file goes.

@@ -4,7 +4,8 @@
 //! A decision makes a call's tests in their order, as `sn_model` lists them ([`mkdir`], [`stat`]),
 //! and answers the model's [`Outcome`](sn_model::Outcome). Beside a refusal there may be a fault of
 //! the view: then nothing is known of the call. [`CallView`] is what a decision asks beside a walk.
-//! `arguments` and `rights` have the tests, each once for all calls, and `charges` what calls are charged;
+//! `arguments` and `rights` have the tests, each once for all calls, `charges` what calls are charged, and `outcomes` what
+//! most of them come to;
 //! `decisions`, `access_calls` and `file_calls` have the calls, and `sn_core_names` has those on names and
 //! listings.
 //!
@@ -21,6 +22,7 @@ mod arguments;
 mod charges;
 mod decisions;
 mod file_calls;
+mod outcomes;
 mod rights;
 mod view;
 
@@ -32,6 +34,7 @@ pub use arguments::{
 pub use charges::{name_charge, rename_charge, size_charge, unlink_charge};
 pub use decisions::{mkdir, stat};
 pub use file_calls::{open, unlink};
+pub use outcomes::{asks, does};
 pub use rights::{
     by_owner, forbidden, full, granted, has_acl, live, live_if, no_directory, not_present,
     one_tree, parent_of, prefix, sticky, there, to_group, to_owner, writable_parent,

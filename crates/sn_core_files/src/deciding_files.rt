@@ -4,7 +4,6 @@ ghost use Rattle.std.specs.Prelude.{◌≡◌, ◌<◌, ◌≤◌, ◌+◌, IsTr
 ghost use Rattle.sn_limits.specs.Versions.{version_1};
 ghost use Rattle.sn_model.specs.declared.call.Call.TheVariants as call;
 ghost use Rattle.sn_model.specs.FileCalls as calls;
-ghost use Rattle.sn_model.specs.Outcomes.{asks};
 ghost use Rattle.sn_model.specs.Steps.{decision};
 ghost use Rattle.sn_model.specs.World.{World};
 ghost use Rattle.sn_desc.specs.InUse.{descriptor_of, in_world};
@@ -18,7 +17,7 @@ use crate::fault::{CallError, FileFault};
 use crate::view::FileView;
 use sn_core_decide as decide;
 use sn_core_decide::{
-    bytes_argument, count_argument, flags_argument, new_mode_argument, path_argument,
+    asks, bytes_argument, count_argument, does, flags_argument, new_mode_argument, path_argument,
 };
 use sn_desc::{OpenFile, Sessions};
 use sn_limits::Limits;
@@ -27,19 +26,6 @@ use sn_model::{
     Reply, Word,
 };
 use std::alloc::Global;
-
-/// What a call comes to that changes no tree.
-fn asks(caller: Caller, told: Reply) -> Outcome<'static>
-    ensures { result ≡ asks caller told }
-{
-    Outcome {
-        charge: 0,
-        change: Pending::Nothing,
-        caller,
-        told,
-        point: AskedPoint::Unasked,
-    }
-}
 
 /// Where bytes end that begin at an offset. It is EFBIG where no file can be so large.
 fn end_of(offset: u64, count: u64) -> Result<u64, Refusal>
@@ -98,6 +84,7 @@ fn write_some<'a>(
     })
 }
 
+/// What logout comes to: all descriptors of the session are closed, and its number is free.
 pub fn decide_logout(sessions: &Sessions, session: u32) -> Result<Outcome<'static>, Refusal>
     ensures { (world : World) → Answers (λ o. o) result (decision version_1 (in_world (in_use_of sessions.now) world) session call.Logout) }
 {
@@ -105,6 +92,8 @@ pub fn decide_logout(sessions: &Sessions, session: u32) -> Result<Outcome<'stati
     Ok(asks(Caller::LogsOut, Reply::Done))
 }
 
+/// What unlink comes to: the name goes, and the file once nobody has it open (POSIX.1-2017 `unlink`). It asks for write
+/// and search in the directory, and by a sticky one for an owner.
 pub fn decide_unlink<'a, V: FileView>(
     view: &mut V,
     sessions: &Sessions,
@@ -123,6 +112,9 @@ pub fn decide_unlink<'a, V: FileView>(
     decided(decide::unlink(&Limits::VERSION_1, view, caller, &path))
 }
 
+/// What open comes to: a descriptor for a file that is there, or for one that is made (POSIX.1-2017 `open`). The rights
+/// that the flags name are asked for here, once for all reads and writes through it. EMFILE comes behind the tests of the
+/// arguments, and before a name is looked up.
 #[tactic(auto, unfolding(sn_model::specs::FileCalls::open_outcome))]
 pub fn decide_open<'a, V: FileView>(
     view: &mut V,
@@ -147,6 +139,7 @@ pub fn decide_open<'a, V: FileView>(
     decided(decide::open(&Limits::VERSION_1, view, caller, fd, &path, flags, mode))
 }
 
+/// What close comes to: the descriptor goes, and with the last one of a file without names the file (POSIX.1-2017 `close`).
 #[tactic(auto, unfolding(sn_model::specs::FileCalls::close_outcome))]
 pub fn decide_close(sessions: &Sessions, session: u32, fd: u32) -> Result<Outcome<'static>, Refusal>
     ensures { (world : World) → Answers (λ o. o) result (decision version_1 (in_world (in_use_of sessions.now) world) session (call.Close fd)) }
@@ -197,6 +190,8 @@ fn reads<V: FileView>(
     ))
 }
 
+/// What read comes to: so many bytes from the descriptor's offset on, or as many as there are before the end of the file,
+/// which it moves past (POSIX.1-2017 `read`). The file's own rights aren't asked for again.
 #[tactic(auto, unfolding(sn_model::specs::FileCalls::read_outcome))]
 pub fn decide_read<V: FileView>(
     alloc: Global,
@@ -235,6 +230,9 @@ fn write_offset<V: FileView>(view: &mut V, file: &OpenFile) -> Result<u64, V::Fa
     }
 }
 
+/// What write comes to: the bytes stand from the descriptor's offset on, or behind the end of a file that is appended to,
+/// and the offset moves past them (POSIX.1-2017 `write`). No bytes change nothing. EFBIG comes where they would end behind
+/// the largest file, and then none is written.
 #[tactic(auto, unfolding(sn_model::specs::FileCalls::write_outcome))]
 pub fn decide_write<'a, V: FileView>(
     view: &mut V,
@@ -263,6 +261,8 @@ pub fn decide_write<'a, V: FileView>(
     Ok(write_some(fd, file.number, offset, bytes)?)
 }
 
+/// What seek comes to: the descriptor's offset, counted from the beginning of the file, which may lie behind its end
+/// (POSIX.1-2017 `lseek`). EINVAL comes behind the largest file.
 #[tactic(auto, unfolding(sn_model::specs::FileCalls::seek_outcome))]
 pub fn decide_seek(
     sessions: &Sessions,
@@ -280,6 +280,8 @@ pub fn decide_seek(
     Ok(asks(Caller::Moves { fd, offset }, Reply::Number(offset)))
 }
 
+/// What ftruncate comes to: the file has this size, with zeros where it gets longer (POSIX.1-2017 `ftruncate`). EFBIG comes
+/// where it is larger than the largest file.
 #[tactic(auto, unfolding(sn_model::specs::FileCalls::ftruncate_outcome))]
 pub fn decide_ftruncate(
     sessions: &Sessions,
@@ -292,14 +294,6 @@ pub fn decide_ftruncate(
     logged_in(sessions, session)?;
     let file = sessions.writable(session, fd)?;
     let size = end_of(size, 0)?;
-    Ok(Outcome {
-        charge: file_charge(1),
-        change: Pending::Does(Change::SetSize {
-            number: file.number,
-            size,
-        }),
-        caller: Caller::Stays,
-        told: Reply::Done,
-        point: AskedPoint::Unasked,
-    })
+    let number = file.number;
+    Ok(does(file_charge(1), Change::SetSize { number, size }))
 }

@@ -1,19 +1,16 @@
 //! rmdir, link and readdir.
 ghost use Rattle.std.specs.Prelude.{◌≡◌, IsTrue};
 ghost use Rattle.sn_model.specs.NameCalls as calls;
-ghost use Rattle.sn_model.specs.Outcomes.{does, tells};
+ghost use Rattle.sn_model.specs.Outcomes.{tells};
 ghost use Rattle.sn_walk.specs.Gives.{Gives, IfFault};
 ghost use Rattle.sn_core_decide.specs.Views.{seen_by};
 
 use sn_core_decide::{
-    CallView, full, granted, live, name_charge, no_directory, not_present, one_tree, parent_of,
-    prefix, sticky, there, writable_parent,
+    CallView, does, full, granted, live, name_charge, no_directory, not_present, one_tree,
+    parent_of, prefix, sticky, there, writable_parent,
 };
 use sn_limits::{Kind, Limits};
-use sn_model::{
-    Access, AskedPoint, Bytes, Caller, Change, Errno, Outcome, PathNumber, Pending, Refusal, Reply,
-    Session,
-};
+use sn_model::{Access, Bytes, Change, Errno, Outcome, PathNumber, Refusal, Reply, Session};
 use sn_walk::{Failure, Found, Object, Path, Walked};
 
 /// Only a directory is listed, and taken away by rmdir: ENOTDIR otherwise.
@@ -63,19 +60,6 @@ fn may_link(limits: &Limits, found: &Found) -> Result<(), Refusal>
         return Ok(());
     }
     Err(Refusal::plain(Errno::Emlink))
-}
-
-/// A change of the live tree at a charge, and nothing else.
-pub(crate) fn does(charge: u64, change: Change<'_>) -> Outcome<'_>
-    ensures { result ≡ does charge change.entry }
-{
-    Outcome {
-        charge,
-        change: Pending::Does(change),
-        caller: Caller::Stays,
-        told: Reply::Done,
-        point: AskedPoint::Unasked,
-    }
 }
 
 /// A directory that goes from the one that its name was walked to in.

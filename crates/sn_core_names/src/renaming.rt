@@ -4,16 +4,16 @@ ghost use Rattle.sn_model.specs.NameCalls as calls;
 ghost use Rattle.sn_walk.specs.Gives.{Gives, IfFault};
 ghost use Rattle.sn_core_decide.specs.Views.{seen_by};
 
-use crate::calls::{does, empty};
+use crate::calls::empty;
 use crate::view::MoveView;
 use sn_acl::Cred;
 use sn_core_decide::{
-    CallView, live, one_tree, parent_of, prefix, rename_charge, sticky, there, writable_parent,
+    CallView, asks, does, live, one_tree, parent_of, prefix, rename_charge, sticky, there,
+    writable_parent,
 };
 use sn_limits::{Kind, Limits};
 use sn_model::{
-    AskedPoint, Bytes, Caller, Change, Errno, Moving, Outcome, PathNumber, Pending, Refusal, Reply,
-    Session,
+    Bytes, Caller, Change, Errno, Moving, Outcome, PathNumber, Refusal, Reply, Session,
 };
 use sn_walk::{Attributes, Failure, Found, Object, Path, TreeView, reached};
 
@@ -252,13 +252,7 @@ pub fn rename<'a, V: MoveView>(
     movable(new)?;
     let moving = moving_of(view, &caller.cred, old, new)?;
     if is_one(&moving) {
-        return Ok(Outcome {
-            charge: 0,
-            change: Pending::Nothing,
-            caller: Caller::Stays,
-            told: Reply::Done,
-            point: AskedPoint::Unasked,
-        });
+        return Ok(asks(Caller::Stays, Reply::Done));
     }
     moved(limits, view, caller, old, new, &moving)
 }

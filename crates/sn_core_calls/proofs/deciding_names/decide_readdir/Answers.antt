@@ -1,6 +1,7 @@
 use Rattle.std.proofs.Common.{true, ℕ, List, Ok, Err, refl, sym, ap, ◌∙◌}
 use Rattle.std.proofs.lemmas.Result.{err_from_is_err_and}
 use Rattle.sn_model.specs.declared.call.Call.TheVariants as call
+use Rattle.sn_model.specs.declared.outcome.Outcome.{Outcome}
 use Rattle.sn_model.specs.declared.reply.Reply.TheVariants.{Names}
 use Rattle.sn_model.specs.Outcomes.{tells}
 use Rattle.sn_model.specs.Seen.{SeenNames}
@@ -63,7 +64,7 @@ returns-clause-decided g c told world shows =
     let given = rw (shown_seen shows) at (c.in_ok-directory.ensures.exact told) in
     let stay = g.met.V.CallView.names_stay _ _ told c.readdir.ensures.follows in
     let names = c.in_ok-names.ensures.found told ∙ ap (λ (s : SeenNames). s.listed c.in_ok-directory.directory) stay in
-    rw (c.in_ok-caller.ensures, c.in_ok-path.ensures) (given ∙ ap (λ (n : List (List ℕ)). Ok (tells (Names n))) (sym names))
+    rw (c.in_ok-caller.ensures, c.in_ok-path.ensures) (given ∙ ap (λ (n : List (List ℕ)). Ok (tells (Names n))) (sym names) ∙ ap (λ (o : Outcome). Ok o) (sym c.asks.ensures))
 
 pub returns-in_err-directory-clause-kept : goal.returns-in_err-directory-clause-kept
 returns-in_err-directory-clause-kept g c = c.readdir.ensures.kept

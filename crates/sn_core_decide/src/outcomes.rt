@@ -1,0 +1,31 @@
+//! What most calls come to: no change of a tree, or one and nothing else.
+ghost use Rattle.std.specs.Prelude.{◌≡◌};
+ghost use Rattle.sn_model.specs.Outcomes.{asks, does};
+
+use sn_model::{AskedPoint, Caller, Change, Outcome, Pending, Reply};
+
+/// What a call comes to that changes no tree: what becomes of its caller, and what it is told.
+pub fn asks(caller: Caller, told: Reply) -> Outcome<'static>
+    ensures { result ≡ asks caller told }
+{
+    Outcome {
+        charge: 0,
+        change: Pending::Nothing,
+        caller,
+        told,
+        point: AskedPoint::Unasked,
+    }
+}
+
+/// A change of the live tree at a charge, and nothing else.
+pub fn does(charge: u64, change: Change<'_>) -> Outcome<'_>
+    ensures { result ≡ does charge change.entry }
+{
+    Outcome {
+        charge,
+        change: Pending::Does(change),
+        caller: Caller::Stays,
+        told: Reply::Done,
+        point: AskedPoint::Unasked,
+    }
+}
