@@ -1,5 +1,5 @@
 -- The last unmount.
-use Rattle.std.proofs.Common.{◌≡◌, ◌≢◌, inl, inr, Bool, true, false, Option, Some, None, Err, refl, sym, ap, subst}
+use Rattle.std.proofs.Common.{◌≡◌, inl, inr, Bool, true, false, Option, Some, None, Err, refl, sym, ap, subst}
 use Rattle.std.proofs.lemmas.Bool.{true≢false}
 use Rattle.sn_device.specs.Disk.{Disk}
 use Rattle.sn_device.specs.Crash.{LeavesOnly}

@@ -5,7 +5,7 @@
 //! from one standing to the next (`Goes` in `specs/Runs.antt`).
 //!
 //! What the clauses say, of each device that tells its bytes:
-//! - [`Server::answer`]: the reply is that of a step of the machine. A crash at any moment of the event
+//! - [`Server::call`], `step` and `restart`: the reply is that of a step of the machine. A crash at any moment of the event
 //!   leaves the settled world from before it or from after it, and once it is answered the one after alone.
 //!   No count of the device falls, and a failure is told only where the device failed.
 //! - [`run`]: the replies and the end are those of a whole run of the machine from the world that the disk

@@ -50,9 +50,16 @@ fn answer_all<D: Device, W: Watch>(
 {
     let mut server = server;
     for event in events {
-        let (reply, next) = server.answer(alloc, event);
+        let reply = match event {
+            Event::Call { session, call } => server.call(*session, call),
+            Event::Step => server.step(),
+            Event::Restart => {
+                let (reply, next) = server.restart(alloc);
+                server = next;
+                reply
+            }
+        };
         replies.push_reserved(reply);
-        server = next;
         watch.answered(replies.len(), events.len());
     }
     server

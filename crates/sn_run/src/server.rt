@@ -9,7 +9,7 @@ ghost use Rattle.sn_run.specs.Servers.{IsServer, is_stopped, standing};
 
 use sn_device::Device;
 use sn_fs::{Fs, StillMounted, Unmounted, mount};
-use sn_model::{Call, End, Errno, Event, Refusal, Reply};
+use sn_model::{Call, End, Errno, Refusal, Reply};
 use std::alloc::Global;
 
 /// A file system that answers events.
@@ -76,37 +76,35 @@ impl<D: Device> Server<D> {
         }
     }
 
-    fn call(self, session: u32, call: &Call) -> (Reply, Server<D>)
-        requires { IsServer self }
-        ensures answered { IsTrue D.tells_bytes → Answers (event.Call session call.now) result.0
-            (standing self) (is_stopped self) (standing result.1) (is_stopped result.1) }
-        ensures sound { IsServer result.1 }
+    /// Answers a call.
+    pub fn call(&mut self, session: u32, call: &Call) -> Reply
+        requires { IsServer self.old }
+        ensures answered { IsTrue D.tells_bytes → Answers (event.Call session call.now) result
+            (standing self.old) (is_stopped self.old) (standing self.new) (is_stopped self.new) }
+        ensures sound { IsServer self.new }
     {
         match self {
-            Server::Mounted(mut fs) => {
-                let reply = fs.call(session, call);
-                (reply, Server::Mounted(fs))
-            }
-            Server::Unmounted(device) => (refused(Errno::Estopped), Server::Unmounted(device)),
+            Server::Mounted(fs) => fs.call(session, call),
+            Server::Unmounted(_) => refused(Errno::Estopped),
         }
     }
 
-    fn step(self) -> (Reply, Server<D>)
-        requires { IsServer self }
-        ensures answered { IsTrue D.tells_bytes → Answers event.Step result.0
-            (standing self) (is_stopped self) (standing result.1) (is_stopped result.1) }
-        ensures sound { IsServer result.1 }
+    /// Goes one step on with a consistency point.
+    pub fn step(&mut self) -> Reply
+        requires { IsServer self.old }
+        ensures answered { IsTrue D.tells_bytes → Answers event.Step result
+            (standing self.old) (is_stopped self.old) (standing self.new) (is_stopped self.new) }
+        ensures sound { IsServer self.new }
     {
         match self {
-            Server::Mounted(mut fs) => {
-                let reply = fs.step();
-                (reply, Server::Mounted(fs))
-            }
-            Server::Unmounted(device) => (refused(Errno::Estopped), Server::Unmounted(device)),
+            Server::Mounted(fs) => fs.step(),
+            Server::Unmounted(_) => refused(Errno::Estopped),
         }
     }
 
-    fn restart(self, alloc: Global) -> (Reply, Server<D>)
+    /// Unmounts and mounts, or mounts alone where it has stopped. Where the unmount is refused, nothing has changed, and where
+    /// the mount fails, the reply has its cause, and all but a restart is refused from then on.
+    pub fn restart(self, alloc: Global) -> (Reply, Server<D>)
         requires { IsServer self }
         ensures answered { IsTrue D.tells_bytes → Answers event.Restart result.0
             (standing self) (is_stopped self) (standing result.1) (is_stopped result.1) }
@@ -122,22 +120,6 @@ impl<D: Device> Server<D> {
         match fs.unmount() {
             Ok(device) => remount(alloc, device),
             Err(StillMounted { errno, fs }) => (refused(errno), Server::Mounted(fs)),
-        }
-    }
-
-    /// Answers an event. A restart unmounts and mounts, or mounts alone where it has stopped: where the
-    /// unmount is refused, nothing has changed, and where the mount fails, the reply has its cause, and all
-    /// but a restart is refused from then on.
-    pub fn answer(self, alloc: Global, event: &Event) -> (Reply, Server<D>)
-        requires { IsServer self }
-        ensures answered { IsTrue D.tells_bytes → Answers event.now result.0
-            (standing self) (is_stopped self) (standing result.1) (is_stopped result.1) }
-        ensures sound { IsServer result.1 }
-    {
-        match event {
-            Event::Call { session, call } => self.call(*session, call),
-            Event::Step => self.step(),
-            Event::Restart => self.restart(alloc),
         }
     }
 }

@@ -14,14 +14,14 @@ pub returns-in-Mounted-clause-answered : goal.returns-in-Mounted-clause-answered
 returns-in-Mounted-clause-answered g c told =
     let e = Call c.args.session c.args.call.now in
     let S = Server g.row.D.Denot g.D.Device in
-    let new = c.call-reply.new.self in
-    subst (λ (x : S). Answers e c.call-reply.result (standing x) (is_stopped x) (held new) (has_stopped new)) (sym c.in-Mounted.is) (c.call-reply.ensures.answered told)
+    let new = c.call.new.self in
+    subst (λ (x : S). Answers e c.call.result (standing x) (is_stopped x) (held new) (has_stopped new)) (sym c.in-Mounted.is) (c.call.ensures.answered told)
 
 pub returns-in-Unmounted-clause-answered : goal.returns-in-Unmounted-clause-answered
 returns-in-Unmounted-clause-answered g c told =
     let e = Call c.args.session c.args.call.now in
     let S = Server g.row.D.Denot g.D.Device in
-    let self : S = Server.Unmounted c.in-Unmounted.device in
+    let self : S = Server.Unmounted c.in-Unmounted.field-0 in
     let h = standing self in
-    subst (λ (r : Reply). Answers e r (standing c.args.self) (is_stopped c.args.self) h true) (sym c.refused.ensures)
-    (subst (λ (x : S). Answers e (refused Estopped) (standing x) (is_stopped x) h true) (sym c.in-Unmounted.is) (stopped_answers h c.args.session c.args.call.now))
+    subst (λ (r : Reply). Answers e r (standing c.args.self.now) (is_stopped c.args.self.now) (standing c.args.self.now) (is_stopped c.args.self.now)) (sym c.refused.ensures)
+    (subst (λ (x : S). Answers e (refused Estopped) (standing x) (is_stopped x) (standing x) (is_stopped x)) (sym c.in-Unmounted.is) (stopped_answers h c.args.session c.args.call.now))

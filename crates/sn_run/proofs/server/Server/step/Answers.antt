@@ -13,13 +13,13 @@ use Rattle.sn_run.proofs.server.Server.step.Goals as goal
 pub returns-in-Mounted-clause-answered : goal.returns-in-Mounted-clause-answered
 returns-in-Mounted-clause-answered g c told =
     let S = Server g.row.D.Denot g.D.Device in
-    let new = c.step-reply.new.self in
-    subst (λ (x : S). Answers Step c.step-reply.result (standing x) (is_stopped x) (held new) (has_stopped new)) (sym c.in-Mounted.is) (c.step-reply.ensures.answered told)
+    let new = c.step.new.self in
+    subst (λ (x : S). Answers Step c.step.result (standing x) (is_stopped x) (held new) (has_stopped new)) (sym c.in-Mounted.is) (c.step.ensures.answered told)
 
 pub returns-in-Unmounted-clause-answered : goal.returns-in-Unmounted-clause-answered
 returns-in-Unmounted-clause-answered g c told =
     let S = Server g.row.D.Denot g.D.Device in
-    let self : S = Server.Unmounted c.in-Unmounted.device in
+    let self : S = Server.Unmounted c.in-Unmounted.field-0 in
     let h = standing self in
-    subst (λ (r : Reply). Answers Step r (standing c.args.self) (is_stopped c.args.self) h true) (sym c.refused.ensures)
-    (subst (λ (x : S). Answers Step (refused Estopped) (standing x) (is_stopped x) h true) (sym c.in-Unmounted.is) (stopped_step h))
+    subst (λ (r : Reply). Answers Step r (standing c.args.self.now) (is_stopped c.args.self.now) (standing c.args.self.now) (is_stopped c.args.self.now)) (sym c.refused.ensures)
+    (subst (λ (x : S). Answers Step (refused Estopped) (standing x) (is_stopped x) (standing x) (is_stopped x)) (sym c.in-Unmounted.is) (stopped_step h))
