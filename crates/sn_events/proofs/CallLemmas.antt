@@ -57,7 +57,6 @@ use Rattle.sn_sound.specs.Logs.{HasAgeLeft}
 use Rattle.sn_examine.specs.Failing.{CostsAtMost, HasFailed}
 use Rattle.sn_block.specs.Counts.{FailsRead, IsLater}
 use Rattle.sn_model.specs.Calls.{ready}
-use Rattle.sn_held.proofs.RoomLemmas.{drops_leave_fewer}
 use Rattle.sn_held.proofs.EventLemmas.{left_of_tree, runs_lasts, stops_between, stops_lasts}
 use Rattle.sn_events.specs.Answers.{Answers, AsksFirst, Costs, HasAll, IsChangeOf, Lacks, LacksFirst, MayMeet, NumbersIn, RoomIn, SinceIn, Writes, fits_with, is_fitting, writes_of}
 use Rattle.sn_events.specs.Changing.{FailsChange, IsLogged, errno_of, stops}
