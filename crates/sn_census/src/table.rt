@@ -1,5 +1,5 @@
 //! The table of a census.
-ghost use Rattle.std.specs.Prelude.{◌≡◌, ℕ, ◌≤◌, ◌++◌, ◌↔◌, List, drop, length, replicate, vec_len, slice_set, Some, IsTrue, IfOk};
+ghost use Rattle.std.specs.Prelude.{◌≡◌, ◌≤◌, ◌++◌, ◌↔◌, List, drop, length, replicate, vec_len, slice_set, Some, IsTrue, IfOk};
 ghost use Rattle.sn_limits.specs.declared.kind.Kind.TheVariants.{Directory};
 ghost use Rattle.sn_census.specs.Climbs.{parents_of};
 ghost use Rattle.sn_census.specs.Rows.{AreUnused, Sets, names_found, row_at, row_of, unused_row};

@@ -21,8 +21,8 @@ use Rattle.sn_model.specs.World.{World}
 use Rattle.sn_model.proofs.DecidedLemmas.{decided_is}
 use Rattle.sn_model.proofs.OutcomeLemmas.{IsAlone, is_asked}
 use Rattle.sn_core.specs.declared.choosing.Chosen.{Chosen}
-use Rattle.sn_core.specs.declared.fault.CallError.{CallError}
-use Rattle.sn_core.specs.declared.fault.CallError.TheVariants.{Memory}
+use Rattle.sn_core.specs.declared.fault.WorldError.{WorldError}
+use Rattle.sn_core.specs.declared.fault.WorldError.TheVariants.{Memory}
 use Rattle.sn_core.specs.Served.{Chooses, memory_for}
 use Rattle.sn_core.proofs.StepLemmas.{ready_passed}
 
@@ -99,14 +99,14 @@ asking_takes (call.SnapCreate name) e = tt
 asking_takes (call.SnapDelete name) e = tt
 asking_takes call.SnapList e = tt
 
-lacks_memory : (p : AskedPoint) (e : CallError) → Err e ≡ memory_for p → (is_asked p ≡ true) × (e ≡ Memory)
+lacks_memory : (p : AskedPoint) (e : WorldError) → Err e ≡ memory_for p → (is_asked p ≡ true) × (e ≡ Memory)
 lacks_memory Unasked e is = cc
 lacks_memory Plain e is = cc
 lacks_memory (Freezes name) e is = (refl, cc)
 lacks_memory (Thaws name) e is = cc
 
 -- a call whose point finds no memory is one that may find none
-pub point_takes : (old : World) (session : ℕ) (c : Call) (o : Outcome) (e : CallError) → decision version_1 old session c ≡ Ok o → Err e ≡ memory_for o.point → TakesMemory c × IsOk (ready old session c) × (e ≡ Memory)
+pub point_takes : (old : World) (session : ℕ) (c : Call) (o : Outcome) (e : WorldError) → decision version_1 old session c ≡ Ok o → Err e ≡ memory_for o.point → TakesMemory c × IsOk (ready old session c) × (e ≡ Memory)
 point_takes old session c o e decided is =
     let lacks = lacks_memory o.point e is in
     (asking_takes c (sym (decided_is version_1 old session c o decided).points.asks ∙ lacks.0), ready_passed old session c o decided, lacks.1)

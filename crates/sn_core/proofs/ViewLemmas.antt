@@ -15,7 +15,7 @@ use Rattle.sn_model.specs.Tests.{has_room}
 use Rattle.sn_model.specs.Tree.{Tree}
 use Rattle.sn_model.specs.World.{World, tree_in, viewed_if, viewed_trees}
 use Rattle.sn_desc.specs.Sessions.{in_use_of}
-use Rattle.sn_numbers.specs.declared.live.LiveTree.{LiveTree}
+use Rattle.sn_numbers.specs.declared.numbered.NumberedTree.{NumberedTree}
 use Rattle.sn_numbers.specs.Live.{live_of}
 use Rattle.sn_core_files.specs.declared.fault.CallError.{CallError}
 use Rattle.sn_core_files.specs.declared.fault.CallError.TheVariants.{Refused, Memory, View}
@@ -58,10 +58,10 @@ pub plain_shows : (w : PlainWorld) (v : PlainView) → v.tree.now ≡ w.tree →
 plain_shows w v e = record {
   sessions_are = refl;
   descriptors_are = refl;
-  trees_are = ap (λ (t : LiveTree). viewed_trees (plain_trees (live_of t))) e;
-  room_is = ap (λ (t : LiveTree). has_room version_1 (live_of t)) e;
-  names_are = ap (λ (t : LiveTree). seen_names version_1 (plain_trees (live_of t))) e;
-  bytes_are = ap (λ (t : LiveTree). bytes_in (plain_trees (live_of t))) e;
+  trees_are = ap (λ (t : NumberedTree). viewed_trees (plain_trees (live_of t))) e;
+  room_is = ap (λ (t : NumberedTree). has_room version_1 (live_of t)) e;
+  names_are = ap (λ (t : NumberedTree). seen_names version_1 (plain_trees (live_of t))) e;
+  bytes_are = ap (λ (t : NumberedTree). bytes_in (plain_trees (live_of t))) e;
 }
 
 -- and why a call has no outcome over it

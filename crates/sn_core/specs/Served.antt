@@ -26,27 +26,27 @@ use Rattle.sn_core_files.specs.declared.fault.CallError.TheVariants as undecided
 use Rattle.sn_core.specs.Numbering.{Numbers}
 use Rattle.sn_core.specs.PlainRuns.{Numbered}
 use Rattle.sn_core.specs.declared.choosing.Chosen.{Chosen}
-use Rattle.sn_core.specs.declared.fault.CallError.{CallError}
-use Rattle.sn_core.specs.declared.fault.CallError.TheVariants.{Refused, Memory}
+use Rattle.sn_core.specs.declared.fault.WorldError.{WorldError}
+use Rattle.sn_core.specs.declared.fault.WorldError.TheVariants.{Refused, Memory}
 
 -- why a call has no outcome over the tree in memory, where no look-up finds a fault
-abbrev pub as_error : {F : Type 0} → calls.CallError F → CallError
+abbrev pub as_error : {F : Type 0} → calls.CallError F → WorldError
 as_error (undecided.Refused r) = Refused r
 as_error undecided.Memory = Memory
 as_error (undecided.View f) = Memory
 
 -- why a call has no outcome
-abbrev pub HasNone : CallError → World → ℕ → Call → Type 0
+abbrev pub HasNone : WorldError → World → ℕ → Call → Type 0
 HasNone (Refused r) world session c = decision version_1 world session c ≡ Err r
 HasNone Memory world session c = TakesMemory c × IsOk (ready world session c)
 
 -- what a call comes to
-abbrev pub Decides : World → ℕ → Call → Result Outcome CallError → Type 0
+abbrev pub Decides : World → ℕ → Call → Result Outcome WorldError → Type 0
 Decides world session c (Ok o) = decision version_1 world session c ≡ Ok o
 Decides world session c (Err e) = HasNone e world session c
 
 -- a run in memory keeps no tree but the live one, as if it found no memory for a snapshot's
-abbrev pub memory_for : AskedPoint → Result (Unit {0}) CallError
+abbrev pub memory_for : AskedPoint → Result (Unit {0}) WorldError
 memory_for Unasked = Ok tt
 memory_for Plain = Ok tt
 memory_for (Freezes name) = Err Memory
@@ -74,10 +74,10 @@ abbrev pub MakesChange : Result (Unit {0}) ApplyError → Change → World → W
 MakesChange (Ok _) c old new = (tree : Tree) × (apply version_1 c old.live ≡ Some tree) × (new ≡ with_live old tree)
 MakesChange (Err e) c old new = LacksFor e c old new
 
-abbrev pub FailsTo : CallError → World → ℕ → Call → World → Type 0
+abbrev pub FailsTo : WorldError → World → ℕ → Call → World → Type 0
 FailsTo (Refused r) old session c new = (decision version_1 old session c ≡ Err r) × (new ≡ old)
 FailsTo Memory old session c new = TakesMemory c × IsOk (ready old session c) × (new ≡ old)
 
-abbrev pub Serves : Numbered → ℕ → Call → Result Reply CallError → Numbered → Type 0
+abbrev pub Serves : Numbered → ℕ → Call → Result Reply WorldError → Numbered → Type 0
 Serves old session c (Ok reply) new = Becomes version_1 old.world session (decision version_1 old.world session c) reply new.world × Numbers (event.Call session c) old.world old.kept new.world new.kept
 Serves old session c (Err e) new = FailsTo e old.world session c new.world × (new.kept ≡ old.kept)

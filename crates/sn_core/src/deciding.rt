@@ -4,7 +4,7 @@ ghost use Rattle.sn_model.specs.Worlds.{IsCall};
 ghost use Rattle.sn_core.specs.Served.{Decides};
 
 use crate::PlainWorld;
-use crate::fault::CallError;
+use crate::fault::WorldError;
 use sn_core_calls as calls;
 use sn_model::{Call, Outcome};
 use std::alloc::Global;
@@ -19,7 +19,7 @@ impl PlainWorld {
         alloc: Global,
         session: u32,
         call: &'a Call,
-    ) -> Result<Outcome<'a>, CallError>
+    ) -> Result<Outcome<'a>, WorldError>
         ensures decided { Decides (world_of self.now) session call.now result }
         ensures numbers { IfOk result (λ o. IsCall call.now) }
     {

@@ -28,7 +28,7 @@ mod view;
 mod world;
 
 pub use choosing::Chosen;
-pub use fault::CallError;
+pub use fault::WorldError;
 pub use plain::run_plain;
 pub use turning::turn;
 pub use world::PlainWorld;

@@ -8,7 +8,7 @@ use sn_core_files::{FileFault, FileView};
 use sn_core_names::MoveView;
 use sn_limits::{Limits, SnapshotName};
 use sn_model::{Names, Refusal};
-use sn_numbers::LiveTree;
+use sn_numbers::NumberedTree;
 use sn_walk::{Attributes, Failure, Home, Object, TreeView};
 use std::alloc::Global;
 use std::convert::Infallible;
@@ -17,7 +17,7 @@ use std::convert::Infallible;
 /// for memory, which those take that answer bytes or names.
 #[derive(Drop)]
 pub(crate) struct PlainView<'a> {
-    pub tree: &'a LiveTree,
+    pub tree: &'a NumberedTree,
     ghost whole: { ∥ IsTree version_1 (live_of tree.now) ∥₁ },
 }
 

@@ -10,30 +10,30 @@ ghost use Rattle.sn_numbers.specs.Live.{live_of};
 ghost use Rattle.sn_numbers.specs.Numbers.{kept_after, since_after};
 
 use crate::choosing::Chosen;
-use crate::fault::CallError;
+use crate::fault::WorldError;
 use crate::view::PlainView;
 use sn_desc::Sessions;
 use sn_limits::Limits;
 use sn_model::{AskedPoint, Call, Change, Errno, Event, Outcome, Progress, Refusal, Reply};
-use sn_numbers::LiveTree;
+use sn_numbers::NumberedTree;
 use sn_plain::ApplyError;
 use std::alloc::{AllocError, Global};
 
 /// The live tree, and who is logged in.
 #[derive(Drop)]
 pub struct PlainWorld {
-    pub(crate) tree: LiveTree,
+    pub(crate) tree: NumberedTree,
     pub(crate) sessions: Sessions,
     // In a name tree alone the way up tells whether a directory is below another, as a rename asks.
     ghost whole: { ∥ IsTree version_1 (live_of tree) ∥₁ },
 }
 
 /// Whether there is memory for what a point makes of the snapshots: for a new one's tree there is none.
-fn memory_for(point: &AskedPoint) -> Result<(), CallError>
+fn memory_for(point: &AskedPoint) -> Result<(), WorldError>
     ensures { result ≡ memory_for point.now }
 {
     match point {
-        AskedPoint::Freezes(_) => Err(CallError::Memory),
+        AskedPoint::Freezes(_) => Err(WorldError::Memory),
         _ => Ok(()),
     }
 }
@@ -48,7 +48,7 @@ impl PlainWorld {
         ensures since { IfOk result (λ w. (n : ℕ) → kept_since_of w n ≡ false) }
         ensures whole { IfOk result (λ w. IsWorld version_1 (world_of w)) }
     {
-        let tree = LiveTree::new(alloc)?;
+        let tree = NumberedTree::new(alloc)?;
         let sessions = Sessions::new(alloc)?;
         Ok(PlainWorld { tree, sessions })
     }
@@ -83,7 +83,7 @@ impl PlainWorld {
         self.sessions.clear();
     }
 
-    fn served(&mut self, alloc: Global, session: u32, call: &Call) -> Result<Reply, CallError>
+    fn served(&mut self, alloc: Global, session: u32, call: &Call) -> Result<Reply, WorldError>
         requires { IsWorld version_1 (world_of self.old) }
         ensures served { Serves (numbered_of self.old) session call.now result (numbered_of self.new) }
         ensures whole { IsWorld version_1 (world_of self.new) }
@@ -106,7 +106,7 @@ impl PlainWorld {
             Some(change) => match self.apply(alloc, &change) {
                 Ok(()) => {}
                 // What was decided can be applied, so that memory alone can lack.
-                Err(_) => return Err(CallError::Memory),
+                Err(_) => return Err(WorldError::Memory),
             },
             None => {}
         }
@@ -122,8 +122,8 @@ impl PlainWorld {
     {
         match self.served(alloc, session, call) {
             Ok(reply) => reply,
-            Err(CallError::Refused(refusal)) => Reply::Refused(refusal),
-            Err(CallError::Memory) => Reply::Refused(Refusal::plain(Errno::Enomem)),
+            Err(WorldError::Refused(refusal)) => Reply::Refused(refusal),
+            Err(WorldError::Memory) => Reply::Refused(Refusal::plain(Errno::Enomem)),
         }
     }
 

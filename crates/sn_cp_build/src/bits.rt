@@ -1,5 +1,5 @@
 //! The bits of the block map.
-ghost use Rattle.std.specs.Prelude.{◌≡◌, ◌<◌, ◌↔◌, ℕ, length, All, IsTrue, Option as TheOption, Err, IfErr, OnOk, None};
+ghost use Rattle.std.specs.Prelude.{◌≡◌, ◌<◌, ◌↔◌, ℕ, length, All, IsTrue, Err, IfErr, OnOk, None};
 ghost use Rattle.sn_tree.specs.Drafts.{numbers_of};
 ghost use Rattle.sn_tree.specs.declared.fault.PlanFault.TheVariants.{Tree};
 ghost use Rattle.sn_tree_read.specs.declared.fault.TreeFault.TheVariants.{Damaged};

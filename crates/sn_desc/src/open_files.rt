@@ -1,7 +1,7 @@
-ghost use Rattle.std.specs.Prelude.{◌≡◌, ◌-◌, ◌<◌, ◌≤◌, ◌↔◌, ℕ, IsTrue, replicate, length, slice_index_or, slice_set, option_copied, nat_lt, count_by, None, Some, IsOk, IfOk, OnOk};
+ghost use Rattle.std.specs.Prelude.{◌≡◌, ◌-◌, ◌<◌, ◌≤◌, ◌↔◌, ℕ, IsTrue, replicate, slice_index_or, slice_set, option_copied, count_by, None, Some, IsOk, IfOk, OnOk};
 ghost use Rattle.std.specs.Option.{option_map};
 ghost use Rattle.sn_desc.specs.Holders.{IsCounted, is_live_file, live_seats};
-ghost use Rattle.sn_desc.specs.Files.{files_at, with_offset, room_at};
+ghost use Rattle.sn_desc.specs.Files.{files_at, with_offset};
 
 use crate::holders;
 use crate::open_file::OpenFile;

@@ -1,4 +1,4 @@
-ghost use Rattle.std.specs.Prelude.{◌≡◌, ◌≢◌, ◌+◌, ◌-◌, ◌<◌, ◌≤◌, ℕ, replicate, length, is_some, slice_index_or, slice_set, option_copied, true, None, Some, IsOk, IfOk, OnOk, OnSome};
+ghost use Rattle.std.specs.Prelude.{◌≡◌, ◌≢◌, ◌+◌, ◌-◌, ◌<◌, ◌≤◌, replicate, length, slice_index_or, slice_set, option_copied, None, Some, IsOk, IfOk, OnOk};
 ghost use Rattle.std.specs.Option.{option_map};
 ghost use Rattle.sn_desc.specs.Seats.{IsSeatd};
 

@@ -1,7 +1,7 @@
 ghost use Rattle.std.specs.Prelude.{◌≡◌, ◌+◌, ◌↔◌, IsTrue, ◌-◌, ◌*◌, ◌<◌, ◌≤◌, replicate, slice_get, slice_set, vec_len, option_copied, None, Some, IsOk, IfOk, OnOk, OnErr};
 ghost use Rattle.std.specs.Option.{option_map};
 ghost use Rattle.std.specs.FinMap as finite;
-ghost use Rattle.sn_model.specs.Descriptors.{at_offset, closed, descriptor_at, is_held_in, moved_to, next_descriptor, opened, readable_at, sought, without_session, writable_at};
+ghost use Rattle.sn_model.specs.Descriptors.{closed, descriptor_at, is_held_in, moved_to, next_descriptor, opened, readable_at, sought, without_session, writable_at};
 ghost use Rattle.sn_model.specs.Steps.{masked};
 ghost use Rattle.sn_model.specs.Tests.{logged_in, logged_out};
 ghost use Rattle.sn_model.specs.World.{World};

@@ -1,5 +1,5 @@
 //! A device in memory. It keeps a record of its writes and syncs, from which its past can be told.
-ghost use Rattle.std.specs.Prelude.{◌≡◌, ◌⊎◌, ◌+◌, ◌-◌, ◌<◌, ◌^◌, true, false, length, replicate, slice_range, EachIndex, ◌*◌, ◌/◌, ℕ, reverse, Contains, IfSome, IfOk, IsErr, IsTrue, IsFalse, ◌||◌, Some, OnOk, OnErr, ◌↔◌};
+ghost use Rattle.std.specs.Prelude.{◌≡◌, ◌⊎◌, ◌+◌, ◌-◌, ◌<◌, ◌^◌, true, length, replicate, slice_range, EachIndex, ◌*◌, ◌/◌, reverse, Contains, IfSome, IfOk, IsErr, IsTrue, IsFalse, ◌||◌, Some, OnOk, OnErr, ◌↔◌};
 ghost use Rattle.sn_device.specs.Sectors.{AreSectors, IsSector, sector_at};
 ghost use Rattle.sn_device.specs.Status.{has_ended, uncalled, restarted, one_write, one_sync, Counts, CountsOrEnds};
 ghost use Rattle.sn_device.specs.Device.{Writes, Syncs};

@@ -1,6 +1,5 @@
 //! The records of changes, whose ACL blocks are placed.
-ghost use Rattle.std.specs.Prelude.{◌≡◌, ℕ, ◌≢◌, ◌/◌, ◌<◌, ◌≤◌, [], ◌∷◌, false, length, Some, Option as TheOption, Err, IsTrue, IfOk, OnOk, All};
-ghost use Rattle.std.specs.List.{AllByRecursion};
+ghost use Rattle.std.specs.Prelude.{◌≡◌, ℕ, ◌≢◌, ◌/◌, ◌<◌, ◌≤◌, [], ◌∷◌, false, length, Some, Option as TheOption, Err, IsTrue, IfOk, All};
 ghost use Rattle.sn_device.specs.Disk.{reads};
 ghost use Rattle.sn_alloc.specs.Taking.{free_data};
 ghost use Rattle.sn_block.specs.Lending.{device_of};

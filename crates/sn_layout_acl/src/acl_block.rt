@@ -5,9 +5,8 @@
 //! | 2 | zeros |
 //! | 8 | the access entries, 8 bytes each, and then the default entries |
 //! | after the last | zeros |
-ghost use Rattle.std.specs.Prelude.{◌≡◌, ℕ, ◌+◌, ◌*◌, ◌<◌, ◌≤◌, ◌↔◌, List, [], ◌∷◌, ◌++◌, length, Option, Some, IfSome, IsNone, IsTrue};
+ghost use Rattle.std.specs.Prelude.{◌≡◌, ℕ, ◌+◌, ◌*◌, ◌<◌, ◌≤◌, ◌↔◌, List, [], ◌∷◌, ◌++◌, length, Option, Some, IfSome, IsNone};
 ghost use Rattle.std.specs.List.{AllByRecursion};
-ghost use Rattle.sn_acl.specs.AccessList.{IsValid};
 ghost use Rattle.sn_acl.specs.declared.entries.Tag.TheVariants.{UserObj, GroupObj, Other};
 ghost use Rattle.sn_acl.specs.declared.entries.Entry.{Entry as TheEntry};
 ghost use Rattle.sn_layout.specs.Bytes.{Puts};

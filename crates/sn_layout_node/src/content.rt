@@ -1,8 +1,5 @@
-ghost use Rattle.std.specs.Prelude.{◌≡◌, ◌↔◌, ℕ, ◌+◌, ◌-◌, ◌*◌, ◌<◌, ◌≤◌, ◌||◌, ◌==◌, List, ◌++◌, length, Some, IfSome, IsTrue, nat_lt};
-ghost use Rattle.std.specs.List.{list_all, enumerate_from};
-ghost use Rattle.sn_limits.specs.declared.kind.Kind.{Kind as TheKind};
+ghost use Rattle.std.specs.Prelude.{◌≡◌, ◌↔◌, ℕ, ◌+◌, ◌-◌, ◌*◌, ◌<◌, ◌≤◌, ◌||◌, ◌==◌, List, ◌++◌, length, Some, IfSome, IsTrue};
 ghost use Rattle.sn_layout.specs.Bytes.{Puts, zeros, numbers_bytes};
-ghost use Rattle.sn_layout.specs.BlockTree.{IsBlockTree};
 ghost use Rattle.sn_layout.specs.declared.tree.BlockTree.{BlockTree as TheTree};
 ghost use Rattle.sn_layout_node.specs.Inode.{IsContent, content_bytes, size_of, is_tree_size};
 ghost use Rattle.sn_layout_node.specs.declared.content.Content.{Content as TheContent};

@@ -4,7 +4,7 @@
 //! |---|---|
 //! | kind u8 | 1 a file, 2 a directory |
 //! | S bits u8 | bit 0 S_ISGID, bit 1 S_ISVTX |
-ghost use Rattle.std.specs.Prelude.{◌≡◌, ℕ, ◌+◌, ◌≤◌, Bool, List, [], ◌∷◌, length, Some, IfSome};
+ghost use Rattle.std.specs.Prelude.{◌≡◌, ℕ, ◌+◌, ◌≤◌, List, [], ◌∷◌, length, Some, IfSome};
 ghost use Rattle.sn_limits.specs.declared.kind.Kind.{Kind as TheKind};
 ghost use Rattle.sn_layout.specs.Bytes.{Puts};
 ghost use Rattle.sn_layout_node.specs.Inode.{kind_number, flags_number};

@@ -11,8 +11,7 @@
 //! | 24 | ACL block u32, 0 for none |
 //! | 28 | zeros |
 //! | 64 | a file's bytes, if at most 64, and then zeros; else 16 pointers u32 |
-ghost use Rattle.std.specs.Prelude.{◌≡◌, ◌↔◌, ◌<◌, ◌^◌, List, length, Some, IfSome, IsTrue};
-ghost use Rattle.sn_limits.specs.declared.kind.Kind.{Kind as TheKind};
+ghost use Rattle.std.specs.Prelude.{◌≡◌, ◌↔◌, ◌<◌, ◌^◌, length, Some, IfSome, IsTrue};
 ghost use Rattle.sn_layout.specs.Bytes.{zeros};
 ghost use Rattle.sn_layout_acl.specs.Mode.{IsMode};
 ghost use Rattle.sn_layout_node.specs.Inode.{are_links};

@@ -1,17 +1,14 @@
 //! What becomes of whoever called, and of files that nobody has and no name stands for.
-ghost use Rattle.std.specs.Prelude.{◌≡◌, ◌+◌, ◌<◌, ◌≤◌, ◌==◌, ◌&&◌, ◌||◌, ℕ, Bool, true, Contains, OnErr, OnOk, is_some, length, if◌then◌else◌};
+ghost use Rattle.std.specs.Prelude.{◌≡◌, ◌+◌, ◌<◌, ◌≤◌, ◌==◌, ◌&&◌, ◌||◌, ℕ, true, OnErr, OnOk, is_some, length, if◌then◌else◌};
 ghost use Rattle.sn_core.specs.Called.{HasRoom};
-ghost use Rattle.sn_core.specs.Numbering.{has_closed, has_gone};
-ghost use Rattle.sn_core.specs.Told.{dropped_lost};
+ghost use Rattle.sn_core.specs.Numbering.{has_closed};
 ghost use Rattle.sn_desc.specs.InUse.{live_in};
 ghost use Rattle.sn_live_world.specs.Dropping.{DropsClosed, DropsIf, DropsLost};
 ghost use Rattle.sn_live_world.specs.Turned.{DropsTo, Turns};
 ghost use Rattle.sn_model.specs.Outcomes.{is_opening};
-ghost use Rattle.sn_model.specs.Settling.{dropped, dropped_if, is_abandoned};
+ghost use Rattle.sn_model.specs.Settling.{dropped, is_abandoned};
 ghost use Rattle.sn_model.specs.Steps.{with_caller};
 ghost use Rattle.sn_model.specs.Tree.{Tree};
-ghost use Rattle.sn_overlay.specs.Merges.{merge};
-ghost use Rattle.sn_overlay.specs.Overlays.{gone};
 
 use crate::LiveWorld;
 use sn_core::turn;
@@ -19,7 +16,7 @@ use sn_model::Caller;
 use std::alloc::AllocError;
 
 impl LiveWorld {
-    ghost use Rattle.sn_live_world.specs.World.{Alike, HasDrops, HasSessions, IsOver, changes_of, descriptors_of, kept_of, kept_since_of, nameless_of, point_of, room_of, world_over};
+    ghost use Rattle.sn_live_world.specs.World.{Alike, HasDrops, HasSessions, IsOver, descriptors_of, kept_of, kept_since_of, nameless_of, point_of, room_of, world_over};
 
     /// Makes room for one more open file, and for its drop.
     fn prepare_file(&mut self) -> Result<(), AllocError>

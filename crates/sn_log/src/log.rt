@@ -1,5 +1,5 @@
 //! Appending.
-ghost use Rattle.std.specs.Prelude.{◌≡◌, ◌+◌, ◌*◌, ◌/◌, ◌%◌, ◌≤◌, ◌<◌, ◌↔◌, length, IsTrue, OnOk, OnErr};
+ghost use Rattle.std.specs.Prelude.{◌≡◌, ◌+◌, ◌*◌, ◌/◌, ◌%◌, ◌≤◌, ◌<◌, ◌↔◌, IsTrue, OnOk, OnErr};
 ghost use Rattle.sn_block.specs.Counts.{CountsCalls};
 ghost use Rattle.sn_block.specs.Lending.{device_of};
 ghost use Rattle.sn_ondisk.specs.LogHalf.{body_sectors};

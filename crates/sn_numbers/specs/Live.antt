@@ -3,14 +3,14 @@ use Rattle.std.specs.Prelude.{ℕ, Bool}
 use Rattle.sn_model.specs.Tree.{Tree}
 use Rattle.sn_numbers.specs.Numbers.{held_of, since_of}
 use Rattle.sn_plain.specs.Plain.{tree_of}
-use Rattle.sn_numbers.specs.declared.live.LiveTree.{LiveTree}
+use Rattle.sn_numbers.specs.declared.numbered.NumberedTree.{NumberedTree}
 
-abbrev pub live_of : LiveTree → Tree
+abbrev pub live_of : NumberedTree → Tree
 live_of t = tree_of t.tree
 
-abbrev pub kept_back_of : LiveTree → ℕ → Bool
+abbrev pub kept_back_of : NumberedTree → ℕ → Bool
 kept_back_of t = held_of t.kept_back
 
 -- those of them that are kept back since the consistency point in progress began, or the durable root's where none is
-abbrev pub kept_since_of : LiveTree → ℕ → Bool
+abbrev pub kept_since_of : NumberedTree → ℕ → Bool
 kept_since_of t = since_of t.kept_back

@@ -6,7 +6,7 @@
 //! settled, or until no other number is left. Then a new node gets the least of them, and none is
 //! kept back any more.
 //!
-//! [`LiveTree`] is a `PlainTree` of `sn_plain` with these numbers. `kept_back` has the set of them,
+//! [`NumberedTree`] is a `PlainTree` of `sn_plain` with these numbers. `kept_back` has the set of them,
 //! which takes its memory at first, so that a close needs none. `specs/Numbers` says which number is
 //! next (`next_number`), and what stays kept back by a change (`kept_after`).
 //!
@@ -14,6 +14,6 @@
 #![tactic(auto)]
 
 mod kept_back;
-mod live;
+mod numbered;
 
-pub use live::LiveTree;
+pub use numbered::NumberedTree;

@@ -1,7 +1,7 @@
 ghost use Rattle.std.specs.Prelude.{◌≡◌, ◌==◌, ◌+◌, ◌<◌, ◌^◌, [], is_some, IsTrue, IfOk, if◌then◌else◌};
 ghost use Rattle.sn_model.specs.Changes.{made, node_with, owned};
 ghost use Rattle.sn_model.specs.Tree.{names_in, names_for};
-ghost use Rattle.sn_nodes.specs.Stored.{node_of, owned_by, IsFresh};
+ghost use Rattle.sn_nodes.specs.Stored.{node_of, IsFresh};
 
 use crate::fault::ApplyError;
 use crate::tests::is_ownership;

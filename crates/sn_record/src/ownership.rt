@@ -11,8 +11,6 @@ ghost use Rattle.std.specs.Prelude.{◌≡◌, ℕ, ◌+◌, ◌*◌, ◌<◌, �
 ghost use Rattle.sn_acl.specs.AccessList.{IsValid};
 ghost use Rattle.sn_acl.specs.declared.entries.Entry.{Entry as TheEntry};
 ghost use Rattle.sn_layout.specs.Bytes.{Puts};
-ghost use Rattle.sn_layout_acl.specs.AclBlock.{IsDefault, IsNamedPart, entries_in};
-ghost use Rattle.sn_layout_acl.specs.Mode.{IsMode};
 ghost use Rattle.sn_model.specs.declared.change.Ownership.{Ownership as TheOwnership};
 ghost use Rattle.sn_record.specs.Payload.{IsOwnership, objects_of, named_of, ownership_bytes};
 ghost use Rattle.sn_record.specs.Sizes.{entries_of};

@@ -7,10 +7,10 @@
 //! | 5 | write |
 //! | 6 | set size |
 //! | 7 | set attributes |
-ghost use Rattle.std.specs.Prelude.{◌≡◌, ◌↔◌, ℕ, ◌+◌, ◌≤◌, ◌<◌, ◌^◌, List, [], ◌∷◌, ◌++◌, length, Some, IfSome, IsTrue};
+ghost use Rattle.std.specs.Prelude.{◌≡◌, ◌↔◌, ◌+◌, ◌≤◌, ◌<◌, ◌^◌, [], ◌∷◌, ◌++◌, length, Some, IfSome, IsTrue};
 ghost use Rattle.sn_model.specs.declared.change.Change.{Change as TheChange};
 ghost use Rattle.sn_layout.specs.Bytes.{Puts};
-ghost use Rattle.sn_record.specs.Payload.{IsOwnership, HasFittingNumbers, HasFittingBytes, IsSpelled, change_number, fields_bytes, payload_bytes, PayloadsDiffer, PayloadsFit};
+ghost use Rattle.sn_record.specs.Payload.{IsOwnership, HasFittingNumbers, IsSpelled, change_number, fields_bytes, payload_bytes, PayloadsDiffer, PayloadsFit};
 ghost use Rattle.sn_record.specs.Sizes.{entries_of, fields_size};
 
 use crate::attributes::{put_attributes, put_make, read_attributes, read_make};

@@ -1,7 +1,7 @@
 ghost use Rattle.std.specs.Prelude.{◌≡◌, ◌<◌, ◌++◌, OnOk, IfOk, codes};
 ghost use Rattle.std.specs.List.{flat_map};
 ghost use Rattle.sn_words.specs.Fields.{octal, content_word};
-ghost use Rattle.sn_replies.specs.Replies.{kind_name, status_mode, status_line, name_text, names_line, some_acl_text, reply_line};
+ghost use Rattle.sn_replies.specs.Replies.{kind_name, status_mode, status_line, names_line, some_acl_text, reply_line};
 
 use sn_limits::Kind;
 use sn_model::{FileData, FileStatus, Names, Reply, StoredAcl};

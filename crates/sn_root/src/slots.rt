@@ -1,5 +1,5 @@
 //! What each of the two slots holds.
-ghost use Rattle.std.specs.Prelude.{◌≡◌, ◌+◌, ◌*◌, ◌<◌, ◌≤◌, take, drop, length, IsTrue, IfOk, OnOk};
+ghost use Rattle.std.specs.Prelude.{◌≡◌, ◌+◌, ◌*◌, ◌<◌, ◌≤◌, take, drop, IsTrue, IfOk};
 ghost use Rattle.sn_device.specs.Disk.{reads};
 ghost use Rattle.sn_layout.specs.declared.geometry.Slot.TheVariants.{A as SlotA, B as SlotB};
 ghost use Rattle.sn_ondisk.specs.Roots.{body_block as block_of_body};

@@ -1,5 +1,5 @@
 //! The new blocks of a tree to come, and the blocks that it no longer reaches.
-ghost use Rattle.std.specs.Prelude.{◌≡◌, ◌≢◌, ◌+◌, ◌<◌, ◌≤◌, [], ◌∷◌, length, replicate, slice_index, All, Err, IfOk, OnOk, OnErr};
+ghost use Rattle.std.specs.Prelude.{◌≡◌, ◌≢◌, ◌+◌, ◌<◌, ◌≤◌, [], ◌∷◌, length, replicate, All, Err, IfOk, OnOk, OnErr};
 ghost use Rattle.std.specs.List.Sorted.{IsStrictlyIncreasing};
 ghost use Rattle.sn_alloc.specs.Taking.{IsFreeData, free_data};
 ghost use Rattle.sn_image.specs.Reach.{block_reach};

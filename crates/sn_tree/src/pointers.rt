@@ -1,10 +1,10 @@
 //! The pointers of a tree, planned from the top down.
-ghost use Rattle.std.specs.Prelude.{◌≡◌, ◌≢◌, ◌⊎◌, ◌+◌, ◌-◌, ◌*◌, ◌/◌, ◌^◌, ◌<◌, ◌≤◌, ◌↔◌, ℕ, [], ◌∷◌, false, length, slice_index, min, take, drop, Option as TheOption, Err, All, IsTrue, IsNone, IsSome, IfNone, IfSome, IfOk, OnOk, MatchOption};
+ghost use Rattle.std.specs.Prelude.{◌≡◌, ◌≢◌, ◌⊎◌, ◌+◌, ◌-◌, ◌*◌, ◌/◌, ◌^◌, ◌<◌, ◌≤◌, ◌↔◌, ℕ, [], ◌∷◌, false, length, slice_index, min, take, drop, Option as TheOption, Err, All, IsTrue, IsNone, IsSome, IfNone, IfSome, IfOk, OnOk};
 ghost use Rattle.sn_device.specs.Disk.{reads};
 ghost use Rattle.sn_alloc.specs.Taking.{free_data};
 ghost use Rattle.sn_block.specs.Lending.{device_of};
 ghost use Rattle.sn_image.specs.Reach.{block_reach};
-ghost use Rattle.sn_layout_node.specs.Indirect.{ArePointers, pointers_bytes};
+ghost use Rattle.sn_layout_node.specs.Indirect.{ArePointers};
 ghost use Rattle.sn_ondisk.specs.Trees.{store_of, all_pointers};
 ghost use Rattle.sn_tree.specs.Drafts.{grown};
 ghost use Rattle.sn_tree.specs.Dirty.{IsFrom, after};

@@ -4,7 +4,6 @@ ghost use Rattle.sn_device.specs.Disk.{reads};
 ghost use Rattle.sn_block.specs.Lending.{device_of};
 ghost use Rattle.sn_ondisk.specs.Trees.{store_of, data_block};
 ghost use Rattle.sn_layout_node.specs.Inode.{size_of};
-ghost use Rattle.sn_layout_node.specs.declared.content.Content.{Content as TheContent};
 ghost use Rattle.sn_layout_node.specs.declared.content.Content.TheVariants.{Inline, Tree};
 ghost use Rattle.sn_tree_read.specs.Counts.{CountsTree};
 ghost use Rattle.sn_tree_read.specs.Paths.{block_lies_on, block_met};

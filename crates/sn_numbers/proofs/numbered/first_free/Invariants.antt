@@ -1,7 +1,7 @@
 use Rattle.std.proofs.Common.{◌≡◌, ◌≤◌, ◌<◌, ℕ, true}
 use Rattle.sn_numbers.specs.Numbers.{held_of, is_taken}
 use Rattle.sn_plain.specs.Plain.{tree_of}
-use Rattle.sn_numbers.proofs.live.first_free.Given as goal
+use Rattle.sn_numbers.proofs.numbered.first_free.Given as goal
 
 -- every number so far is taken
 abbrev pub invariant-loop-number : goal.invariant-loop-number

@@ -1,7 +1,7 @@
 use Rattle.std.proofs.Common.{is_some, ◌||◌, ap, ◌∙◌}
 use Rattle.std.specs.FinMap as map
 use Rattle.sn_plain.specs.Plain.{tree_of}
-use Rattle.sn_numbers.proofs.live.LiveTree.begin_point.Goals as goal
+use Rattle.sn_numbers.proofs.numbered.NumberedTree.begin_point.Goals as goal
 
 pub invariant_of-self : goal.invariant_of-self
 invariant_of-self c =

@@ -6,7 +6,7 @@ use Rattle.sn_model.specs.Settling.{loses}
 use Rattle.sn_numbers.specs.Numbers.{AreTaken, held_of, next_after}
 use Rattle.sn_plain.specs.Plain.{tree_of}
 use Rattle.sn_numbers.proofs.FreeLemmas.{change_keeps, made_there, taken_after}
-use Rattle.sn_numbers.proofs.live.LiveTree.apply.Goals as goal
+use Rattle.sn_numbers.proofs.numbered.NumberedTree.apply.Goals as goal
 
 pub next_after_make-self-requires-clause-taken : goal.next_after_make-self-requires-clause-taken
 next_after_make-self-requires-clause-taken c =

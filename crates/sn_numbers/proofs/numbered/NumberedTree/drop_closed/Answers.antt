@@ -3,7 +3,7 @@ use Rattle.sn_model.specs.Tree.{Tree}
 use Rattle.sn_numbers.specs.Numbers.{AreTaken, held_of}
 use Rattle.sn_plain.specs.Plain.{tree_of}
 use Rattle.sn_numbers.proofs.FreeLemmas.{taken_closed}
-use Rattle.sn_numbers.proofs.live.LiveTree.drop_closed.Goals as goal
+use Rattle.sn_numbers.proofs.numbered.NumberedTree.drop_closed.Goals as goal
 
 pub invariant_of-self : goal.invariant_of-self
 invariant_of-self c =

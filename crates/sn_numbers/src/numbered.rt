@@ -20,7 +20,7 @@ use std::alloc::{AllocError, Global};
 /// The live tree, and the numbers that are kept back: those of files that went with their last
 /// descriptor. A new node gets none of them while another is left.
 #[derive(Drop)]
-pub struct LiveTree {
+pub struct NumberedTree {
     tree: PlainTree,
     kept_back: KeptBack,
     /// Each number from 2 on below this one has a node or is kept back.
@@ -94,26 +94,26 @@ fn next_after_loss(tree: &PlainTree, next: u32, lost: Option<u16>) -> u32
     next.min(u32::from(number)).max(u32::from(ROOT_NUMBER))
 }
 
-impl LiveTree {
+impl NumberedTree {
     ghost use Rattle.sn_numbers.specs.Live.{kept_back_of, kept_since_of, live_of};
 
     /// A root directory alone, and no number kept back.
-    pub fn new(alloc: Global) -> Result<LiveTree, AllocError>
+    pub fn new(alloc: Global) -> Result<NumberedTree, AllocError>
         ensures tree { IfOk result (λ t. live_of t ≡ new_tree) }
         ensures none { IfOk result (λ t. (n : ℕ) → kept_back_of t n ≡ false) }
         ensures since { IfOk result (λ t. (n : ℕ) → kept_since_of t n ≡ false) }
     {
-        LiveTree::over(alloc, PlainTree::new(alloc)?)
+        NumberedTree::over(alloc, PlainTree::new(alloc)?)
     }
 
     /// A tree that is there already, and no number kept back.
-    pub fn over(alloc: Global, tree: PlainTree) -> Result<LiveTree, AllocError>
+    pub fn over(alloc: Global, tree: PlainTree) -> Result<NumberedTree, AllocError>
         ensures tree { IfOk result (λ t. live_of t ≡ tree_of tree) }
         ensures none { IfOk result (λ t. (n : ℕ) → kept_back_of t n ≡ false) }
         ensures since { IfOk result (λ t. (n : ℕ) → kept_since_of t n ≡ false) }
     {
         let kept_back = KeptBack::new(alloc)?;
-        Ok(LiveTree {
+        Ok(NumberedTree {
             tree,
             kept_back,
             next: u32::from(ROOT_NUMBER),

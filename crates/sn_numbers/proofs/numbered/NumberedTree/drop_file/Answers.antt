@@ -4,7 +4,7 @@ use Rattle.sn_model.specs.Tree.{Tree}
 use Rattle.sn_numbers.specs.Numbers.{AreTaken, held_of, next_after}
 use Rattle.sn_plain.specs.Plain.{tree_of}
 use Rattle.sn_numbers.proofs.FreeLemmas.{dropped_keeps, taken_after}
-use Rattle.sn_numbers.proofs.live.LiveTree.drop_file.Goals as goal
+use Rattle.sn_numbers.proofs.numbered.NumberedTree.drop_file.Goals as goal
 
 pub invariant_of-self : goal.invariant_of-self
 invariant_of-self c =
