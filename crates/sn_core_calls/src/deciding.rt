@@ -1,8 +1,9 @@
 //! What calls come to: the tests of the session and of the arguments, and what `sn_core_decide` decides
 //! over a view of the trees.
-ghost use Rattle.std.specs.Prelude.{◌≡◌, ◌<◌, ◌^◌, IsTrue, IfOk};
+ghost use Rattle.std.specs.Prelude.{◌≡◌, ◌<◌, ◌^◌, ℕ, IsTrue, IfOk};
 ghost use Rattle.sn_limits.specs.Versions.{version_1};
 ghost use Rattle.sn_model.specs.Calls.{new_session};
+ghost use Rattle.sn_model.specs.declared.call.Call.{Call as TheCall};
 ghost use Rattle.sn_model.specs.Outcomes.{opens};
 ghost use Rattle.sn_model.specs.Steps.{decision};
 ghost use Rattle.sn_model.specs.World.{World};
@@ -54,6 +55,17 @@ fn login(uid: u32, gid: u32, groups: &Groups) -> Outcome<'static>
         }),
         told: Reply::Done,
         point: AskedPoint::Unasked,
+    }
+}
+
+/// What a call comes to that asks nothing of the view.
+fn unviewed<'a, F>(answer: Result<Outcome<'a>, Refusal>) -> Result<Outcome<'a>, CallError<F>>
+    ensures decided { (world : World) → (session : ℕ) → (call : TheCall) → Answers (λ o. o) answer.entry (decision version_1 world session call) → Decides world session call result }
+    ensures cause { IfView result (λ f. ⊥) }
+{
+    match answer {
+        Ok(outcome) => Ok(outcome),
+        Err(refusal) => Err(CallError::Refused(refusal)),
     }
 }
 
@@ -228,7 +240,7 @@ fn decide_shown<'a, V: FileView>(
             logged_out(sessions, session)?;
             Ok(login(*uid, *gid, groups))
         }
-        Call::Umask { mask } => Ok(decide_umask(sessions, session, *mask)?),
+        Call::Umask { mask } => unviewed(decide_umask(sessions, session, *mask)),
         Call::Mkdir { path, mode } => decide_mkdir(view, sessions, session, path, *mode),
         Call::Chmod { path, mode } => decide_chmod(view, sessions, session, path, *mode),
         Call::Chown { path, uid, gid } => {
@@ -247,16 +259,16 @@ fn decide_shown<'a, V: FileView>(
         Call::Link { old, new } => decide_link(view, sessions, session, old, new),
         Call::Rename { old, new } => decide_rename(view, sessions, session, old, new),
         Call::Readdir { path } => decide_readdir(alloc, view, sessions, session, path),
-        Call::Logout => Ok(decide_logout(sessions, session)?),
+        Call::Logout => unviewed(decide_logout(sessions, session)),
         Call::Open { path, flags, mode } => {
             decide_open(view, sessions, session, path, *flags, *mode)
         }
-        Call::Close { fd } => Ok(decide_close(sessions, session, *fd)?),
+        Call::Close { fd } => unviewed(decide_close(sessions, session, *fd)),
         Call::Read { fd, count } => decide_read(alloc, view, sessions, session, *fd, *count),
         Call::Write { fd, bytes } => decide_write(view, sessions, session, *fd, bytes),
-        Call::Seek { fd, offset } => Ok(decide_seek(sessions, session, *fd, *offset)?),
-        Call::Ftruncate { fd, size } => Ok(decide_ftruncate(sessions, session, *fd, *size)?),
-        Call::Sync => Ok(decide_sync(sessions, session)?),
+        Call::Seek { fd, offset } => unviewed(decide_seek(sessions, session, *fd, *offset)),
+        Call::Ftruncate { fd, size } => unviewed(decide_ftruncate(sessions, session, *fd, *size)),
+        Call::Sync => unviewed(decide_sync(sessions, session)),
         Call::SnapCreate { name } => decide_snap_create(alloc, view, sessions, session, name),
         Call::SnapDelete { name } => decide_snap_delete(view, sessions, session, name),
         Call::SnapList => decide_snap_list(alloc, view, sessions, session),

@@ -15,6 +15,8 @@ use Rattle.sn_model.specs.Steps.{decision}
 use Rattle.sn_model.specs.World.{World}
 use Rattle.sn_desc.specs.InUse.{InUse, in_world}
 use Rattle.sn_core_decide.specs.Views.{seen_by}
+use Rattle.sn_core_files.specs.declared.fault.CallError.{CallError}
+use Rattle.sn_core_files.specs.declared.fault.CallError.TheVariants.{Refused, Memory, View}
 use Rattle.sn_core_files.specs.declared.fault.FileFault.{FileFault}
 use Rattle.sn_core_files.specs.declared.fault.FileFault.TheVariants as fault
 use Rattle.sn_core_files.specs.Decided.{Decides, HasNone, MayLack}
@@ -63,6 +65,13 @@ view_looked_up (fault.View f) P h = h
 pub view_later : {F : Type 0} (e : FileFault F) (P Q : F → Type 0) → ((f : F) → P f → Q f) → OfLookUp e P → OfView (error_of e) Q
 view_later fault.Memory P Q so h = tt
 view_later (fault.View f) P Q so h = so f h
+
+-- no fault of the view is one of any kind
+pub if_never : {X F : Type 0} {P : F → Type 0} (r : Result X (CallError F)) → IfView r (λ f. ⊥) → IfView r P
+if_never (Ok x) h = tt
+if_never (Err (Refused r)) h = tt
+if_never (Err Memory) h = tt
+if_never (Err (View f)) h = absurd h
 
 -- ---- a call whose numbers are any
 

@@ -140,6 +140,7 @@ pub fn decide_open<'a, V: FileView>(
 }
 
 /// What close comes to: the descriptor goes, and with the last one of a file without names the file (POSIX.1-2017 `close`).
+/// EBADF comes where the session has no such descriptor.
 #[tactic(auto, unfolding(sn_model::specs::FileCalls::close_outcome))]
 pub fn decide_close(sessions: &Sessions, session: u32, fd: u32) -> Result<Outcome<'static>, Refusal>
     ensures { (world : World) → Answers (λ o. o) result (decision version_1 (in_world (in_use_of sessions.now) world) session (call.Close fd)) }
@@ -191,7 +192,8 @@ fn reads<V: FileView>(
 }
 
 /// What read comes to: so many bytes from the descriptor's offset on, or as many as there are before the end of the file,
-/// which it moves past (POSIX.1-2017 `read`). The file's own rights aren't asked for again.
+/// which it moves past (POSIX.1-2017 `read`). The file's own rights aren't asked for again. EBADF comes where the session
+/// has no such descriptor, or has it not for reading.
 #[tactic(auto, unfolding(sn_model::specs::FileCalls::read_outcome))]
 pub fn decide_read<V: FileView>(
     alloc: Global,
@@ -231,8 +233,8 @@ fn write_offset<V: FileView>(view: &mut V, file: &OpenFile) -> Result<u64, V::Fa
 }
 
 /// What write comes to: the bytes stand from the descriptor's offset on, or behind the end of a file that is appended to,
-/// and the offset moves past them (POSIX.1-2017 `write`). No bytes change nothing. EFBIG comes where they would end behind
-/// the largest file, and then none is written.
+/// and the offset moves past them (POSIX.1-2017 `write`). No bytes change nothing. EBADF comes where the session has no such
+/// descriptor, or has it not for writing; EFBIG where they would end behind the largest file, and then none is written.
 #[tactic(auto, unfolding(sn_model::specs::FileCalls::write_outcome))]
 pub fn decide_write<'a, V: FileView>(
     view: &mut V,
@@ -262,7 +264,7 @@ pub fn decide_write<'a, V: FileView>(
 }
 
 /// What seek comes to: the descriptor's offset, counted from the beginning of the file, which may lie behind its end
-/// (POSIX.1-2017 `lseek`). EINVAL comes behind the largest file.
+/// (POSIX.1-2017 `lseek`). EBADF comes where the session has no such descriptor, EINVAL behind the largest file.
 #[tactic(auto, unfolding(sn_model::specs::FileCalls::seek_outcome))]
 pub fn decide_seek(
     sessions: &Sessions,
@@ -280,8 +282,8 @@ pub fn decide_seek(
     Ok(asks(Caller::Moves { fd, offset }, Reply::Number(offset)))
 }
 
-/// What ftruncate comes to: the file has this size, with zeros where it gets longer (POSIX.1-2017 `ftruncate`). EFBIG comes
-/// where it is larger than the largest file.
+/// What ftruncate comes to: the file has this size, with zeros where it gets longer (POSIX.1-2017 `ftruncate`). EBADF comes
+/// where the session has no such descriptor, or has it not for writing; EFBIG where the size is above the largest file's.
 #[tactic(auto, unfolding(sn_model::specs::FileCalls::ftruncate_outcome))]
 pub fn decide_ftruncate(
     sessions: &Sessions,

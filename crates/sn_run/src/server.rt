@@ -76,7 +76,7 @@ impl<D: Device> Server<D> {
         }
     }
 
-    /// Answers a call.
+    /// Answers a call, with ESTOPPED where nothing is mounted.
     pub fn call(&mut self, session: u32, call: &Call) -> Reply
         requires { IsServer self.old }
         ensures answered { IsTrue D.tells_bytes → Answers (event.Call session call.now) result
@@ -89,7 +89,7 @@ impl<D: Device> Server<D> {
         }
     }
 
-    /// Goes one step on with a consistency point.
+    /// Goes one step on with a consistency point; it is ESTOPPED where nothing is mounted.
     pub fn step(&mut self) -> Reply
         requires { IsServer self.old }
         ensures answered { IsTrue D.tells_bytes → Answers event.Step result

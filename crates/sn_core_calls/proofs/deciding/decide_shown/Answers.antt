@@ -1,6 +1,5 @@
 use Rattle.std.proofs.Common.{refl}
-use Rattle.std.proofs.lemmas.Result.{err_from_is_err_and}
-use Rattle.sn_core_files.proofs.DecidedLemmas.{if_any}
+use Rattle.sn_core_files.proofs.DecidedLemmas.{if_any, if_never}
 use Rattle.sn_core_calls.proofs.deciding.decide_shown.Goals as goal
 
 pub returns-in-Mkdir : goal.returns-in-Mkdir
@@ -153,137 +152,65 @@ returns-in-Write g c = record {
   numbers = rw c.in-Write.is (if_any c.decide_write.result);
 }
 
-pub returns-in_ok-decide_umask-in-Umask : goal.returns-in_ok-decide_umask-in-Umask
-returns-in_ok-decide_umask-in-Umask g c = record {
+pub returns-in-Umask : goal.returns-in-Umask
+returns-in-Umask g c = record {
   kept = c.requires;
   follows = g.met.V.TreeView.follows_itself _;
   same = λ told. refl;
-  decided = λ told world shows. rw c.in-Umask.is (c.in_ok-decide_umask-in-Umask.ensures world);
-  cause = tt;
-  numbers = rw c.in-Umask.is tt;
+  decided = λ told world shows. rw c.in-Umask.is (c.unviewed-in-Umask.ensures.decided _ _ _ (c.decide_umask.ensures world));
+  cause = if_never c.unviewed-in-Umask.result c.unviewed-in-Umask.ensures.cause;
+  numbers = rw c.in-Umask.is (if_any c.unviewed-in-Umask.result);
 }
 
-pub returns-in_err-decide_umask-in-Umask : goal.returns-in_err-decide_umask-in-Umask
-returns-in_err-decide_umask-in-Umask g c =
-    let p = err_from_is_err_and c.from_residual-in_err-decide_umask-in-Umask.result c.from_residual-in_err-decide_umask-in-Umask.ensures.1 in
-    record {
-      kept = c.requires;
-      follows = g.met.V.TreeView.follows_itself _;
-      same = λ told. refl;
-      decided = λ told world shows. rw (p.1, p.2, c.in-Umask.is) (c.in_err-decide_umask-in-Umask.ensures world);
-      cause = rw (p.1, p.2) tt;
-      numbers = rw p.1 tt;
-    }
-
-pub returns-in_ok-decide_logout-in-Logout : goal.returns-in_ok-decide_logout-in-Logout
-returns-in_ok-decide_logout-in-Logout g c = record {
+pub returns-in-Logout : goal.returns-in-Logout
+returns-in-Logout g c = record {
   kept = c.requires;
   follows = g.met.V.TreeView.follows_itself _;
   same = λ told. refl;
-  decided = λ told world shows. rw c.in-Logout.is (c.in_ok-decide_logout-in-Logout.ensures world);
-  cause = tt;
-  numbers = rw c.in-Logout.is tt;
+  decided = λ told world shows. rw c.in-Logout.is (c.unviewed-in-Logout.ensures.decided _ _ _ (c.decide_logout.ensures world));
+  cause = if_never c.unviewed-in-Logout.result c.unviewed-in-Logout.ensures.cause;
+  numbers = rw c.in-Logout.is (if_any c.unviewed-in-Logout.result);
 }
 
-pub returns-in_err-decide_logout-in-Logout : goal.returns-in_err-decide_logout-in-Logout
-returns-in_err-decide_logout-in-Logout g c =
-    let p = err_from_is_err_and c.from_residual-in_err-decide_logout-in-Logout.result c.from_residual-in_err-decide_logout-in-Logout.ensures.1 in
-    record {
-      kept = c.requires;
-      follows = g.met.V.TreeView.follows_itself _;
-      same = λ told. refl;
-      decided = λ told world shows. rw (p.1, p.2, c.in-Logout.is) (c.in_err-decide_logout-in-Logout.ensures world);
-      cause = rw (p.1, p.2) tt;
-      numbers = rw p.1 tt;
-    }
-
-pub returns-in_ok-decide_close-in-Close : goal.returns-in_ok-decide_close-in-Close
-returns-in_ok-decide_close-in-Close g c = record {
+pub returns-in-Close : goal.returns-in-Close
+returns-in-Close g c = record {
   kept = c.requires;
   follows = g.met.V.TreeView.follows_itself _;
   same = λ told. refl;
-  decided = λ told world shows. rw c.in-Close.is (c.in_ok-decide_close-in-Close.ensures world);
-  cause = tt;
-  numbers = rw c.in-Close.is tt;
+  decided = λ told world shows. rw c.in-Close.is (c.unviewed-in-Close.ensures.decided _ _ _ (c.decide_close.ensures world));
+  cause = if_never c.unviewed-in-Close.result c.unviewed-in-Close.ensures.cause;
+  numbers = rw c.in-Close.is (if_any c.unviewed-in-Close.result);
 }
 
-pub returns-in_err-decide_close-in-Close : goal.returns-in_err-decide_close-in-Close
-returns-in_err-decide_close-in-Close g c =
-    let p = err_from_is_err_and c.from_residual-in_err-decide_close-in-Close.result c.from_residual-in_err-decide_close-in-Close.ensures.1 in
-    record {
-      kept = c.requires;
-      follows = g.met.V.TreeView.follows_itself _;
-      same = λ told. refl;
-      decided = λ told world shows. rw (p.1, p.2, c.in-Close.is) (c.in_err-decide_close-in-Close.ensures world);
-      cause = rw (p.1, p.2) tt;
-      numbers = rw p.1 tt;
-    }
-
-pub returns-in_ok-decide_seek-in-Seek : goal.returns-in_ok-decide_seek-in-Seek
-returns-in_ok-decide_seek-in-Seek g c = record {
+pub returns-in-Seek : goal.returns-in-Seek
+returns-in-Seek g c = record {
   kept = c.requires;
   follows = g.met.V.TreeView.follows_itself _;
   same = λ told. refl;
-  decided = λ told world shows. rw c.in-Seek.is (c.in_ok-decide_seek-in-Seek.ensures world);
-  cause = tt;
-  numbers = rw c.in-Seek.is tt;
+  decided = λ told world shows. rw c.in-Seek.is (c.unviewed-in-Seek.ensures.decided _ _ _ (c.decide_seek.ensures world));
+  cause = if_never c.unviewed-in-Seek.result c.unviewed-in-Seek.ensures.cause;
+  numbers = rw c.in-Seek.is (if_any c.unviewed-in-Seek.result);
 }
 
-pub returns-in_err-decide_seek-in-Seek : goal.returns-in_err-decide_seek-in-Seek
-returns-in_err-decide_seek-in-Seek g c =
-    let p = err_from_is_err_and c.from_residual-in_err-decide_seek-in-Seek.result c.from_residual-in_err-decide_seek-in-Seek.ensures.1 in
-    record {
-      kept = c.requires;
-      follows = g.met.V.TreeView.follows_itself _;
-      same = λ told. refl;
-      decided = λ told world shows. rw (p.1, p.2, c.in-Seek.is) (c.in_err-decide_seek-in-Seek.ensures world);
-      cause = rw (p.1, p.2) tt;
-      numbers = rw p.1 tt;
-    }
-
-pub returns-in_ok-decide_ftruncate-in-Ftruncate : goal.returns-in_ok-decide_ftruncate-in-Ftruncate
-returns-in_ok-decide_ftruncate-in-Ftruncate g c = record {
+pub returns-in-Ftruncate : goal.returns-in-Ftruncate
+returns-in-Ftruncate g c = record {
   kept = c.requires;
   follows = g.met.V.TreeView.follows_itself _;
   same = λ told. refl;
-  decided = λ told world shows. rw c.in-Ftruncate.is (c.in_ok-decide_ftruncate-in-Ftruncate.ensures world);
-  cause = tt;
-  numbers = rw c.in-Ftruncate.is tt;
+  decided = λ told world shows. rw c.in-Ftruncate.is (c.unviewed-in-Ftruncate.ensures.decided _ _ _ (c.decide_ftruncate.ensures world));
+  cause = if_never c.unviewed-in-Ftruncate.result c.unviewed-in-Ftruncate.ensures.cause;
+  numbers = rw c.in-Ftruncate.is (if_any c.unviewed-in-Ftruncate.result);
 }
 
-pub returns-in_err-decide_ftruncate-in-Ftruncate : goal.returns-in_err-decide_ftruncate-in-Ftruncate
-returns-in_err-decide_ftruncate-in-Ftruncate g c =
-    let p = err_from_is_err_and c.from_residual-in_err-decide_ftruncate-in-Ftruncate.result c.from_residual-in_err-decide_ftruncate-in-Ftruncate.ensures.1 in
-    record {
-      kept = c.requires;
-      follows = g.met.V.TreeView.follows_itself _;
-      same = λ told. refl;
-      decided = λ told world shows. rw (p.1, p.2, c.in-Ftruncate.is) (c.in_err-decide_ftruncate-in-Ftruncate.ensures world);
-      cause = rw (p.1, p.2) tt;
-      numbers = rw p.1 tt;
-    }
-
-pub returns-in_ok-decide_sync-in-Sync : goal.returns-in_ok-decide_sync-in-Sync
-returns-in_ok-decide_sync-in-Sync g c = record {
+pub returns-in-Sync : goal.returns-in-Sync
+returns-in-Sync g c = record {
   kept = c.requires;
   follows = g.met.V.TreeView.follows_itself _;
   same = λ told. refl;
-  decided = λ told world shows. rw c.in-Sync.is (c.in_ok-decide_sync-in-Sync.ensures world);
-  cause = tt;
-  numbers = rw c.in-Sync.is tt;
+  decided = λ told world shows. rw c.in-Sync.is (c.unviewed-in-Sync.ensures.decided _ _ _ (c.decide_sync.ensures world));
+  cause = if_never c.unviewed-in-Sync.result c.unviewed-in-Sync.ensures.cause;
+  numbers = rw c.in-Sync.is (if_any c.unviewed-in-Sync.result);
 }
-
-pub returns-in_err-decide_sync-in-Sync : goal.returns-in_err-decide_sync-in-Sync
-returns-in_err-decide_sync-in-Sync g c =
-    let p = err_from_is_err_and c.from_residual-in_err-decide_sync-in-Sync.result c.from_residual-in_err-decide_sync-in-Sync.ensures.1 in
-    record {
-      kept = c.requires;
-      follows = g.met.V.TreeView.follows_itself _;
-      same = λ told. refl;
-      decided = λ told world shows. rw (p.1, p.2, c.in-Sync.is) (c.in_err-decide_sync-in-Sync.ensures world);
-      cause = rw (p.1, p.2) tt;
-      numbers = rw p.1 tt;
-    }
 
 pub returns-in-SnapCreate : goal.returns-in-SnapCreate
 returns-in-SnapCreate g c = record {

@@ -1,4 +1,4 @@
-use Rattle.std.proofs.Common.{sym, subst, true}
+use Rattle.std.proofs.Common.{sym, subst}
 use Rattle.sn_model.specs.declared.call.Event.TheVariants.{Call}
 use Rattle.sn_model.specs.declared.reply.Errno.TheVariants.{Estopped}
 use Rattle.sn_model.specs.declared.reply.Reply.{Reply}
