@@ -5,9 +5,10 @@
 
 Each file there is an edit as those in crates/CRATE/must-fail: a line `file:`, then pairs of lines `old:` and `new:`.
 Edits of different functions are made in one copy of the repository, which is checked once; an edit counts as refused
-where the function that it changes has an error of its own. One whose function only waits for another is tried again
-by itself, where any error counts, and so is an edit of a definition. A line is printed for each edit that isn't
-refused, and one for each crate; the status is 1 where an edit was let through or doesn't fit its file.
+where the function that it changes has an error of its own. Those whose functions only wait for others are tried again
+without those that were refused; what is left then is tried by itself, where any error counts, and so is an edit of a
+definition. A line is printed for each edit that isn't refused, and one for each crate; the status is 1 where an edit was
+let through or doesn't fit its file.
 
 Tried are the crates that are named, or all: those that a change touched before it lands, and all of them where a
 contract of sn_model, sn_device or sn_walk changed. It needs the command rt on the path, and takes less time where
@@ -208,6 +209,18 @@ def try_together(copy, edits):
     return left
 
 
+def try_in_rounds(copy, edits):
+    """Tries edits of functions together, those of which nothing was told again without the others, until a round tells
+    nothing more; those that are left."""
+    left = edits
+    while len(left) > 1:
+        untold = try_together(copy, left)
+        if len(untold) == len(left):
+            break
+        left = untold
+    return left
+
+
 def try_alone(copy, edit):
     """Why an edit isn't refused where it is tried by itself, or None where it is."""
     said, output = copy.check([edit])
@@ -223,7 +236,7 @@ def try_crate(crate):
     with tempfile.TemporaryDirectory() as folder:
         copy = Copy(crate, folder)
         alone = [edit for edit in edits if not edit.file.startswith("src/")]
-        alone += try_together(copy, [edit for edit in edits if edit not in alone])
+        alone += try_in_rounds(copy, [edit for edit in edits if edit not in alone])
         for edit in alone:
             reason = try_alone(copy, edit)
             if reason:
