@@ -67,11 +67,11 @@ view_later fault.Memory P Q so h = tt
 view_later (fault.View f) P Q so h = so f h
 
 -- no fault of the view is one of any kind
-pub if_never : {X F : Type 0} {P : F → Type 0} (r : Result X (CallError F)) → IfView r (λ f. ⊥) → IfView r P
-if_never (Ok x) h = tt
-if_never (Err (Refused r)) h = tt
-if_never (Err Memory) h = tt
-if_never (Err (View f)) h = absurd h
+pub if_never : {X F : Type 0} (P : F → Type 0) (r : Result X (CallError F)) → IfView r (λ f. ⊥) → IfView r P
+if_never P (Ok x) h = tt
+if_never P (Err (Refused r)) h = tt
+if_never P (Err Memory) h = tt
+if_never P (Err (View f)) h = absurd h
 
 -- ---- a call whose numbers are any
 

@@ -158,7 +158,7 @@ returns-in-Umask g c = record {
   follows = g.met.V.TreeView.follows_itself _;
   same = λ told. refl;
   decided = λ told world shows. rw c.in-Umask.is (c.unviewed-in-Umask.ensures.decided _ _ _ (c.decide_umask.ensures world));
-  cause = if_never c.unviewed-in-Umask.result c.unviewed-in-Umask.ensures.cause;
+  cause = if_never _ c.unviewed-in-Umask.result c.unviewed-in-Umask.ensures.cause;
   numbers = rw c.in-Umask.is (if_any c.unviewed-in-Umask.result);
 }
 
@@ -168,7 +168,7 @@ returns-in-Logout g c = record {
   follows = g.met.V.TreeView.follows_itself _;
   same = λ told. refl;
   decided = λ told world shows. rw c.in-Logout.is (c.unviewed-in-Logout.ensures.decided _ _ _ (c.decide_logout.ensures world));
-  cause = if_never c.unviewed-in-Logout.result c.unviewed-in-Logout.ensures.cause;
+  cause = if_never _ c.unviewed-in-Logout.result c.unviewed-in-Logout.ensures.cause;
   numbers = rw c.in-Logout.is (if_any c.unviewed-in-Logout.result);
 }
 
@@ -178,7 +178,7 @@ returns-in-Close g c = record {
   follows = g.met.V.TreeView.follows_itself _;
   same = λ told. refl;
   decided = λ told world shows. rw c.in-Close.is (c.unviewed-in-Close.ensures.decided _ _ _ (c.decide_close.ensures world));
-  cause = if_never c.unviewed-in-Close.result c.unviewed-in-Close.ensures.cause;
+  cause = if_never _ c.unviewed-in-Close.result c.unviewed-in-Close.ensures.cause;
   numbers = rw c.in-Close.is (if_any c.unviewed-in-Close.result);
 }
 
@@ -188,7 +188,7 @@ returns-in-Seek g c = record {
   follows = g.met.V.TreeView.follows_itself _;
   same = λ told. refl;
   decided = λ told world shows. rw c.in-Seek.is (c.unviewed-in-Seek.ensures.decided _ _ _ (c.decide_seek.ensures world));
-  cause = if_never c.unviewed-in-Seek.result c.unviewed-in-Seek.ensures.cause;
+  cause = if_never _ c.unviewed-in-Seek.result c.unviewed-in-Seek.ensures.cause;
   numbers = rw c.in-Seek.is (if_any c.unviewed-in-Seek.result);
 }
 
@@ -198,7 +198,7 @@ returns-in-Ftruncate g c = record {
   follows = g.met.V.TreeView.follows_itself _;
   same = λ told. refl;
   decided = λ told world shows. rw c.in-Ftruncate.is (c.unviewed-in-Ftruncate.ensures.decided _ _ _ (c.decide_ftruncate.ensures world));
-  cause = if_never c.unviewed-in-Ftruncate.result c.unviewed-in-Ftruncate.ensures.cause;
+  cause = if_never _ c.unviewed-in-Ftruncate.result c.unviewed-in-Ftruncate.ensures.cause;
   numbers = rw c.in-Ftruncate.is (if_any c.unviewed-in-Ftruncate.result);
 }
 
@@ -208,7 +208,7 @@ returns-in-Sync g c = record {
   follows = g.met.V.TreeView.follows_itself _;
   same = λ told. refl;
   decided = λ told world shows. rw c.in-Sync.is (c.unviewed-in-Sync.ensures.decided _ _ _ (c.decide_sync.ensures world));
-  cause = if_never c.unviewed-in-Sync.result c.unviewed-in-Sync.ensures.cause;
+  cause = if_never _ c.unviewed-in-Sync.result c.unviewed-in-Sync.ensures.cause;
   numbers = rw c.in-Sync.is (if_any c.unviewed-in-Sync.result);
 }
 
