@@ -1,4 +1,7 @@
 use Rattle.std.proofs.Common.{refl}
+use Rattle.sn_model.specs.declared.call.Call.TheVariants as call
+use Rattle.sn_desc.specs.InUse.{in_world}
+use Rattle.sn_desc.specs.Sessions.{in_use_of}
 use Rattle.sn_core_files.proofs.DecidedLemmas.{if_any, if_never}
 use Rattle.sn_core_calls.proofs.deciding.decide_shown.Goals as goal
 
@@ -157,9 +160,9 @@ returns-in-Umask g c = record {
   kept = c.requires;
   follows = g.met.V.TreeView.follows_itself _;
   same = λ told. refl;
-  decided = λ told world shows. rw c.in-Umask.is (c.unviewed-in-Umask.ensures.decided _ _ _ (c.decide_umask.ensures world));
-  cause = if_never _ c.unviewed-in-Umask.result c.unviewed-in-Umask.ensures.cause;
-  numbers = rw c.in-Umask.is (if_any c.unviewed-in-Umask.result);
+  decided = λ told world shows. rw c.in-Umask.is (c.unviewed.ensures.decided (in_world (in_use_of c.args.sessions.now) world) c.args.session (call.Umask c.in-Umask.mask) (c.decide_umask.ensures world));
+  cause = if_never _ c.unviewed.result c.unviewed.ensures.cause;
+  numbers = rw c.in-Umask.is (if_any c.unviewed.result);
 }
 
 pub returns-in-Logout : goal.returns-in-Logout
@@ -167,7 +170,7 @@ returns-in-Logout g c = record {
   kept = c.requires;
   follows = g.met.V.TreeView.follows_itself _;
   same = λ told. refl;
-  decided = λ told world shows. rw c.in-Logout.is (c.unviewed-in-Logout.ensures.decided _ _ _ (c.decide_logout.ensures world));
+  decided = λ told world shows. rw c.in-Logout.is (c.unviewed-in-Logout.ensures.decided (in_world (in_use_of c.args.sessions.now) world) c.args.session call.Logout (c.decide_logout.ensures world));
   cause = if_never _ c.unviewed-in-Logout.result c.unviewed-in-Logout.ensures.cause;
   numbers = rw c.in-Logout.is (if_any c.unviewed-in-Logout.result);
 }
@@ -177,7 +180,7 @@ returns-in-Close g c = record {
   kept = c.requires;
   follows = g.met.V.TreeView.follows_itself _;
   same = λ told. refl;
-  decided = λ told world shows. rw c.in-Close.is (c.unviewed-in-Close.ensures.decided _ _ _ (c.decide_close.ensures world));
+  decided = λ told world shows. rw c.in-Close.is (c.unviewed-in-Close.ensures.decided (in_world (in_use_of c.args.sessions.now) world) c.args.session (call.Close c.in-Close.fd) (c.decide_close.ensures world));
   cause = if_never _ c.unviewed-in-Close.result c.unviewed-in-Close.ensures.cause;
   numbers = rw c.in-Close.is (if_any c.unviewed-in-Close.result);
 }
@@ -187,7 +190,7 @@ returns-in-Seek g c = record {
   kept = c.requires;
   follows = g.met.V.TreeView.follows_itself _;
   same = λ told. refl;
-  decided = λ told world shows. rw c.in-Seek.is (c.unviewed-in-Seek.ensures.decided _ _ _ (c.decide_seek.ensures world));
+  decided = λ told world shows. rw c.in-Seek.is (c.unviewed-in-Seek.ensures.decided (in_world (in_use_of c.args.sessions.now) world) c.args.session (call.Seek c.in-Seek.fd c.in-Seek.offset) (c.decide_seek.ensures world));
   cause = if_never _ c.unviewed-in-Seek.result c.unviewed-in-Seek.ensures.cause;
   numbers = rw c.in-Seek.is (if_any c.unviewed-in-Seek.result);
 }
@@ -197,7 +200,7 @@ returns-in-Ftruncate g c = record {
   kept = c.requires;
   follows = g.met.V.TreeView.follows_itself _;
   same = λ told. refl;
-  decided = λ told world shows. rw c.in-Ftruncate.is (c.unviewed-in-Ftruncate.ensures.decided _ _ _ (c.decide_ftruncate.ensures world));
+  decided = λ told world shows. rw c.in-Ftruncate.is (c.unviewed-in-Ftruncate.ensures.decided (in_world (in_use_of c.args.sessions.now) world) c.args.session (call.Ftruncate c.in-Ftruncate.fd c.in-Ftruncate.size) (c.decide_ftruncate.ensures world));
   cause = if_never _ c.unviewed-in-Ftruncate.result c.unviewed-in-Ftruncate.ensures.cause;
   numbers = rw c.in-Ftruncate.is (if_any c.unviewed-in-Ftruncate.result);
 }
@@ -207,7 +210,7 @@ returns-in-Sync g c = record {
   kept = c.requires;
   follows = g.met.V.TreeView.follows_itself _;
   same = λ told. refl;
-  decided = λ told world shows. rw c.in-Sync.is (c.unviewed-in-Sync.ensures.decided _ _ _ (c.decide_sync.ensures world));
+  decided = λ told world shows. rw c.in-Sync.is (c.unviewed-in-Sync.ensures.decided (in_world (in_use_of c.args.sessions.now) world) c.args.session call.Sync (c.decide_sync.ensures world));
   cause = if_never _ c.unviewed-in-Sync.result c.unviewed-in-Sync.ensures.cause;
   numbers = rw c.in-Sync.is (if_any c.unviewed-in-Sync.result);
 }
