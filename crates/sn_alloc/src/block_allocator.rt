@@ -1,28 +1,13 @@
-ghost use Rattle.std.specs.Prelude.{◌≡◌, ◌+◌, ◌<◌, ◌≤◌, ◌↔◌, length, codes, All, Some, IsOk, IfOk, OnOk, OnErr};
+ghost use Rattle.std.specs.Prelude.{◌≡◌, ◌+◌, ◌<◌, ◌≤◌, ◌↔◌, length, All, IsOk, IfOk, OnOk, OnErr};
 ghost use Rattle.std.specs.List.Sorted.{IsStrictlyIncreasing};
 ghost use Rattle.std.specs.Result.{result_ok};
 ghost use Rattle.sn_map.specs.Free.{next_free};
 ghost use Rattle.sn_alloc.specs.Taking.{Taking, nothing_taken, after_take, after_full, IsFreeData, IsLeft, NoneLeft, free_data};
 
+use crate::Full;
 use sn_map::Map;
 use std::alloc::{AllocError, Global};
-use std::error::Error;
-use std::fmt;
 use std::marker::Model;
-
-/// No block is left.
-#[derive(Clone, Copy, Debug, PartialEq, Eq)]
-pub struct Full;
-
-impl fmt::Display for Full {
-    ghost output = { λ _. Some (codes "no block is left") };
-
-    fn fmt<W: fmt::Write>(&self, f: &mut fmt::Formatter<W>) -> fmt::Result {
-        f.write_str("no block is left")
-    }
-}
-
-impl Error for Full {}
 
 /// Takes free blocks of the data area of a map, in the order of the blocks.
 #[derive(Drop)]

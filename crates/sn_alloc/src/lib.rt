@@ -17,5 +17,7 @@
 #![tactic(auto)]
 
 mod block_allocator;
+mod fault;
 
-pub use block_allocator::{BlockAllocator, Full};
+pub use block_allocator::BlockAllocator;
+pub use fault::Full;

@@ -46,15 +46,6 @@ later-calls w y r old new counts = record { sectors = counts.sectors; failures =
 later-failure : (s : Status) → IsLater s (one_failure s)
 later-failure s = record { sectors = refl; failures = omega arith; writes = omega arith; syncs = omega arith; spent = λ was. was }
 
-pub later-read : {T : Type 0} (r : Result T ReadFault) (old new : Status) → CountsRead r old new → IsLater old new
-later-read (Ok x) old new counts = later-same old new counts.done
-later-read (Err Memory) old new counts = later-same old new (counts.memory refl)
-later-read (Err Device) old new counts = from (has_ended old) (counts.device refl)
-  where
-    from : (ended : Bool) → MatchBool ended (new ≡ old) (new ≡ one_failure old) → IsLater old new
-    from true same = later-same old new same
-    from false failed = subst (IsLater old) (sym failed) (later-failure old)
-
 -- what has come to its end stays there
 still_top : (a b : ℕ) → nat_le (2 ^ 64 - 1) a ≡ true → a ≤ b → nat_le (2 ^ 64 - 1) b ≡ true
 still_top a b is more = le-leb (2 ^ 64 - 1) b (omega (arith, leb-true (2 ^ 64 - 1) a is, more))

@@ -10,6 +10,8 @@
 //! test between, and converts and tests them after: `proofs/Records.antt` then says once for all of
 //! them that what was read is what is spelled.
 //!
+//! What the sources leave open is decided in `docs/DECISIONS.md`, under "The codecs".
+//!
 //! ```text
 //! let mut reader = Reader::new(&block);
 //! let generation = reader.u64();

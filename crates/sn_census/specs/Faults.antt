@@ -1,8 +1,8 @@
 -- What the census tells.
 use Rattle.std.specs.Prelude.{ℕ}
 use Rattle.sn_layout.specs.declared.tree.BlockTree.{BlockTree}
-use Rattle.sn_model.specs.declared.mount.Damage.{Damage}
-use Rattle.sn_model.specs.declared.mount.Damage.TheVariants.{Links}
+use Rattle.sn_model.specs.declared.fault.Damage.{Damage}
+use Rattle.sn_model.specs.declared.fault.Damage.TheVariants.{Links}
 use Rattle.sn_ondisk.specs.Trees.{Store}
 use Rattle.sn_sound.specs.Faults.{IsLinkFault}
 

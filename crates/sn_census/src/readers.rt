@@ -4,7 +4,7 @@ ghost use Rattle.std.specs.Prelude.{◌≡◌, ◌/◌, min, IsTrue, IsSome, IfO
 ghost use Rattle.sn_device.specs.Disk.{reads};
 ghost use Rattle.sn_block.specs.Lending.{device_of, fetched_number, fetched_bytes};
 ghost use Rattle.sn_layout_node.specs.Directory.{IsDirectoryBlock};
-ghost use Rattle.sn_model.specs.declared.mount.Damage.TheVariants.{Links, Misspelt};
+ghost use Rattle.sn_model.specs.declared.fault.Damage.TheVariants.{Links, Misspelt};
 ghost use Rattle.sn_ondisk.specs.Trees.{store_of, data_block};
 ghost use Rattle.sn_image.specs.Inodes.{inode_at};
 ghost use Rattle.sn_image.specs.Names.{names_in};

@@ -8,7 +8,7 @@ use Rattle.sn_block.proofs.CountLemmas.{later-same}
 use Rattle.sn_marks.specs.Fault.{CountsCheck, Tells}
 use Rattle.sn_marks.specs.declared.fault.CheckFault.{CheckFault}
 use Rattle.sn_marks.specs.declared.fault.CheckFault.TheVariants as of_check
-use Rattle.sn_model.specs.declared.mount.Damage.{Damage}
+use Rattle.sn_model.specs.declared.fault.Damage.{Damage}
 use Rattle.sn_examine.specs.Failing.{IsSoOf, WritesNothing, read_fault}
 use Rattle.sn_examine.proofs.ReplayLemmas.{read_failed, reads_only}
 use Rattle.sn_check.specs.Faults.{IsDamageOf, fault_of_check}

@@ -5,10 +5,10 @@ use Rattle.sn_device.specs.declared.status.Status.{Status}
 use Rattle.sn_layout.specs.declared.geometry.Slot.{Slot}
 use Rattle.sn_layout.specs.declared.root.RootBody.{RootBody}
 use Rattle.sn_image.specs.Sound.{IsSound}
-use Rattle.sn_model.specs.declared.mount.Damage.{Damage}
-use Rattle.sn_model.specs.declared.mount.Damage.TheVariants as damage
-use Rattle.sn_model.specs.declared.mount.MountFault.{MountFault}
-use Rattle.sn_model.specs.declared.mount.MountFault.TheVariants as fault
+use Rattle.sn_model.specs.declared.fault.Damage.{Damage}
+use Rattle.sn_model.specs.declared.fault.Damage.TheVariants as damage
+use Rattle.sn_model.specs.declared.fault.MountFault.{MountFault}
+use Rattle.sn_model.specs.declared.fault.MountFault.TheVariants as fault
 use Rattle.sn_ondisk.specs.MapCopy.{map_word}
 use Rattle.sn_ondisk.specs.Roots.{IsNewest, body_block}
 use Rattle.sn_ondisk.specs.Trees.{store_of}

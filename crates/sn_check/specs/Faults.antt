@@ -3,9 +3,9 @@ use Rattle.std.specs.Prelude.{ℕ}
 use Rattle.sn_examine.specs.Failing.{read_fault}
 use Rattle.sn_marks.specs.declared.fault.CheckFault.{CheckFault}
 use Rattle.sn_marks.specs.declared.fault.CheckFault.TheVariants as of_check
-use Rattle.sn_model.specs.declared.mount.Damage.{Damage}
-use Rattle.sn_model.specs.declared.mount.MountFault.{MountFault}
-use Rattle.sn_model.specs.declared.mount.MountFault.TheVariants.{NotFormatted, Version, NoRoot, Damaged, Memory, Device}
+use Rattle.sn_model.specs.declared.fault.Damage.{Damage}
+use Rattle.sn_model.specs.declared.fault.MountFault.{MountFault}
+use Rattle.sn_model.specs.declared.fault.MountFault.TheVariants.{NotFormatted, Version, NoRoot, Damaged, Memory, Device}
 
 abbrev pub fault_of_check : CheckFault → MountFault
 fault_of_check (of_check.Damaged damage block) = Damaged damage block

@@ -1,8 +1,8 @@
 -- When an answer of a check is right.
 use Rattle.std.specs.Prelude.{ℕ, List, ◌++◌, Result, Ok, Err, codes, decimal}
 use Rattle.sn_device.specs.Sectors.{Contents}
-use Rattle.sn_model.specs.declared.mount.MountFault.{MountFault}
-use Rattle.sn_model.specs.declared.mount.MountFault.TheVariants.{NotFormatted, Version, NoRoot, Damaged, Memory, Device}
+use Rattle.sn_model.specs.declared.fault.MountFault.{MountFault}
+use Rattle.sn_model.specs.declared.fault.MountFault.TheVariants.{NotFormatted, Version, NoRoot, Damaged, Memory, Device}
 use Rattle.sn_model.specs.Texts.{damage_text}
 use Rattle.sn_sound.specs.Verdicts.{HasNoVerdict, IsClean, IsFaulty}
 use Rattle.sn_check.specs.declared.verdict.Verdict.{Verdict}

@@ -19,8 +19,8 @@ use Rattle.sn_model.specs.NameTree.{IsTree}
 use Rattle.sn_model.specs.Tree.{Tree}
 use Rattle.sn_model.specs.declared.change.Change.{Change}
 use Rattle.sn_model.specs.declared.change.Change.TheVariants.{Make, AddLink, Remove, Rename, Write, SetSize, SetAttributes}
-use Rattle.sn_model.specs.declared.mount.MountFault.{MountFault}
-use Rattle.sn_model.specs.declared.mount.MountFault.TheVariants as fault
+use Rattle.sn_model.specs.declared.fault.MountFault.{MountFault}
+use Rattle.sn_model.specs.declared.fault.MountFault.TheVariants as fault
 use Rattle.sn_numbers.specs.Numbers.{kept_after, since_after}
 use Rattle.sn_overlay.specs.Merges.{merge}
 use Rattle.sn_overlay_change.specs.ChangeLayers.{layer_of_change}
@@ -36,29 +36,7 @@ looked_only told old new (Some (Read Device)) fails = fails_reading (has_ended o
 looked_only told old new (Some (Read Memory)) same = idle old new same
 looked_only told old new (Some (Damaged block)) fails = idle old new fails.0
 
--- the device is told to have failed where it has
-pub look_failed : (told : Bool) (old new : Status) (fault : TreeFault) (body : ℕ) → Stands told old new None (Some fault) → IsSoOf (fault_of_tree fault body) old new
-look_failed told old new (Read Device) body fails = failed_read (has_ended old) old new refl fails
-look_failed told old new (Read Memory) body same = ap (λ (s : Status). s.failures) same
-look_failed told old new (Damaged block) body fails = ap (λ (s : Status). s.failures) fails.0
-
--- and where it tells its bytes, they are no damage
-pub look_undamaged : (told : Bool) (old new : Status) (fault : TreeFault) (body : ℕ) → IsTrue told → Stands told old new None (Some fault) → IsNoDamage (fault_of_tree fault body)
-look_undamaged told old new (Read Device) body is fails = inr refl
-look_undamaged told old new (Read Memory) body is same = inl refl
-look_undamaged told old new (Damaged block) body is fails = absurd (fails.1 is)
-
 -- ---- one change
-
--- from what shows the same and has changed the same
-pub tries_from : (charge : Option ℕ) (first live : Option LiveTree) (below : Tree) (change : Change) (after : Option LiveTree) → tree_of first below ≡ tree_of live below → changes_if first ≡ changes_if live
-    → TriesChange charge first below change after → TriesChange charge live below change after
-tries_from None first live below change after shows changed none = subst (λ (t : Tree). apply version_1 change t ≡ None) shows none
-tries_from (Some charge) first live below change after shows changed made = record {
-  applied = subst (λ (t : Tree). apply version_1 change t ≡ Some (tree_of after below)) shows made.applied;
-  charged = made.charged ∙ ap (λ (t : Tree). charge_for version_1 t change) shows;
-  merged = made.merged ∙ (λ i. merge (changed i) (layer_of_change (shows i) change));
-}
 
 pub whole_of : (live : Option LiveTree) (below : Tree) → IsTree version_1 below → IsTried live below → IsTree version_1 (tree_of live below)
 whole_of None below whole is = whole

@@ -9,7 +9,7 @@ use Rattle.sn_layout.specs.declared.geometry.Area.TheVariants.{MapCopy}
 use Rattle.sn_layout.specs.Bytes.{AreNumbers, numbers_bytes}
 use Rattle.sn_layout.specs.declared.geometry.Slot.TheVariants.{A, B}
 use Rattle.sn_layout.specs.Geometry.{end_of, start_of, map_blocks}
-use Rattle.sn_model.specs.declared.mount.Damage.{Damage}
+use Rattle.sn_model.specs.declared.fault.Damage.{Damage}
 use Rattle.sn_ondisk.specs.Blocks.{block_at, bytes_at, numbers_in}
 use Rattle.sn_ondisk.specs.MapCopy.{map_bytes, map_word, map_words}
 use Rattle.sn_ondisk.proofs.BlockLemmas.{bytes_at-more, length-bytes_at, length-numbers_in, numbers_in-numbers_bytes}

@@ -3,8 +3,8 @@ use Rattle.std.specs.Prelude.{◌≡◌, ◌≢◌, ℕ, ◌+◌, ◌*◌, ◌<�
 use Rattle.sn_device.specs.Sectors.{Contents}
 use Rattle.sn_layout.specs.declared.geometry.Slot.{Slot}
 use Rattle.sn_layout.specs.Geometry.{map_blocks}
-use Rattle.sn_model.specs.declared.mount.Damage.{Damage}
-use Rattle.sn_model.specs.declared.mount.Damage.TheVariants.{MapWord}
+use Rattle.sn_model.specs.declared.fault.Damage.{Damage}
+use Rattle.sn_model.specs.declared.fault.Damage.TheVariants.{MapWord}
 use Rattle.sn_ondisk.specs.MapCopy.{map_word}
 
 -- Each word of a slot's copy is the wanted one, and 0 past the last block of the disk.

@@ -9,7 +9,7 @@ use Rattle.sn_ondisk.specs.Counts.{times}
 use Rattle.sn_ondisk.specs.Trees.{Store}
 use Rattle.sn_ondisk.proofs.CountLemmas.{times-append}
 use Rattle.sn_image.specs.Reach.{numbers, reach_at}
-use Rattle.sn_model.specs.declared.mount.Damage.{Damage}
+use Rattle.sn_model.specs.declared.fault.Damage.{Damage}
 use Rattle.sn_marks.specs.Marks.{Marks}
 use Rattle.sn_marks.proofs.MarkLemmas.{marks_none}
 use Rattle.sn_dir.proofs.NameLemmas.{range-more}

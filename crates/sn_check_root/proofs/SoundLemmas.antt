@@ -12,7 +12,7 @@ use Rattle.sn_layout_node.specs.Directory.{number_of}
 use Rattle.sn_layout_node.specs.declared.content.Content.{Content}
 use Rattle.sn_layout_node.specs.declared.inode.Inode.{Inode}
 use Rattle.sn_layout_node.specs.declared.inode.InodeRecord.TheVariants.{Unused}
-use Rattle.sn_model.specs.declared.mount.Damage.{Damage}
+use Rattle.sn_model.specs.declared.fault.Damage.{Damage}
 use Rattle.sn_ondisk.specs.Trees.{Store, tree_reach}
 use Rattle.sn_image.specs.Inodes.{is_number, inode_at, record_at}
 use Rattle.sn_image.specs.Names.{names_at, names_under}

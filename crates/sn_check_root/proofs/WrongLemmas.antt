@@ -1,7 +1,7 @@
 -- What is told of a part is so of the whole.
 use Rattle.std.proofs.Common.{◌≡◌, ◌≢◌, ℕ, ◌+◌, ◌*◌, ◌<◌, ◌≤◌, List, [], ◌++◌, refl, ap, arith, Option}
 use Rattle.std.specs.Prelude.{Result, Ok, Err}
-use Rattle.sn_model.specs.declared.mount.Damage.{Damage}
+use Rattle.sn_model.specs.declared.fault.Damage.{Damage}
 use Rattle.sn_ondisk.specs.Counts.{times}
 use Rattle.sn_ondisk.specs.Trees.{Store, tree_reach}
 use Rattle.sn_ondisk.proofs.CountLemmas.{times-append}

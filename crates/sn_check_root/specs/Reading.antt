@@ -1,7 +1,7 @@
 -- What reading comes to where the blocks of a tree lie on the device.
 use Rattle.std.specs.Prelude.{◌≡◌, ℕ, true}
 use Rattle.sn_layout.specs.declared.tree.BlockTree.{BlockTree}
-use Rattle.sn_model.specs.declared.mount.Damage.TheVariants.{Misspelt}
+use Rattle.sn_model.specs.declared.fault.Damage.TheVariants.{Misspelt}
 use Rattle.sn_ondisk.specs.Trees.{Store}
 use Rattle.sn_tree_read.specs.Paths.{block_lies_on}
 use Rattle.sn_tree_read.specs.declared.fault.TreeFault.{TreeFault}

@@ -9,8 +9,8 @@ use Rattle.sn_layout_node.specs.declared.inode.Inode.{Inode}
 use Rattle.sn_limits.specs.declared.kind.Kind.{Kind}
 use Rattle.sn_limits.specs.declared.kind.Kind.TheVariants.{Directory}
 use Rattle.sn_limits.specs.declared.limits.Limits.{Limits}
-use Rattle.sn_model.specs.declared.mount.Damage.{Damage}
-use Rattle.sn_model.specs.declared.mount.Damage.TheVariants.{Pointer, ReachedTwice, Misspelt}
+use Rattle.sn_model.specs.declared.fault.Damage.{Damage}
+use Rattle.sn_model.specs.declared.fault.Damage.TheVariants.{Pointer, ReachedTwice, Misspelt}
 use Rattle.sn_ondisk.specs.Trees.{Store, entry, data_block}
 use Rattle.sn_image.specs.Inodes.{is_number, record_at, inode_at}
 use Rattle.sn_image.specs.Names.{names_by}

@@ -9,8 +9,8 @@ use Rattle.sn_layout.specs.declared.geometry.Area.TheVariants as area
 use Rattle.sn_layout.specs.Geometry.{start_of}
 use Rattle.sn_layout.specs.RootBody.{IsRootBody}
 use Rattle.sn_layout.specs.declared.root.RootBody.{RootBody}
-use Rattle.sn_model.specs.declared.mount.Damage.{Damage}
-use Rattle.sn_model.specs.declared.mount.Damage.TheVariants as damage
+use Rattle.sn_model.specs.declared.fault.Damage.{Damage}
+use Rattle.sn_model.specs.declared.fault.Damage.TheVariants as damage
 use Rattle.sn_ondisk.specs.MapCopy.{map_word}
 use Rattle.sn_ondisk.specs.Roots.{body_block}
 use Rattle.sn_ondisk.specs.Trees.{Store, store_of}

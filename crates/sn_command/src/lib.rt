@@ -7,6 +7,8 @@
 //! `commands` has the commands as `clap` knows them, which `specs/Commands` writes out, and `task` makes a task of the
 //! words that were found under their names.
 //!
+//! What the sources leave open is decided in `docs/DECISIONS.md`, under "Scripts and the program".
+//!
 //! ```text
 //! match parse(alloc, &["mkfs", "disk.img", "256"])? {
 //!     Task::Mkfs { image, blocks } => ..

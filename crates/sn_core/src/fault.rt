@@ -9,7 +9,9 @@ use std::convert::Infallible;
 /// Why a call on the world in memory isn't done.
 #[derive(Drop)]
 pub enum WorldError {
+    /// A test of the call refuses it.
     Refused(Refusal),
+    /// Memory was refused, once session and arguments had passed.
     Memory,
 }
 

@@ -7,8 +7,8 @@ use Rattle.std.specs.declared.cmp.Ordering.{Ordering}
 use Rattle.std.proofs.lemmas.Bool.{ltb-true}
 use Rattle.std.proofs.lemmas.Map.Entries.{length-keys_of}
 use Rattle.sn_limits.specs.Versions.{version_1}
-use Rattle.sn_walk.specs.declared.failure.Failure.{Failure}
-use Rattle.sn_walk.specs.declared.failure.Failure.TheVariants as failure
+use Rattle.sn_walk.specs.declared.fault.Failure.{Failure}
+use Rattle.sn_walk.specs.declared.fault.Failure.TheVariants as failure
 use Rattle.sn_walk.specs.declared.object.Home.{Home}
 use Rattle.sn_walk.specs.declared.object.Home.TheVariants.{Live, Frozen}
 use Rattle.sn_walk.specs.declared.object.Object.TheVariants.{Snapshots}

@@ -1,5 +1,4 @@
-//! What calls come to: the tests of the session and of the arguments, and what `sn_core_decide` decides
-//! over a view of the trees.
+//! What each call comes to.
 ghost use Rattle.std.specs.Prelude.{◌≡◌, ◌<◌, ◌^◌, ℕ, IsTrue, IfOk};
 ghost use Rattle.sn_limits.specs.Versions.{version_1};
 ghost use Rattle.sn_model.specs.Calls.{new_session};
@@ -20,20 +19,18 @@ use crate::deciding_snapshots::{
     decide_snap_create, decide_snap_delete, decide_snap_list, decide_sync,
 };
 use sn_acl::{Cred, Mode, Permissions};
-use sn_core_decide as decide;
-use sn_core_decide::{
-    acl_argument, asks, id_argument, mode_bits_argument, new_mode_argument, path_argument,
-};
+use sn_core_access::umask;
+use sn_core_decide::new_mode_argument;
 use sn_core_files::{
     CallError, FileView, decide_close, decide_ftruncate, decide_logout, decide_open, decide_read,
-    decide_seek, decide_unlink, decide_write, decided, logged_in, logged_out,
+    decide_seek, decide_unlink, decide_write, logged_in, logged_out,
+};
+use sn_core_nodes::{
+    decide_access, decide_chmod, decide_chown, decide_getacl, decide_mkdir, decide_setacl,
+    decide_stat,
 };
 use sn_desc::Sessions;
-use sn_limits::Limits;
-use sn_model::{
-    Access, AclKind, AskedPoint, Call, Caller, Groups, Outcome, Pending, Refusal, Reply, Session,
-    StoredAcl, Word,
-};
+use sn_model::{AskedPoint, Call, Caller, Groups, Outcome, Pending, Refusal, Reply, Session};
 use std::alloc::Global;
 
 /// What a login comes to.
@@ -74,149 +71,7 @@ fn decide_umask(sessions: &Sessions, session: u32, mask: u16) -> Result<Outcome<
 {
     let caller = logged_in(sessions, session)?;
     let mask = new_mode_argument(mask)?;
-    Ok(decide::umask(caller, mask))
-}
-
-fn decide_mkdir<'a, V: FileView>(
-    view: &mut V,
-    sessions: &Sessions,
-    session: u32,
-    path: &'a Word,
-    mode: u16,
-) -> Result<Outcome<'a>, CallError<V::Fault>>
-    requires { V.holds view.old }
-    ensures kept { V.holds view.new }
-    ensures follows { V.follows view.old view.new }
-    ensures same { IsTrue V.is_told → V.shows view.new ≡ V.shows view.old }
-    ensures decided { IsTrue V.is_told → DecidesShown (in_use_of sessions.now) (V.shows view.old) (V.room view.old) (V.names view.old) (V.bytes view.old) session (Call.Mkdir path.now mode) result }
-    ensures cause { IfView result (λ f. V.causes view.old view.new f) }
-{
-    let caller = logged_in(sessions, session)?;
-    let path = path_argument(path)?;
-    let mode = new_mode_argument(mode)?;
-    decided(decide::mkdir(&Limits::VERSION_1, view, caller, &path, mode))
-}
-
-fn decide_chmod<V: FileView>(
-    view: &mut V,
-    sessions: &Sessions,
-    session: u32,
-    path: &Word,
-    mode: u16,
-) -> Result<Outcome<'static>, CallError<V::Fault>>
-    requires { V.holds view.old }
-    ensures kept { V.holds view.new }
-    ensures follows { V.follows view.old view.new }
-    ensures same { IsTrue V.is_told → V.shows view.new ≡ V.shows view.old }
-    ensures decided { IsTrue V.is_told → DecidesShown (in_use_of sessions.now) (V.shows view.old) (V.room view.old) (V.names view.old) (V.bytes view.old) session (Call.Chmod path.now mode) result }
-    ensures cause { IfView result (λ f. V.causes view.old view.new f) }
-{
-    let caller = logged_in(sessions, session)?;
-    let path = path_argument(path)?;
-    let bits = mode_bits_argument(mode)?;
-    decided(decide::chmod(&Limits::VERSION_1, view, caller, &path, bits))
-}
-
-fn decide_chown<V: FileView>(
-    view: &mut V,
-    sessions: &Sessions,
-    session: u32,
-    path: &Word,
-    uid: Option<u32>,
-    gid: Option<u32>,
-) -> Result<Outcome<'static>, CallError<V::Fault>>
-    requires { V.holds view.old }
-    ensures kept { V.holds view.new }
-    ensures follows { V.follows view.old view.new }
-    ensures same { IsTrue V.is_told → V.shows view.new ≡ V.shows view.old }
-    ensures decided { IsTrue V.is_told → DecidesShown (in_use_of sessions.now) (V.shows view.old) (V.room view.old) (V.names view.old) (V.bytes view.old) session (Call.Chown path.now uid gid) result }
-    ensures cause { IfView result (λ f. V.causes view.old view.new f) }
-{
-    let caller = logged_in(sessions, session)?;
-    let path = path_argument(path)?;
-    let uid = id_argument(uid)?;
-    let gid = id_argument(gid)?;
-    decided(decide::chown(&Limits::VERSION_1, view, caller, &path, uid, gid))
-}
-
-fn decide_stat<'a, V: FileView>(
-    view: &mut V,
-    sessions: &Sessions,
-    session: u32,
-    path: &'a Word,
-) -> Result<Outcome<'a>, CallError<V::Fault>>
-    requires { V.holds view.old }
-    ensures kept { V.holds view.new }
-    ensures follows { V.follows view.old view.new }
-    ensures same { IsTrue V.is_told → V.shows view.new ≡ V.shows view.old }
-    ensures decided { IsTrue V.is_told → DecidesShown (in_use_of sessions.now) (V.shows view.old) (V.room view.old) (V.names view.old) (V.bytes view.old) session (Call.Stat path.now) result }
-    ensures cause { IfView result (λ f. V.causes view.old view.new f) }
-{
-    let caller = logged_in(sessions, session)?;
-    let path = path_argument(path)?;
-    decided(decide::stat(view, caller, &path))
-}
-
-fn decide_access<V: FileView>(
-    view: &mut V,
-    sessions: &Sessions,
-    session: u32,
-    path: &Word,
-    want: Access,
-) -> Result<Outcome<'static>, CallError<V::Fault>>
-    requires { V.holds view.old }
-    ensures kept { V.holds view.new }
-    ensures follows { V.follows view.old view.new }
-    ensures same { IsTrue V.is_told → V.shows view.new ≡ V.shows view.old }
-    ensures decided { IsTrue V.is_told → DecidesShown (in_use_of sessions.now) (V.shows view.old) (V.room view.old) (V.names view.old) (V.bytes view.old) session (Call.Access path.now want) result }
-    ensures cause { IfView result (λ f. V.causes view.old view.new f) }
-{
-    let caller = logged_in(sessions, session)?;
-    let path = path_argument(path)?;
-    decided(decide::access(view, caller, &path, want))
-}
-
-fn decide_getacl<V: FileView>(
-    alloc: Global,
-    view: &mut V,
-    sessions: &Sessions,
-    session: u32,
-    path: &Word,
-    kind: AclKind,
-) -> Result<Outcome<'static>, CallError<V::Fault>>
-    requires { V.holds view.old }
-    ensures kept { V.holds view.new }
-    ensures follows { V.follows view.old view.new }
-    ensures same { IsTrue V.is_told → V.shows view.new ≡ V.shows view.old }
-    ensures decided { IsTrue V.is_told → DecidesShown (in_use_of sessions.now) (V.shows view.old) (V.room view.old) (V.names view.old) (V.bytes view.old) session (Call.GetAcl path.now kind) result }
-    ensures cause { IfView result (λ f. V.causes view.old view.new f) }
-{
-    let caller = logged_in(sessions, session)?;
-    let path = path_argument(path)?;
-    let acl = decide::getacl(view, caller, &path, kind)?;
-    let told = Reply::Acl(StoredAcl::of_option(alloc, acl.as_ref())?);
-    Ok(asks(Caller::Stays, told))
-}
-
-fn decide_setacl<V: FileView>(
-    view: &mut V,
-    sessions: &Sessions,
-    session: u32,
-    path: &Word,
-    kind: AclKind,
-    acl: &Word,
-) -> Result<Outcome<'static>, CallError<V::Fault>>
-    requires { V.holds view.old }
-    ensures kept { V.holds view.new }
-    ensures follows { V.follows view.old view.new }
-    ensures same { IsTrue V.is_told → V.shows view.new ≡ V.shows view.old }
-    ensures decided { IsTrue V.is_told → DecidesShown (in_use_of sessions.now) (V.shows view.old) (V.room view.old) (V.names view.old) (V.bytes view.old) session (Call.SetAcl path.now kind acl.now) result }
-    ensures cause { IfView result (λ f. V.causes view.old view.new f) }
-{
-    let caller = logged_in(sessions, session)?;
-    let path = path_argument(path)?;
-    let acl = acl_argument(kind, acl)?;
-    decided(decide::setacl(&Limits::VERSION_1, view, caller, &path, acl))
+    Ok(umask(caller, mask))
 }
 
 /// What a call comes to over each world that the view shows, or why it has no outcome.

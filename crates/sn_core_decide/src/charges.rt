@@ -1,6 +1,6 @@
 //! What calls are charged: the blocks that a consistency point may take for their changes, by the numbers
 //! of the version.
-ghost use Rattle.std.specs.Prelude.{◌≡◌, ◌+◌, ◌*◌};
+ghost use Rattle.std.specs.Prelude.{◌≡◌, ◌+◌, ◌*◌, ◌≤◌, ◌^◌};
 ghost use Rattle.sn_model.specs.FileCalls as files;
 
 use sn_limits::Limits;
@@ -32,4 +32,30 @@ pub fn size_charge(limits: &Limits) -> u64
     ensures { result ≡ files.file_charge limits.now 1 }
 {
     u64::from(limits.inode_charge) + u64::from(limits.block_charge)
+}
+
+/// Attributes of a node are set: its inode.
+pub fn attributes_charge(limits: &Limits) -> u64
+    ensures { result ≡ limits.now.inode_charge }
+{
+    u64::from(limits.inode_charge)
+}
+
+/// How many blocks of 4,096 bytes so many bytes lie in, from an offset on.
+pub fn blocks_spanned(offset: u64, count: usize) -> u64
+    ensures spanned { result ≡ files.blocks_spanned offset count }
+    ensures few { result ≤ 2 ^ 53 }
+{
+    let end = u128::from(offset) + count as u128;
+    let last = end.saturating_sub(1) / 4096;
+    (last.saturating_sub(u128::from(offset / 4096)) + 1) as u64
+}
+
+/// So many blocks of a file are written: these and its inode.
+pub fn write_charge(limits: &Limits, blocks: u64) -> u128
+    requires { blocks ≤ 2 ^ 53 }
+    ensures exact { result ≡ files.file_charge limits.now blocks }
+    ensures most { result ≤ limits.now.inode_charge + limits.now.block_charge * 2 ^ 53 }
+{
+    u128::from(limits.inode_charge) + u128::from(limits.block_charge) * u128::from(blocks)
 }

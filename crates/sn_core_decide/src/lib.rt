@@ -4,10 +4,9 @@
 //! A decision makes a call's tests in their order, as `sn_model` lists them ([`mkdir`], [`stat`]),
 //! and answers the model's [`Outcome`](sn_model::Outcome). Beside a refusal there may be a fault of
 //! the view: then nothing is known of the call. [`CallView`] is what a decision asks beside a walk.
-//! `arguments` and `rights` have the tests, each once for all calls, `charges` what calls are charged, and `outcomes` what
-//! most of them come to;
-//! `decisions`, `access_calls` and `file_calls` have the calls, and `sn_core_names` has those on names and
-//! listings.
+//! `arguments` and `rights` have the tests, each once for all calls, `charges` what calls are charged, for the log and its
+//! replay too, and `outcomes` what most of them come to; `decisions` and `file_calls` have calls, `sn_core_access` has those
+//! that ask for rights and set them, and `sn_core_names` those on names and listings.
 //!
 //! What the sources leave open is decided in `docs/DECISIONS.md`, under "Decisions of calls".
 //!
@@ -17,7 +16,6 @@
 //! ```
 #![tactic(auto)]
 
-mod access_calls;
 mod arguments;
 mod charges;
 mod decisions;
@@ -26,17 +24,18 @@ mod outcomes;
 mod rights;
 mod view;
 
-pub use access_calls::{access, chmod, chown, getacl, setacl, umask};
 pub use arguments::{
     acl_argument, bytes_argument, count_argument, flags_argument, id_argument, mode_bits_argument,
     new_mode_argument, path_argument,
 };
-pub use charges::{name_charge, rename_charge, size_charge, unlink_charge};
+pub use charges::{
+    attributes_charge, blocks_spanned, name_charge, rename_charge, size_charge, unlink_charge, write_charge,
+};
 pub use decisions::{mkdir, stat};
 pub use file_calls::{open, unlink};
 pub use outcomes::{asks, does};
 pub use rights::{
-    by_owner, forbidden, full, granted, has_acl, live, live_if, no_directory, not_present,
-    one_tree, parent_of, prefix, sticky, there, to_group, to_owner, writable_parent,
+    forbidden, full, granted, live, live_if, no_directory, not_present, one_tree, parent_of,
+    prefix, sticky, there, writable_parent,
 };
 pub use view::CallView;

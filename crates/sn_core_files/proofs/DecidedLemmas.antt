@@ -1,7 +1,7 @@
 -- What was decided over a view, as what a call comes to over a world that it shows.
 use Rattle.std.proofs.Common.{◌≡◌, ℕ, List, Result, Ok, Err, IfOk}
-use Rattle.sn_walk.specs.declared.failure.Failure.{Failure}
-use Rattle.sn_walk.specs.declared.failure.Failure.TheVariants as failure
+use Rattle.sn_walk.specs.declared.fault.Failure.{Failure}
+use Rattle.sn_walk.specs.declared.fault.Failure.TheVariants as failure
 use Rattle.sn_walk.specs.declared.object.Home.{Home}
 use Rattle.sn_walk.specs.Gives.{Fails, Gives, IfFault, OfFault}
 use Rattle.sn_walk.specs.Views.{ViewedTrees}

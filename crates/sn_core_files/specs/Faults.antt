@@ -1,7 +1,7 @@
 -- Why a call has no outcome, from why a decision or a look-up has none, and what is so of a fault of the view.
 use Rattle.std.specs.Prelude.{Result, Ok, Err}
-use Rattle.sn_walk.specs.declared.failure.Failure.{Failure}
-use Rattle.sn_walk.specs.declared.failure.Failure.TheVariants as failure
+use Rattle.sn_walk.specs.declared.fault.Failure.{Failure}
+use Rattle.sn_walk.specs.declared.fault.Failure.TheVariants as failure
 use Rattle.sn_model.specs.declared.reply.Refusal.{Refusal}
 use Rattle.sn_core_files.specs.declared.fault.CallError.{CallError}
 use Rattle.sn_core_files.specs.declared.fault.CallError.TheVariants.{Refused, Memory, View}

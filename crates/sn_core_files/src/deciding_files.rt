@@ -17,7 +17,8 @@ use crate::fault::{CallError, FileFault};
 use crate::view::FileView;
 use sn_core_decide as decide;
 use sn_core_decide::{
-    asks, bytes_argument, count_argument, does, flags_argument, new_mode_argument, path_argument,
+    asks, blocks_spanned, bytes_argument, count_argument, does, flags_argument, new_mode_argument,
+    path_argument, size_charge, write_charge,
 };
 use sn_desc::{OpenFile, Sessions};
 use sn_limits::Limits;
@@ -38,25 +39,6 @@ fn end_of(offset: u64, count: u64) -> Result<u64, Refusal>
     }
 }
 
-/// How many blocks bytes lie in.
-fn blocks_spanned(offset: u64, count: u64) -> u64
-    requires some { 0 < count }
-    requires within { offset + count ≤ 67108864 }
-    ensures spanned { result ≡ calls.blocks_spanned offset count }
-    ensures few { result ≤ 16385 }
-{
-    (offset + count - 1) / 4096 - offset / 4096 + 1
-}
-
-/// The charge for a file and so many of its blocks.
-fn file_charge(blocks: u64) -> u64
-    requires { blocks ≤ 16385 }
-    ensures { result ≡ calls.file_charge version_1 blocks }
-{
-    let limits = Limits::VERSION_1;
-    u64::from(limits.inode_charge) + u64::from(limits.block_charge) * blocks
-}
-
 /// What a write of some bytes comes to.
 #[tactic(auto, unfolding(sn_model::specs::FileCalls::write_some))]
 fn write_some<'a>(
@@ -70,9 +52,9 @@ fn write_some<'a>(
 {
     let count = bytes.len() as u64;
     let end = end_of(offset, count)?;
-    let blocks = blocks_spanned(offset, count);
+    let blocks = blocks_spanned(offset, bytes.len());
     Ok(Outcome {
-        charge: file_charge(blocks),
+        charge: write_charge(&Limits::VERSION_1, blocks) as u64,
         change: Pending::Does(Change::Write {
             number,
             offset,
@@ -297,5 +279,8 @@ pub fn decide_ftruncate(
     let file = sessions.writable(session, fd)?;
     let size = end_of(size, 0)?;
     let number = file.number;
-    Ok(does(file_charge(1), Change::SetSize { number, size }))
+    Ok(does(
+        size_charge(&Limits::VERSION_1),
+        Change::SetSize { number, size },
+    ))
 }

@@ -26,7 +26,7 @@ use sn_overlay::Overlay;
 use sn_tree::{Build, PlanFault};
 use std::alloc::{AllocError, Global};
 
-// Plans the node that stands at this place of the overlay's nodes, with the blocks that it has of it.
+// Plans the node that stands at this index of the overlay's nodes, with the blocks that it has of it.
 fn plan_next<D: Device>(
     alloc: Global,
     build: &mut Build,

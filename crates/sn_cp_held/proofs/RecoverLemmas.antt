@@ -5,7 +5,7 @@ use Rattle.std.specs.Prelude.{OnOk}
 use Rattle.sn_device.specs.Sectors.{Contents, AreSectors, DependsOn}
 use Rattle.sn_device.specs.Disk.{Disk, Always, reads}
 use Rattle.sn_device.specs.Crash.{LeavesOnly}
-use Rattle.sn_device.specs.declared.device.Fault.{Fault}
+use Rattle.sn_device.specs.declared.fault.Fault.{Fault}
 use Rattle.sn_device.proofs.CrashLemmas.{Always-reads, Always-synced, LeavesOnly-now, LeavesOnly-touched}
 use Rattle.sn_block.proofs.EffectLemmas.{OnOk-both}
 use Rattle.sn_changed.specs.Changed.{HasChanged}

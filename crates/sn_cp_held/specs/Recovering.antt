@@ -4,7 +4,7 @@ use Rattle.sn_changed.specs.Changed.{HasChanged}
 use Rattle.sn_device.specs.Sectors.{AreSectors}
 use Rattle.sn_device.specs.Disk.{Disk, IsSynced, reads}
 use Rattle.sn_device.specs.Crash.{LeavesOnly}
-use Rattle.sn_device.specs.declared.device.Fault.{Fault}
+use Rattle.sn_device.specs.declared.fault.Fault.{Fault}
 use Rattle.sn_image.specs.Image.{image}
 use Rattle.sn_layout.specs.declared.gate.Gate.{Gate}
 use Rattle.sn_layout.specs.declared.root.RootBody.{RootBody}

@@ -78,7 +78,7 @@ pub record IsTooSmall (Told : Type 0) (s : Store) (old : Content) (fresh : Bool)
 
 -- ---- what isn't damaged
 
--- A file's blocks can have these places in it, and each block that its number reached lies on the device.
+-- A file's blocks can have these indices in it, and each block that its number reached lies on the device.
 pub record CanMakeFile (sectors : ℕ) (s : Store) (old : Content) (size : ℕ) (written : Blocks) : Type 0 where
   pub order : AreInOrder size (dirty_of written)
   pub lies : LeadsOutside sectors (content_reach s old) → ⊥

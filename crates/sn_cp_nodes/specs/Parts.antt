@@ -35,7 +35,7 @@ pub record IsPartOf (layer : Layer) (number : ℕ) (change : NodeChange) (names 
 abbrev pub keep_of : NodeState → ℕ
 keep_of state = if state.fresh then 0 else div_ceil state.cut 4096
 
--- the blocks that were written, by their place in the file
+-- the blocks that were written, by their index in the file
 abbrev pub dirty_of : Blocks → List DirtyBlock
 dirty_of written = map (λ e. record { index = e.0.index; bytes = e.1 }) written
 

@@ -35,7 +35,7 @@ fn kept_blocks(state: &NodeState) -> u64
     }
 }
 
-// The blocks that were written, by their place in the file.
+// The blocks that were written, by their index in the file.
 fn dirty_blocks(
     alloc: Global,
     written: Vec<(FileBlock, Box<Block>)>,

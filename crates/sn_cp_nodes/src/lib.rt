@@ -11,6 +11,8 @@
 //! `specs/Built` what all of them are for. [`content_laws`] says that what is planned so is what is seen through the
 //! layer, [`room_laws`] how many blocks a node takes at most, and [`damage_laws`] that over a sound root each can be built.
 //!
+//! What the sources leave open is decided in `docs/DECISIONS.md`, under "Building the nodes of a point".
+//!
 //! ```text
 //! let written = changes.take_blocks(alloc, number)?;
 //! let (_, change) = &changes.nodes()[index];

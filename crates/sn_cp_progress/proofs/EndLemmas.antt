@@ -6,7 +6,7 @@ use Rattle.sn_changed.proofs.ChangedLemmas.{nothing_changed}
 use Rattle.sn_device.specs.Sectors.{AreSectors, Contents}
 use Rattle.sn_device.specs.Disk.{Always, Disk, reads}
 use Rattle.sn_device.specs.Crash.{LeavesOnly, Touches}
-use Rattle.sn_device.specs.declared.device.Fault.{Fault}
+use Rattle.sn_device.specs.declared.fault.Fault.{Fault}
 use Rattle.sn_device.proofs.CrashLemmas.{Always-reads}
 use Rattle.sn_block.proofs.EffectLemmas.{OnOk-both}
 use Rattle.sn_limits.specs.declared.limits.Limits.{Limits}

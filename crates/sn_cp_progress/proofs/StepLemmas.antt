@@ -4,7 +4,7 @@ use Rattle.std.specs.Prelude.{OnOk}
 use Rattle.sn_device.specs.Sectors.{AreDisjoint, AreSectors, Contents, DependsOn}
 use Rattle.sn_device.specs.Disk.{Always, Disk, reads}
 use Rattle.sn_device.specs.Crash.{LeavesOnly, Touches}
-use Rattle.sn_device.specs.declared.device.Fault.{Fault}
+use Rattle.sn_device.specs.declared.fault.Fault.{Fault}
 use Rattle.sn_device.proofs.CrashLemmas.{Always-reads, LeavesOnly-now, LeavesOnly-touched, Touches-within}
 use Rattle.sn_block.proofs.EffectLemmas.{OnOk-then}
 use Rattle.sn_layout.specs.declared.gate.Gate.{Gate}

@@ -5,7 +5,7 @@ use Rattle.sn_block.proofs.EffectLemmas.{OnOk-both, OnOk-then}
 use Rattle.sn_device.specs.Crash.{Touches}
 use Rattle.sn_device.specs.Disk.{Disk, reads}
 use Rattle.sn_device.specs.Sectors.{AreSectors, Contents}
-use Rattle.sn_device.specs.declared.device.Fault.{Fault}
+use Rattle.sn_device.specs.declared.fault.Fault.{Fault}
 use Rattle.sn_device.proofs.CrashLemmas.{Always-reads, Touches-within}
 use Rattle.sn_held.specs.Held.{Held}
 use Rattle.sn_held.proofs.RoomLemmas.{image_same}

@@ -4,7 +4,7 @@ use Rattle.sn_alloc.specs.Taking.{free_data}
 use Rattle.sn_block.specs.Counts.{IsLater, called}
 use Rattle.sn_device.specs.Crash.{LeavesOnly}
 use Rattle.sn_device.specs.Disk.{Disk, reads}
-use Rattle.sn_device.specs.declared.device.Fault.{Fault}
+use Rattle.sn_device.specs.declared.fault.Fault.{Fault}
 use Rattle.sn_device.specs.declared.status.Status.{Status}
 use Rattle.sn_image.specs.Image.{image}
 use Rattle.sn_layout.specs.declared.geometry.Area.TheVariants.{Data}

@@ -1,29 +1,13 @@
 //! The trait of devices.
-ghost use Rattle.std.specs.Prelude.{◌≡◌, ◌+◌, ◌<◌, Bool, codes, length, Some, IsTrue, OnOk, OnErr};
+ghost use Rattle.std.specs.Prelude.{◌≡◌, ◌+◌, ◌<◌, Bool, length, IsTrue, OnOk, OnErr};
 ghost use Rattle.sn_device.specs.declared.status.Status.{Status as StatusOf};
 ghost use Rattle.sn_device.specs.Sectors.{AreSectors, sector_at};
 ghost use Rattle.sn_device.specs.Disk.{Disk, clock};
 ghost use Rattle.sn_device.specs.Status.{has_ended, one_write, one_sync, Counts, CountsOrEnds};
 ghost use Rattle.sn_device.specs.Device.{Writes, Syncs};
 
-use crate::Status;
+use crate::{Fault, Status};
 use sn_limits::Sector;
-use std::error::Error;
-use std::fmt;
-
-/// The device has failed, or has come to its end.
-#[derive(Clone, Copy, Debug, PartialEq, Eq)]
-pub struct Fault;
-
-impl fmt::Display for Fault {
-    ghost output = { λ _. Some (codes "the device failed") };
-
-    fn fmt<W: fmt::Write>(&self, f: &mut fmt::Formatter<W>) -> fmt::Result {
-        write!(f, "the device failed")
-    }
-}
-
-impl Error for Fault {}
 
 /// Sectors numbered from 0. A fault comes only with one more failure, or at the device's end, where
 /// every call is a fault that does nothing and isn't counted.

@@ -21,7 +21,7 @@
 //!   trait mean, and `crash_laws` that the definitions keep the laws that one would expect.
 //! - `specs/Crash.antt` has the words for the layers above: `LeavesOnly` (each content that a crash
 //!   since some moment might have left has a property) and `Touches` (only sectors of a set were
-//!   written). `proofs/CrashLemmas.antt` carries both over calls, runs of calls and loops. A clause
+//!   written). `proofs/CrashLemmas.antt` carries both over calls, calls in a row and loops. A clause
 //!   on crashes rests on three of its lemmas: `CrashSince-before` (what a crash since a moment may
 //!   leave is what one at that moment may leave, with any bytes in the sectors touched since),
 //!   `Always-kept` (what always holds and depends on other sectors goes on to hold) and
@@ -55,6 +55,7 @@
 #![tactic(auto)]
 
 mod device;
+mod fault;
 mod fill;
 mod laws;
 mod lent;
@@ -62,7 +63,8 @@ mod memory;
 mod plan;
 mod status;
 
-pub use device::{Device, Fault};
+pub use device::Device;
+pub use fault::Fault;
 pub use fill::Fill;
 pub use laws::crash_laws;
 pub use memory::MemDevice;

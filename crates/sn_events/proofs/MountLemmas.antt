@@ -3,8 +3,8 @@ use Rattle.std.proofs.Common.{◌≡◌, inl, ℕ, false, Option, None, refl, sy
 use Rattle.sn_device.specs.Disk.{Disk, reads}
 use Rattle.sn_device.proofs.CrashLemmas.{Touches-start}
 use Rattle.sn_block.specs.Effects.{Nowhere}
-use Rattle.sn_model.specs.declared.mount.MountFault.{MountFault}
-use Rattle.sn_model.specs.declared.mount.MountFault.TheVariants.{Memory}
+use Rattle.sn_model.specs.declared.fault.MountFault.{MountFault}
+use Rattle.sn_model.specs.declared.fault.MountFault.TheVariants.{Memory}
 use Rattle.sn_model.specs.World.{World}
 use Rattle.sn_held.specs.Held.{Going, Held, RunsReady}
 use Rattle.sn_events.proofs.PointLemmas.{running_between}

@@ -68,9 +68,3 @@ lacks_nothing h p o change enough told same fits is lacks =
 pub one_at_most : (b : Bool) → (if b then 1 else 0) ≤ 1
 one_at_most true = omega arith
 one_at_most false = omega arith
-
--- where a change isn't made and the mount goes on, it holds what it held, but for what the device counts
-pub still_same : (f : ChangeFault) (change : Change) (old new : Held) → FailsChange f change old new → stops f ≡ false → new ≡ record old { status = new.status }
-still_same fault.Memory change old new fails runs = λ i. record (fails i) { status = new.status }
-still_same fault.Read change old new fails runs = fails.0
-still_same fault.Device change old new fails runs = absurd (true≢false runs)

@@ -2,9 +2,9 @@
 use Rattle.std.specs.Prelude.{◌≡◌, ◌⊎◌, ℕ, ◌+◌}
 use Rattle.sn_device.specs.Sectors.{Contents}
 use Rattle.sn_limits.specs.Versions.{version_1}
-use Rattle.sn_model.specs.declared.mount.Damage.TheVariants.{Log}
-use Rattle.sn_model.specs.declared.mount.MountFault.{MountFault}
-use Rattle.sn_model.specs.declared.mount.MountFault.TheVariants as fault
+use Rattle.sn_model.specs.declared.fault.Damage.TheVariants.{Log}
+use Rattle.sn_model.specs.declared.fault.MountFault.{MountFault}
+use Rattle.sn_model.specs.declared.fault.MountFault.TheVariants as fault
 use Rattle.sn_model.specs.Tree.{Tree}
 use Rattle.sn_log.specs.Positions.{LogPosition}
 use Rattle.sn_sound.specs.Logs.{BreaksAt}

@@ -4,9 +4,9 @@ use Rattle.sn_device.specs.Sectors.{Contents}
 use Rattle.sn_layout.specs.declared.geometry.Area.TheVariants as area
 use Rattle.sn_layout.specs.declared.geometry.LogHalf.{LogHalf}
 use Rattle.sn_layout.specs.Geometry.{start_of}
-use Rattle.sn_model.specs.declared.mount.Damage.TheVariants.{Log, Root}
-use Rattle.sn_model.specs.declared.mount.MountFault.{MountFault}
-use Rattle.sn_model.specs.declared.mount.MountFault.TheVariants as fault
+use Rattle.sn_model.specs.declared.fault.Damage.TheVariants.{Log, Root}
+use Rattle.sn_model.specs.declared.fault.MountFault.{MountFault}
+use Rattle.sn_model.specs.declared.fault.MountFault.TheVariants as fault
 use Rattle.sn_ondisk.specs.LogHalf.{HasNoLater, base_of}
 use Rattle.sn_log.specs.Positions.{half_base}
 use Rattle.sn_root.specs.Fault.{block_of}

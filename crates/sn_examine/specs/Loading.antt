@@ -1,9 +1,9 @@
 -- What a mount makes of a tree that can't be read.
 use Rattle.std.specs.Prelude.{ℕ}
 use Rattle.std.specs.Option.{unwrap_or}
-use Rattle.sn_model.specs.declared.mount.Damage.TheVariants.{Misspelt}
-use Rattle.sn_model.specs.declared.mount.MountFault.{MountFault}
-use Rattle.sn_model.specs.declared.mount.MountFault.TheVariants as fault
+use Rattle.sn_model.specs.declared.fault.Damage.TheVariants.{Misspelt}
+use Rattle.sn_model.specs.declared.fault.MountFault.{MountFault}
+use Rattle.sn_model.specs.declared.fault.MountFault.TheVariants as fault
 use Rattle.sn_tree_read.specs.declared.fault.TreeFault.{TreeFault}
 use Rattle.sn_tree_read.specs.declared.fault.TreeFault.TheVariants.{Read, Damaged}
 use Rattle.sn_examine.specs.Failing.{read_fault}

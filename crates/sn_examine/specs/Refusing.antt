@@ -5,10 +5,10 @@ use Rattle.sn_layout.specs.Geometry.{start_of}
 use Rattle.sn_layout.specs.declared.geometry.Area.TheVariants.{MapCopy}
 use Rattle.sn_layout.specs.declared.geometry.Slot.{Slot}
 use Rattle.sn_layout.specs.declared.root.RootBody.{RootBody}
-use Rattle.sn_model.specs.declared.mount.Damage.{Damage}
-use Rattle.sn_model.specs.declared.mount.Damage.TheVariants.{Root, Pointer, ReachedTwice, MapWord, Misspelt, Links, Log}
-use Rattle.sn_model.specs.declared.mount.MountFault.{MountFault}
-use Rattle.sn_model.specs.declared.mount.MountFault.TheVariants as fault
+use Rattle.sn_model.specs.declared.fault.Damage.{Damage}
+use Rattle.sn_model.specs.declared.fault.Damage.TheVariants.{Root, Pointer, ReachedTwice, MapWord, Misspelt, Links, Log}
+use Rattle.sn_model.specs.declared.fault.MountFault.{MountFault}
+use Rattle.sn_model.specs.declared.fault.MountFault.TheVariants as fault
 use Rattle.sn_model.specs.World.{World}
 use Rattle.sn_ondisk.specs.MapCopy.{HasMap}
 use Rattle.sn_ondisk.specs.Roots.{IsNewest}

@@ -15,13 +15,13 @@ ghost use Rattle.sn_examine.specs.Refusing.{RefusesAs};
 use crate::fault::{fault_of, root_fault};
 use sn_block::Blocks;
 use sn_device::Device;
-use sn_layout::{Area, Geometry, LogHalf, Superblock};
+use sn_layout::{Area, Geometry, LogHalf, SECTORS_PER_BLOCK, SMALLEST_DISK, Superblock};
 use sn_log::has_no_later;
 use sn_model::{Damage, MountFault};
 use sn_root::{NewestRoot, newest};
 
 /// How many sectors the least disk has.
-const LEAST_SECTORS: u64 = 2_048;
+const LEAST_SECTORS: u64 = SECTORS_PER_BLOCK * SMALLEST_DISK as u64;
 
 /// How large the disk is, by its superblock. `NotFormatted` where that is misspelt, or the device has fewer sectors.
 pub(crate) fn disk_size<D: Device>(blocks: &mut Blocks<D>) -> Result<Geometry, MountFault>
@@ -46,7 +46,7 @@ pub(crate) fn disk_size<D: Device>(blocks: &mut Blocks<D>) -> Result<Geometry, M
     let Some(superblock) = Superblock::decode(block) else {
         return Err(MountFault::NotFormatted);
     };
-    if 8 * u64::from(superblock.geometry.blocks()) > sectors {
+    if SECTORS_PER_BLOCK * u64::from(superblock.geometry.blocks()) > sectors {
         return Err(MountFault::NotFormatted);
     }
     Ok(superblock.geometry)

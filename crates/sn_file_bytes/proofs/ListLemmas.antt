@@ -29,11 +29,6 @@ get_or-values f n i lt = let none : 0 + i ≡ i = omega arith in get_or-values_f
 list_all : (f : ℕ → ℕ) (xs : List ℕ) → ((i : ℕ) → i < length xs → get_or xs i 0 ≡ f i) → xs ≡ values_from f 0 (length xs)
 list_all f xs h = list_is f 0 xs (λ i lt. let none : i ≡ 0 + i = omega arith in h i lt ∙ ap f none)
 
-pub values_ext : (f g : ℕ → ℕ) → ((k : ℕ) → f k ≡ g k) → (first n : ℕ) → values_from f first n ≡ values_from g first n
-unfolding values_from
-values_ext f g h first zero = refl
-values_ext f g h first (suc n) = λ i. h first i ∷ values_ext f g h (first + 1) n i
-
 pub values_join : (f : ℕ → ℕ) (first m n : ℕ) → values_from f first m ++ values_from f (first + m) n ≡ values_from f first (m + n)
 unfolding values_from
 values_join f first zero n = let none : n ≡ 0 + n = omega arith in ap (λ k. values_from f k n) (add-zero first) ∙ ap (values_from f first) none

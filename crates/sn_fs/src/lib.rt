@@ -23,9 +23,10 @@
 //!   cause that a check tells (`IsCause` of `sn_check`).
 //!
 //! The way through: `sn_held` says what is meant, and of what the disk is an image, `sn_events` what each event leads to. A
-//! call is decided in `reading`, by `sn_live_world`; `serving` asks whether it lacks something and does it, `changing` reads
-//! and grows all that its change needs, then appends its record, and last makes it, `pointing` makes points of what changed
-//! since the root, whole or in steps, by `sn_cp_whole`, and `calling` puts them together; `unmounting` makes the last one, and a mount is `sn_mount`'s.
+//! call is decided in `reading`, by `sn_live_world`; `serving` asks whether it lacks something and does it, `changing`
+//! reads and grows all that its change needs, then appends its record, and last makes it, `pointing` makes points of what
+//! changed since the root, whole or in steps, by `sn_cp_whole`, and `calling` puts them together; `unmounting` makes the
+//! last one, and a mount is `sn_mount`'s.
 //!
 //! What the sources leave open is decided in `docs/DECISIONS.md`, under "Mount and calls over a device".
 //!
@@ -38,7 +39,7 @@
 
 mod calling;
 mod changing;
-mod found;
+mod fault;
 mod fs;
 mod mounting;
 mod pointing;
@@ -46,7 +47,6 @@ mod reading;
 mod serving;
 mod unmounting;
 
-pub use found::Unmounted;
+pub use fault::{StillMounted, Unmounted};
 pub use fs::Fs;
 pub use mounting::mount;
-pub use unmounting::StillMounted;

@@ -7,7 +7,7 @@ ghost use Rattle.sn_fs.specs.Filesystem.{IsFs, has_stopped, held};
 ghost use Rattle.sn_events.specs.Mounting.{IsLeft, Mounts};
 
 use crate::Fs;
-use crate::found::Unmounted;
+use crate::Unmounted;
 use sn_block::Blocks;
 use sn_device::Device;
 use sn_model::MountFault;

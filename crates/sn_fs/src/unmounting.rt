@@ -8,19 +8,12 @@ ghost use Rattle.sn_events.specs.Pointing.{stops_point};
 ghost use Rattle.sn_events.specs.Unmounting.{HasUnmounted, IsRefusedTo, PointsLast};
 ghost use Rattle.sn_fs.specs.Filesystem.{IsFs, has_stopped, held};
 
-use crate::Fs;
 use crate::pointing::{errno_of, stops};
+use crate::{Fs, StillMounted};
 use sn_cp_whole::{PointFault, make_point};
 use sn_device::Device;
 use sn_model::{AskedPoint, Errno};
 use sn_overlay::Overlay;
-
-/// A file system whose unmount was refused, with the cause.
-#[derive(Drop)]
-pub struct StillMounted<D: Device> {
-    pub errno: Errno,
-    pub fs: Fs<D>,
-}
 
 impl<D: Device> Fs<D> {
     /// Makes a whole consistency point of what changed without the files that no name stands for. Where it isn't made,

@@ -346,7 +346,7 @@ impl AclBlock {
     }
 
     /// Writes both lists as a log record has them, either of which may be empty: their numbers of
-    /// entries u8, and then the entries. Answers the place after them.
+    /// entries u8, and then the entries. Answers the offset after them.
     pub fn put_lists(&self, block: &mut [u8], at: usize) -> usize
         requires { at + 2 + 8 * entries_in self.now ≤ length block.old }
         ensures bytes { Puts block.old block.new at result (acls_bytes self.now) }

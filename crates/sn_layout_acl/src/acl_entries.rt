@@ -84,7 +84,7 @@ fn read_entry(reader: &mut Reader<'_>) -> Option<Entry>
 }
 
 /// Writes entries one after the other, as ACL blocks and log records have them, and answers the
-/// place after them.
+/// offset after them.
 pub fn put_entries(block: &mut [u8], at: usize, entries: &[Entry]) -> usize
     requires { at + 8 * length entries.now ≤ length block.old }
     ensures bytes { Puts block.old block.new at result (entries_bytes entries.now) }

@@ -28,7 +28,7 @@ pub fn mode_of(bits: u16) -> Option<Mode>
     Some(fitting(mode))
 }
 
-/// Writes a mode as inodes and log records have it, and answers the place after it.
+/// Writes a mode as inodes and log records have it, and answers the offset after it.
 pub fn put_mode(block: &mut [u8], at: usize, mode: Mode) -> usize
     requires { at + 2 ≤ length block.old }
     ensures bytes { Puts block.old block.new at result (mode_bytes mode) }

@@ -41,7 +41,7 @@ fn count_from(size: u64, offset: u64, most: usize) -> usize
     }
 }
 
-// How many bytes from a place on lie in its block, up to so many.
+// How many bytes from an offset on lie in its block, up to so many.
 fn count_within(at: u64, most: usize) -> usize
     requires { 0 < most }
     ensures some { 0 < result }

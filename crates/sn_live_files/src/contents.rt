@@ -1,15 +1,29 @@
 use sn_core_files::FileFault;
 use sn_model::Link;
 use sn_overlay::Below;
+use sn_walk::Attributes;
 use std::alloc::Global;
 
-/// A tree below an overlay that answers bytes of a file, and the names of a directory.
+/// A tree below an overlay that answers what a walk is told of a node, bytes of a file, and the names of a directory.
 pub trait HasContents: Below {
-    ghost use Rattle.std.specs.Prelude.{◌≡◌, IsTrue, IfOk, drop, take};
+    ghost use Rattle.std.specs.Prelude.{◌≡◌, IsTrue, IfErr, IfOk, drop, take};
     ghost use Rattle.std.specs.FinMap as map;
+    ghost use Rattle.std.specs.Option.{option_map};
     ghost use Rattle.sn_core_files.specs.Faults.{IfLookUp};
     ghost use Rattle.sn_overlay.specs.Layers.{bytes_of};
+    ghost use Rattle.sn_overlay.specs.Seen.{seen_node};
+    ghost use Rattle.sn_live_files.specs.Known.{attributes_of};
     ghost use Rattle.sn_live_files.specs.Listing.{links_of};
+
+    /// What a walk is told of the node that a number has, `None` where none has it: less than the whole node, which has its
+    /// default ACL too.
+    fn attributes(&mut self, number: u16) -> Result<Option<Attributes>, Self::Fault>
+        requires { Self.holds self.old }
+        ensures kept { Self.holds self.new }
+        ensures follows { Self.follows self.old self.new }
+        ensures same { IsTrue Self.is_told → Self.shows self.new ≡ Self.shows self.old }
+        ensures found { IsTrue Self.is_told → IfOk result (λ a. a ≡ option_map attributes_of (seen_node (Self.shows self.old) number)) }
+        ensures cause { IfErr result (λ f. Self.causes self.old self.new f) };
 
     /// The bytes of a node from an offset on: so many, or as many as there are before its end, and none of a directory or
     /// of a number without a node. It is `Memory` where there is none for the answer, and `View` where the tree finds a

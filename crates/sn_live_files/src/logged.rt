@@ -2,9 +2,14 @@ use crate::HasContents;
 use sn_core_files::FileFault;
 use sn_directories::{KeepsNames, LoggedTree};
 use sn_model::Link;
+use sn_walk::Attributes;
 use std::alloc::Global;
 
 impl<'a, B: KeepsNames + HasContents> HasContents for LoggedTree<'a, B> {
+    fn attributes(&mut self, number: u16) -> Result<Option<Attributes>, B::Fault> {
+        self.shown.attributes(number)
+    }
+
     fn read(
         &mut self,
         alloc: Global,

@@ -1,13 +1,16 @@
 ghost use Rattle.std.specs.Prelude.{◌≡◌};
 ghost use Rattle.std.specs.Option.{option_copied};
 ghost use Rattle.sn_overlay.specs.Layers.{hides_names};
+ghost use Rattle.sn_overlay.specs.Seen.{shown_state};
+ghost use Rattle.sn_live_files.specs.Known.{attributes_of};
 
 use crate::HasContents;
 use crate::bytes::gathered_from;
 use crate::merge::merged;
 use sn_core_files::FileFault;
 use sn_model::Link;
-use sn_overlay::{NodeChange, Through};
+use sn_overlay::{NodeChange, NodeState, Through};
+use sn_walk::Attributes;
 use std::alloc::Global;
 
 // Whether the names that a directory had below aren't seen.
@@ -21,7 +24,32 @@ fn hides_names(change: Option<&NodeChange>) -> bool
     }
 }
 
+// What a walk is told of a node that changed.
+fn attributes_of(state: &NodeState) -> Attributes
+    ensures { result ≡ attributes_of (shown_state state.now) }
+{
+    let ownership = &state.ownership;
+    Attributes {
+        kind: state.kind,
+        set_gid: ownership.set_gid,
+        sticky: ownership.sticky,
+        owner: ownership.owner,
+        group: ownership.group,
+        acl: ownership.acl.copy(),
+        links: state.links,
+        size: state.size,
+    }
+}
+
 impl<'a, B: HasContents> HasContents for Through<'a, B> {
+    fn attributes(&mut self, number: u16) -> Result<Option<Attributes>, B::Fault> {
+        match self.overlay.node(number) {
+            Some(NodeChange::Gone { .. }) => Ok(None),
+            Some(NodeChange::Changed(state)) => Ok(Some(attributes_of(state))),
+            None => self.below.attributes(number),
+        }
+    }
+
     fn read(
         &mut self,
         alloc: Global,

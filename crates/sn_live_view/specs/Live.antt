@@ -8,25 +8,10 @@ use Rattle.sn_model.specs.Tree.{Tree}
 use Rattle.sn_model.specs.World.{Trees, World}
 use Rattle.sn_number_table.specs.Table.{TellsNumbers}
 use Rattle.sn_number_table.specs.declared.table.NumberTable.{NumberTable}
-use Rattle.sn_overlay.specs.declared.node.SeenNode.{SeenNode}
-use Rattle.sn_walk.specs.declared.view.Attributes.{Attributes}
 
 -- a live tree, with frozen trees beside it
 abbrev pub live_trees : Tree → FrozenTrees → Trees
 live_trees tree frozen = record { live = tree; frozen = frozen }
-
--- what a walk is told of a node that is seen
-abbrev pub attributes_of : SeenNode → Attributes
-attributes_of node = record {
-  kind = node.kind;
-  set_gid = node.ownership.set_gid;
-  sticky = node.ownership.sticky;
-  owner = node.ownership.owner;
-  group = node.ownership.group;
-  acl = node.ownership.acl;
-  links = node.links;
-  size = node.size;
-}
 
 -- What is seen is a name tree, and the table tells its numbers.
 pub record IsNumbered (tree : Tree) (numbers : NumberTable) : Type 0 where

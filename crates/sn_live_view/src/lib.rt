@@ -9,8 +9,8 @@
 //! one of the table. Where the tree is told, it has to be a name tree, and the table has to tell its numbers
 //! (`IsNumbered`); then each answer is the one that the model has. A fault is the tree's.
 //!
-//! Where the tree answers bytes and names too (`HasContents` of `sn_live_files`), it is a view that calls are decided over
-//! (`FileView` of `sn_core_files`): its files are read, and its directories listed.
+//! The tree answers what a walk is told of a node, bytes and names (`HasContents` of `sn_live_files`), so calls are decided
+//! over the view too (`FileView` of `sn_core_files`): its files are read, and its directories listed.
 //!
 //! The way through it: `specs/Live` says which trees are seen, and when a table belongs to one; `reads` has what
 //! is made of one look-up, and `view` and `files` the view, [`LiveView`]. `deciding` decides a call over a live tree
@@ -26,11 +26,12 @@
 #![tactic(auto)]
 
 mod deciding;
+mod fault;
 mod files;
 mod reads;
 mod unread;
 mod view;
 
 pub use deciding::{decide_live, decide_unread};
-pub use unread::Unread;
+pub use fault::Unread;
 pub use view::LiveView;

@@ -1,59 +1,16 @@
 //! What is made of a look-up of the live tree.
 ghost use Rattle.std.specs.Prelude.{◌≡◌, IsTrue, IfOk, IfErr};
-ghost use Rattle.std.specs.Option.{option_and_then, option_map};
+ghost use Rattle.std.specs.Option.{option_and_then};
 ghost use Rattle.sn_limits.specs.Versions.{version_1};
 ghost use Rattle.sn_walk.specs.Gives.{Gives, IfFault};
 ghost use Rattle.sn_model.specs.Seen.{has_room_for_name};
 ghost use Rattle.sn_overlay.specs.Seen.{seen_node};
-ghost use Rattle.sn_live_view.specs.Live.{attributes_of};
 
 use sn_acl::Acl;
 use sn_applies::NamedTree;
 use sn_limits::Limits;
 use sn_model::{Errno, Refusal};
-use sn_overlay::SeenNode;
-use sn_walk::{Attributes, Failure};
-
-// What a walk is told of a node.
-fn attributes_of(node: SeenNode) -> Attributes
-    ensures { result ≡ attributes_of node }
-{
-    let SeenNode {
-        kind,
-        ownership,
-        links,
-        size,
-    } = node;
-    Attributes {
-        kind,
-        set_gid: ownership.set_gid,
-        sticky: ownership.sticky,
-        owner: ownership.owner,
-        group: ownership.group,
-        acl: ownership.acl,
-        links,
-        size,
-    }
-}
-
-/// What a walk is told of the node that a number has, `None` where none has it.
-pub(crate) fn attributes<T: NamedTree>(
-    tree: &mut T,
-    number: u16,
-) -> Result<Option<Attributes>, T::Fault>
-    requires { T.holds tree.old }
-    ensures kept { T.holds tree.new }
-    ensures follows { T.follows tree.old tree.new }
-    ensures same { IsTrue T.is_told → T.shows tree.new ≡ T.shows tree.old }
-    ensures found { IsTrue T.is_told → IfOk result (λ a. a ≡ option_map attributes_of (seen_node (T.shows tree.old) number)) }
-    ensures cause { IfErr result (λ f. T.causes tree.old tree.new f) }
-{
-    match tree.node(number) {
-        Ok(Some(node)) => Ok(Some(attributes_of(node))),
-        Ok(None) => Ok(None),
-        Err(fault) => Err(fault),
-    }
-}
+use sn_walk::Failure;
 
 /// The default ACL of the node that a number has, `None` where it has none, as a file, or where no node has the
 /// number.

@@ -1,3 +1,4 @@
+use crate::Unread;
 use sn_acl::Acl;
 use sn_core_decide::CallView;
 use sn_core_files::{FileFault, FileView};
@@ -8,10 +9,6 @@ use sn_live::LiveTree;
 use sn_model::{Names, Refusal};
 use sn_walk::{Attributes, Failure, Home, Object, TreeView};
 use std::alloc::Global;
-
-/// A look-up is needed, and none is made.
-#[derive(Clone, Copy)]
-pub struct Unread;
 
 /// The live tree of a root and the frozen ones, of which nothing is read: each look-up fails. Whatever is decided over
 /// it asks nothing of the trees.

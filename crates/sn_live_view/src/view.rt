@@ -1,12 +1,13 @@
 ghost use Rattle.sn_limits.specs.Versions.{version_1};
 
-use crate::reads::{attributes, default_acl, room_for_name};
+use crate::reads::{default_acl, room_for_name};
 use sn_acl::Acl;
 use sn_applies::NamedTree;
 use sn_core_decide::CallView;
 use sn_core_names::MoveView;
 use sn_frozen::HasSnapshots;
 use sn_limits::{Limits, SnapshotName};
+use sn_live_files::HasContents;
 use sn_model::{Errno, Refusal};
 use sn_number_table::NumberTable;
 use sn_walk::{Attributes, Failure, Home, TreeView};
@@ -23,7 +24,7 @@ pub struct LiveView<'a, T> {
     pub numbers: &'a NumberTable,
 }
 
-impl<'a, T: NamedTree + HasSnapshots> TreeView for LiveView<'a, T> {
+impl<'a, T: NamedTree + HasContents + HasSnapshots> TreeView for LiveView<'a, T> {
     ghost use Rattle.std.specs.Prelude.{◌≡◌, IsTrue};
     ghost use Rattle.std.proofs.Common.{refl, ◌∙◌};
     ghost use Rattle.sn_model.specs.World.{viewed_trees};
@@ -48,7 +49,7 @@ impl<'a, T: NamedTree + HasSnapshots> TreeView for LiveView<'a, T> {
 
     fn node(&mut self, home: &Home, number: u16) -> Result<Option<Attributes>, T::Fault> {
         match home {
-            Home::Live => attributes(self.tree, number),
+            Home::Live => self.tree.attributes(number),
             Home::Frozen(snapshot) => self.tree.frozen_node(snapshot, number),
         }
     }
@@ -82,7 +83,7 @@ impl<'a, T: NamedTree + HasSnapshots> TreeView for LiveView<'a, T> {
     ghost causes_later = { λ u v w f p q. T.causes_later u.tree.now v.tree.now w.tree.now f p.0 q };
 }
 
-impl<'a, T: NamedTree + HasSnapshots> CallView for LiveView<'a, T> {
+impl<'a, T: NamedTree + HasContents + HasSnapshots> CallView for LiveView<'a, T> {
     ghost use Rattle.std.proofs.Common.{ap, ap₂};
     ghost use Rattle.sn_model.specs.Seen.{seen_names};
     ghost use Rattle.sn_model.specs.Tests.{has_room};
@@ -115,7 +116,7 @@ impl<'a, T: NamedTree + HasSnapshots> CallView for LiveView<'a, T> {
     ghost names_stay = { λ u v told p. ap₂ (λ tree frozen. seen_names version_1 (live_trees tree frozen)) (p.2 told) (T.frozen_stay u.tree.now v.tree.now told p.0) };
 }
 
-impl<'a, T: NamedTree + HasSnapshots> MoveView for LiveView<'a, T> {
+impl<'a, T: NamedTree + HasContents + HasSnapshots> MoveView for LiveView<'a, T> {
     fn is_below(&mut self, top: u16, directory: u16) -> Result<bool, T::Fault> {
         self.tree.is_below(top, directory)
     }

@@ -40,7 +40,23 @@ fn with_number(caller: Caller, number: u16) -> Caller
 impl LiveWorld {
     ghost use Rattle.sn_live_world.specs.World.{IsOver, kept_of, tree_over};
 
-    // The same of whatever is pending. Apart, since the room that it takes for a change is cleared at each call.
+    /// What was pending, with the next number for a new node: the least that no node has and that isn't kept back, or
+    /// the least that no node has where there is no other. `None` where no number is left for what is to be made.
+    pub fn choose<'a>(&self, pending: Pending<'a>, caller: Caller) -> Option<Picked<'a>>
+        ensures picked { (below : Tree) → IsOver self.now below → IfSome result (λ picked. Picks (tree_over self.now below) (kept_of self.now) pending.entry caller picked) }
+        ensures opening { IfSome result (λ picked. is_opening picked.caller ≡ is_opening caller) }
+        ensures left { (below : Tree) → IsOver self.now below → HasNumber (tree_over self.now below) pending.entry → is_some result ≡ true }
+    {
+        match pending {
+            Pending::Nothing => Some(Picked {
+                change: None,
+                caller,
+            }),
+            pending => self.choose_any(pending, caller),
+        }
+    }
+
+    // What `choose` answers, whatever is pending. Apart, since the room that it takes for a change is cleared at each call.
     fn choose_any<'a>(&self, pending: Pending<'a>, caller: Caller) -> Option<Picked<'a>>
         ensures picked { (below : Tree) → IsOver self.now below → IfSome result (λ picked. Picks (tree_over self.now below) (kept_of self.now) pending.entry caller picked) }
         ensures opening { IfSome result (λ picked. is_opening picked.caller ≡ is_opening caller) }
@@ -73,22 +89,6 @@ impl LiveWorld {
                 change: Some(change),
                 caller,
             }),
-        }
-    }
-
-    /// What was pending, with the next number for a new node: the least that no node has and that isn't kept back, or
-    /// the least that no node has where there is no other. `None` where no number is left for what is to be made.
-    pub fn choose<'a>(&self, pending: Pending<'a>, caller: Caller) -> Option<Picked<'a>>
-        ensures picked { (below : Tree) → IsOver self.now below → IfSome result (λ picked. Picks (tree_over self.now below) (kept_of self.now) pending.entry caller picked) }
-        ensures opening { IfSome result (λ picked. is_opening picked.caller ≡ is_opening caller) }
-        ensures left { (below : Tree) → IsOver self.now below → HasNumber (tree_over self.now below) pending.entry → is_some result ≡ true }
-    {
-        match pending {
-            Pending::Nothing => Some(Picked {
-                change: None,
-                caller,
-            }),
-            pending => self.choose_any(pending, caller),
         }
     }
 

@@ -25,10 +25,6 @@ pub can_be : {A : Type 0} (o : Option A) → true ≡ is_some o → (x : A) × (
 can_be None e = cc e
 can_be (Some x) e = (x, refl)
 
-pub can_not_be : {A : Type 0} (o : Option A) → false ≡ is_some o → o ≡ None
-can_not_be None e = refl
-can_not_be (Some x) e = cc e
-
 module _ (older : Layer) (below : Tree) (rows next : List Counted) (change : Change) (p : PreparedChange) (new : Layer) (shown : IsShown older below rows) (can : CanBeLaid p (through older below) change) (is : new ≡ merge older (layer_of p.newer)) where
   merged : MergesShowBoth → through new below ≡ can.after
   merged both = ap (λ (l : Layer). through l below) is ∙ both older (layer_of p.newer) below shown.lies.whole can.lies.whole shown.lies.fits can.lies.fits ∙ can.shows

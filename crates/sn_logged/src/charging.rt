@@ -6,9 +6,11 @@ ghost use Rattle.sn_model.specs.Tree.{link_to};
 ghost use Rattle.sn_model.specs.declared.link.Link.{Link};
 
 use sn_applies::NamedTree;
+use sn_core_decide::{
+    attributes_charge, blocks_spanned, name_charge, rename_charge, size_charge, unlink_charge, write_charge,
+};
 use sn_limits::{Kind, Limits};
 use sn_model::Change;
-use sn_room::{blocks_spanned, file_charge};
 
 // Whether a number is a file's.
 fn is_file<T: NamedTree>(tree: &mut T, number: u16) -> Result<bool, T::Fault>
@@ -57,8 +59,12 @@ fn remove_charge<T: NamedTree>(
     ensures cause { IfErr result (λ f. T.causes tree.old tree.new f) }
 {
     let is_file = is_file_under(tree, directory, name)?;
-    let inodes = if is_file { 3 } else { 2 };
-    Ok(inodes * u128::from(limits.inode_charge) + u128::from(limits.block_charge))
+    let charge = if is_file {
+        unlink_charge(limits)
+    } else {
+        name_charge(limits)
+    };
+    Ok(u128::from(charge))
 }
 
 /// The blocks that are charged for a change of a tree. It looks a name up at most.
@@ -75,20 +81,17 @@ pub(crate) fn charge<T: NamedTree>(
     ensures most { IfOk result (λ n. n ≤ 5 * limits.now.inode_charge + limits.now.block_charge * 2 ^ 53) }
     ensures cause { IfErr result (λ f. T.causes tree.old tree.new f) }
 {
-    let inode = u128::from(limits.inode_charge);
-    let block = u128::from(limits.block_charge);
     match change {
-        Change::Make { .. } => Ok(2 * inode + block),
-        Change::AddLink { .. } => Ok(2 * inode + block),
+        Change::Make { .. } | Change::AddLink { .. } => Ok(u128::from(name_charge(limits))),
         Change::Remove { directory, name } => {
             remove_charge(limits, tree, *directory, name.as_slice())
         }
-        Change::Rename { .. } => Ok(5 * inode + 2 * block),
-        Change::Write { offset, bytes, .. } => Ok(file_charge(
+        Change::Rename { .. } => Ok(u128::from(rename_charge(limits))),
+        Change::Write { offset, bytes, .. } => Ok(write_charge(
             limits,
             blocks_spanned(*offset, bytes.as_slice().len()),
         )),
-        Change::SetSize { .. } => Ok(inode + block),
-        Change::SetAttributes { .. } => Ok(inode),
+        Change::SetSize { .. } => Ok(u128::from(size_charge(limits))),
+        Change::SetAttributes { .. } => Ok(u128::from(attributes_charge(limits))),
     }
 }

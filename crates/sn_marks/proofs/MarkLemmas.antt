@@ -6,8 +6,8 @@ use Rattle.std.proofs.lemmas.Nat.Bits.{bit_at-lt}
 use Rattle.sn_layout.specs.declared.geometry.Area.TheVariants.{Data}
 use Rattle.sn_layout.specs.Geometry.{IsIn}
 use Rattle.sn_image.specs.Reach.{block_reach}
-use Rattle.sn_model.specs.declared.mount.Damage.{Damage}
-use Rattle.sn_model.specs.declared.mount.Damage.TheVariants.{Pointer, ReachedTwice}
+use Rattle.sn_model.specs.declared.fault.Damage.{Damage}
+use Rattle.sn_model.specs.declared.fault.Damage.TheVariants.{Pointer, ReachedTwice}
 use Rattle.sn_ondisk.specs.Counts.{times}
 use Rattle.sn_ondisk.specs.Trees.{Store, below, all_pointers}
 use Rattle.sn_ondisk.proofs.CountLemmas.{times-cons, times-same, times-other, among_times, times_among, times-all_append, times-down}

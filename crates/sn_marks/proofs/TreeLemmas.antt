@@ -6,7 +6,7 @@ use Rattle.std.proofs.lemmas.Bool.{cases_lt}
 use Rattle.std.proofs.lemmas.List.{get_or_past}
 use Rattle.sn_layout.specs.Pointers.{levels_of}
 use Rattle.sn_layout.specs.declared.tree.BlockTree.{BlockTree}
-use Rattle.sn_model.specs.declared.mount.Damage.{Damage}
+use Rattle.sn_model.specs.declared.fault.Damage.{Damage}
 use Rattle.sn_ondisk.specs.Trees.{Store, named_by, below, entry, tree_reach, data_block}
 use Rattle.sn_image.specs.Sound.{EndsAtSize}
 use Rattle.sn_sound.specs.Faults.{IsTreeFault, pointer, byte, holder_of}

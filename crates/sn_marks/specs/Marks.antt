@@ -3,8 +3,8 @@ use Rattle.std.specs.Prelude.{◌≡◌, ◌≢◌, ℕ, ◌+◌, ◌≤◌, Lis
 use Rattle.std.specs.Int.{bit_at}
 use Rattle.sn_layout.specs.declared.geometry.Area.TheVariants.{Data}
 use Rattle.sn_layout.specs.Geometry.{IsIn}
-use Rattle.sn_model.specs.declared.mount.Damage.{Damage}
-use Rattle.sn_model.specs.declared.mount.Damage.TheVariants.{Pointer, ReachedTwice}
+use Rattle.sn_model.specs.declared.fault.Damage.{Damage}
+use Rattle.sn_model.specs.declared.fault.Damage.TheVariants.{Pointer, ReachedTwice}
 use Rattle.sn_ondisk.specs.Counts.{times}
 
 -- These blocks were gone through: bit k of a word counts how often its block is among them, and all of them lie in the data area of a disk of n blocks.

@@ -1,8 +1,8 @@
 -- What is wrong with a block tree.
 use Rattle.std.specs.Prelude.{ℕ, List}
 use Rattle.sn_layout.specs.declared.tree.BlockTree.{BlockTree}
-use Rattle.sn_model.specs.declared.mount.Damage.{Damage}
-use Rattle.sn_model.specs.declared.mount.Damage.TheVariants.{Misspelt}
+use Rattle.sn_model.specs.declared.fault.Damage.{Damage}
+use Rattle.sn_model.specs.declared.fault.Damage.TheVariants.{Misspelt}
 use Rattle.sn_ondisk.specs.Trees.{Store, tree_reach}
 use Rattle.sn_sound.specs.Faults.{IsTreeFault}
 use Rattle.sn_marks.specs.Marks.{IsAstray}

@@ -1,8 +1,8 @@
 -- Going through pointers, so many levels above data blocks, on behalf of a tree of some size. `first` is the byte of the tree that the first of them begins with.
 use Rattle.std.specs.Prelude.{◌≡◌, ◌≢◌, ◌⊎◌, ℕ, zero, suc, ◌+◌, ◌*◌, ◌^◌, ◌<◌, ◌≤◌, ◌==◌, not, List, length, slice_index}
 use Rattle.std.specs.List.{filter}
-use Rattle.sn_model.specs.declared.mount.Damage.{Damage}
-use Rattle.sn_model.specs.declared.mount.Damage.TheVariants.{Misspelt}
+use Rattle.sn_model.specs.declared.fault.Damage.{Damage}
+use Rattle.sn_model.specs.declared.fault.Damage.TheVariants.{Misspelt}
 use Rattle.sn_ondisk.specs.Trees.{Store, named_by, below, all_pointers}
 use Rattle.sn_marks.specs.Marks.{Marks, IsAstray}
 
@@ -10,7 +10,7 @@ use Rattle.sn_marks.specs.Marks.{Marks, IsAstray}
 abbrev pub named : List ℕ → List ℕ
 named pointers = filter (λ pointer. not (pointer == 0)) pointers
 
--- The bytes that a pointer to a data block stands for are 0 from a place on.
+-- The bytes that a pointer to a data block stands for are 0 from an offset on.
 abbrev pub HasEnd : Store → ℕ → ℕ → Type 0
 HasEnd s from pointer = (k : ℕ) → k < 4096 → from ≤ k → slice_index (named_by s pointer) k ≡ 0
 

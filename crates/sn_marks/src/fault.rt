@@ -1,6 +1,6 @@
 //! Why a root isn't gone through to its end.
 ghost use Rattle.std.specs.Prelude.{◌≡◌};
-ghost use Rattle.sn_model.specs.declared.mount.Damage.TheVariants.{Misspelt};
+ghost use Rattle.sn_model.specs.declared.fault.Damage.TheVariants.{Misspelt};
 ghost use Rattle.sn_marks.specs.declared.fault.CheckFault.TheVariants.{Damaged, Read};
 
 use sn_block::ReadFault;

@@ -35,7 +35,7 @@ fn span_of(height: u32) -> u64
     4096 * 1024u64.pow(height)
 }
 
-// Whether the bytes of a block from a place on are zeros.
+// Whether the bytes of a block from an offset on are zeros.
 fn has_end(block: &Block, from: usize) -> bool
     requires { from ≤ 4096 }
     ensures zeros { IsTrue result ↔ All (λ b. b ≡ 0) (drop from block.now) }
@@ -44,7 +44,7 @@ fn has_end(block: &Block, from: usize) -> bool
     block[from..].iter().all(|byte| *byte == 0)
 }
 
-// Tests that the bytes of a data block from a place on are zeros. None are where the place lies past it.
+// Tests that the bytes of a data block from an offset on are zeros. None are where the offset lies past it.
 fn test_end<D: Device>(blocks: &mut Blocks<D>, from: u64, pointer: u32) -> Result<(), CheckFault>
     requires some { pointer ≢ 0 }
     requires room { 8 * pointer + 8 ≤ (D.status (device_of blocks.old)).sectors }

@@ -6,8 +6,8 @@ use Rattle.std.specs.Str.{bytes_eq}
 use Rattle.sn_acl.specs.declared.entries.Entry.{Entry}
 use Rattle.sn_acl.specs.Text.{acl_of}
 use Rattle.sn_limits.specs.declared.limits.Limits.{Limits}
-use Rattle.sn_walk.specs.declared.path.PathFault.{PathFault}
-use Rattle.sn_walk.specs.declared.path.PathFault.TheVariants.{Misspelt, TooLong}
+use Rattle.sn_walk.specs.declared.fault.PathFault.{PathFault}
+use Rattle.sn_walk.specs.declared.fault.PathFault.TheVariants.{Misspelt, TooLong}
 use Rattle.sn_walk.specs.Chains.{◌>>=◌}
 use Rattle.sn_walk.specs.Paths.{parsed}
 use Rattle.sn_walk.specs.Views.{ViewedTrees}

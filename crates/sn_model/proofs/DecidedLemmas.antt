@@ -12,8 +12,8 @@ use Rattle.sn_acl.specs.Inheritance.{inherited_access, inherited_default}
 use Rattle.sn_acl.specs.AccessList.{IsValid, is_acl}
 use Rattle.sn_acl.proofs.ModeLemmas.{IsMode, valid-with_mode}
 use Rattle.sn_acl.proofs.Validity.{test-from_valid}
-use Rattle.sn_walk.specs.declared.path.PathFault.{PathFault}
-use Rattle.sn_walk.specs.declared.path.PathFault.TheVariants.{Misspelt, TooLong}
+use Rattle.sn_walk.specs.declared.fault.PathFault.{PathFault}
+use Rattle.sn_walk.specs.declared.fault.PathFault.TheVariants.{Misspelt, TooLong}
 use Rattle.sn_limits.specs.declared.kind.Kind.{Kind}
 use Rattle.sn_limits.specs.declared.kind.Kind.TheVariants.{File, Directory}
 use Rattle.sn_limits.specs.Names.{is_name_spelled, has_name_length, is_name}

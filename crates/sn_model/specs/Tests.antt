@@ -5,8 +5,8 @@ use Rattle.sn_acl.specs.declared.entries.Entry.{Entry}
 use Rattle.sn_acl.specs.declared.modes.Mode.{Mode}
 use Rattle.sn_acl.specs.Credential.{Credential}
 use Rattle.sn_acl.specs.Access.{denial_of}
-use Rattle.sn_walk.specs.declared.path.PathFault.{PathFault}
-use Rattle.sn_walk.specs.declared.path.PathFault.TheVariants.{Misspelt, TooLong}
+use Rattle.sn_walk.specs.declared.fault.PathFault.{PathFault}
+use Rattle.sn_walk.specs.declared.fault.PathFault.TheVariants.{Misspelt, TooLong}
 use Rattle.sn_walk.specs.declared.object.Object.{Object}
 use Rattle.sn_walk.specs.declared.view.Attributes.{Attributes}
 use Rattle.sn_walk.specs.declared.walking.Found.{Found}

@@ -1,10 +1,10 @@
 -- How the parts of replies are printed.
 use Rattle.std.specs.Prelude.{List, ◌++◌, Option, Some, None, ℕ, if◌then◌else◌, codes, decimal}
 use Rattle.sn_acl.specs.Text.{tag_text}
-use Rattle.sn_model.specs.declared.mount.Damage.{Damage}
-use Rattle.sn_model.specs.declared.mount.Damage.TheVariants as damage
-use Rattle.sn_model.specs.declared.mount.MountFault.{MountFault}
-use Rattle.sn_model.specs.declared.mount.MountFault.TheVariants as mount
+use Rattle.sn_model.specs.declared.fault.Damage.{Damage}
+use Rattle.sn_model.specs.declared.fault.Damage.TheVariants as damage
+use Rattle.sn_model.specs.declared.fault.MountFault.{MountFault}
+use Rattle.sn_model.specs.declared.fault.MountFault.TheVariants as mount
 use Rattle.sn_model.specs.declared.reply.Access.{Access}
 use Rattle.sn_model.specs.declared.reply.Denial.{Denial}
 use Rattle.sn_model.specs.declared.reply.Errno.{Errno}

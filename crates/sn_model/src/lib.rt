@@ -18,8 +18,8 @@
 //! 9. `Steps`: what a call may answer and the world that it leaves, while nothing fails.
 //! 10. `Machine`: a mount that runs, or one that a failure has stopped; what it answers to an event and
 //!     the mishap that the event met with; runs, their ends, and lives of many crashes.
-//! 11. `Worlds`, `Laws`, `AccessLaws`, `NameLaws`, `FileLaws`, `ChangeLaws` and `MachineLaws`: what follows from these in the subject's own
-//!     words, each named by the contract of a function of `laws`.
+//! 11. `Worlds`, `Laws`, `AccessLaws`, `NameLaws`, `FileLaws`, `ChangeLaws` and `MachineLaws`: what follows from these in
+//!     the subject's own words, each named by the contract of a function of `laws`.
 //! 12. `Example`: the machine on one small world.
 //! 13. `Texts`: how refusals, faults and their parts are printed.
 //!
@@ -32,11 +32,12 @@
 mod argument;
 mod call;
 mod change;
+mod end;
+mod fault;
 mod groups;
 mod laws;
 mod link;
 mod lists;
-mod mount;
 mod moving;
 mod outcome;
 mod reply;
@@ -47,6 +48,8 @@ mod word;
 pub use argument::{AclKind, ModeBits, NewAcl, OpenFlags};
 pub use call::{Call, Event};
 pub use change::{Bytes, Change, Ownership};
+pub use end::End;
+pub use fault::{Damage, MountFault};
 pub use groups::Groups;
 pub use laws::{
     access_calls_deny_by_rule, access_is_denied_by_rule, access_is_granted_by_rule,
@@ -62,7 +65,6 @@ pub use laws::{
 };
 pub use link::Link;
 pub use lists::{FileData, Names, StoredAcl};
-pub use mount::{Damage, End, MountFault};
 pub use moving::Moving;
 pub use outcome::{AskedPoint, Caller, Outcome, Pending};
 pub use reply::{Access, Denial, Errno, FileStatus, PathNumber, Progress, Refusal, Reply, Rule};

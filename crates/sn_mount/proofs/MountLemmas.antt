@@ -15,7 +15,7 @@ use Rattle.sn_limits.specs.declared.limits.Limits.{Limits}
 use Rattle.sn_limits.specs.Versions.{version_1}
 use Rattle.sn_log.specs.Clearing.{Clears}
 use Rattle.sn_log.specs.Positions.{LogPosition, first_of}
-use Rattle.sn_model.specs.declared.mount.MountFault.{MountFault}
+use Rattle.sn_model.specs.declared.fault.MountFault.{MountFault}
 use Rattle.sn_model.specs.NameTree.{IsTree}
 use Rattle.sn_model.specs.Settling.{settled}
 use Rattle.sn_model.specs.Tree.{Tree}

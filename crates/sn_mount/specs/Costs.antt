@@ -4,7 +4,7 @@ use Rattle.sn_device.specs.declared.status.Status.{Status}
 use Rattle.sn_block.specs.Counts.{IsLater, called}
 use Rattle.sn_layout.specs.declared.gate.Gate.{Gate}
 use Rattle.sn_layout.specs.declared.gate.Gate.TheVariants.{Open}
-use Rattle.sn_model.specs.declared.mount.MountFault.{MountFault}
+use Rattle.sn_model.specs.declared.fault.MountFault.{MountFault}
 use Rattle.sn_cp_whole.specs.Making.{most_syncs, most_writes, syncs_of_point, writes_of_point}
 use Rattle.sn_cp_whole.specs.Recovering.{syncs_of_steps, writes_of_steps}
 use Rattle.sn_examine.specs.Failing.{CostsAtMost}

@@ -7,8 +7,8 @@ use Rattle.sn_layout.specs.declared.geometry.Slot.{Slot}
 use Rattle.sn_layout.specs.declared.root.RootBody.{RootBody}
 use Rattle.sn_block.specs.Effects.{Nowhere}
 use Rattle.sn_live_world.specs.World.{changes_of, world_in}
-use Rattle.sn_model.specs.declared.mount.MountFault.{MountFault}
-use Rattle.sn_model.specs.declared.mount.MountFault.TheVariants as fault
+use Rattle.sn_model.specs.declared.fault.MountFault.{MountFault}
+use Rattle.sn_model.specs.declared.fault.MountFault.TheVariants as fault
 use Rattle.sn_model.specs.World.{World}
 use Rattle.sn_ondisk.specs.Roots.{IsNewest}
 use Rattle.sn_ondisk.specs.Trees.{store_of}

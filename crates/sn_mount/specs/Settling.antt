@@ -6,9 +6,9 @@ use Rattle.sn_device.specs.Disk.{Disk, reads}
 use Rattle.sn_layout.specs.declared.geometry.Area.TheVariants.{MapCopy}
 use Rattle.sn_layout.specs.Geometry.{start_of}
 use Rattle.sn_limits.specs.Versions.{version_1}
-use Rattle.sn_model.specs.declared.mount.Damage.TheVariants.{MapWord}
-use Rattle.sn_model.specs.declared.mount.MountFault.{MountFault}
-use Rattle.sn_model.specs.declared.mount.MountFault.TheVariants as fault
+use Rattle.sn_model.specs.declared.fault.Damage.TheVariants.{MapWord}
+use Rattle.sn_model.specs.declared.fault.MountFault.{MountFault}
+use Rattle.sn_model.specs.declared.fault.MountFault.TheVariants as fault
 use Rattle.sn_model.specs.Settling.{settled}
 use Rattle.sn_model.specs.Tree.{Tree}
 use Rattle.sn_model.specs.World.{World}

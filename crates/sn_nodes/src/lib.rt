@@ -5,6 +5,8 @@
 //! directory and name, so that a name that is lent is looked up as it is. `nodes_of`, `stored_of` and `links_of` of
 //! `specs/Stored` say what they stand for, as finite maps. That the counts agree with the names is up to whoever
 //! keeps both, as `sn_plain` does.
+//!
+//! What the sources leave open is decided in `docs/DECISIONS.md`, under "The tree in memory".
 #![tactic(auto)]
 
 mod links;

@@ -56,6 +56,7 @@ impl Marks {
         self.get(number).is_kept()
     }
 
+    /// Whether a search for a free number passes over the number.
     pub fn is_used(&self, number: u16) -> bool
         ensures { result ≡ is_used (mark_at self.now number) }
     {

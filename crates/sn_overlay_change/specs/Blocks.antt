@@ -2,11 +2,11 @@
 use Rattle.std.specs.Prelude.{ℕ, ◌+◌, ◌-◌, ◌*◌, List, ◌++◌, length, take, drop}
 use Rattle.sn_overlay.specs.Pieces.{zeros}
 
--- a block with zeros from a place on
+-- a block with zeros from an offset on
 abbrev pub zeroed : ℕ → List ℕ → List ℕ
 zeroed from block = take from block ++ zeros (4096 - from)
 
--- a block with other bytes from a place on
+-- a block with other bytes from an offset on
 abbrev pub spliced : ℕ → List ℕ → List ℕ → List ℕ
 spliced from new block = take from block ++ (new ++ drop (from + length new) block)
 

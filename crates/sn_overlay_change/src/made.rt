@@ -69,7 +69,7 @@ pub(crate) fn lose_name(overlay: &mut Overlay, number: u16, seen: Option<SeenNod
     overlay.set_node(number, change);
 }
 
-// Puts bytes into a block, from a place on.
+// Puts bytes into a block, from an offset on.
 pub(crate) fn splice(block: &mut Block, from: usize, bytes: &[u8])
     requires { from + length bytes.now ≤ 4096 }
     ensures { block.new ≡ spliced from bytes.now block.old }
@@ -77,7 +77,7 @@ pub(crate) fn splice(block: &mut Block, from: usize, bytes: &[u8])
     block[from..from + bytes.len()].copy_from_slice(bytes);
 }
 
-// Puts zeros into a block, from a place on.
+// Puts zeros into a block, from an offset on.
 pub(crate) fn zero_from(block: &mut Block, from: usize)
     requires { from ≤ 4096 }
     ensures { block.new ≡ zeroed from block.old }

@@ -6,7 +6,7 @@ use Rattle.sn_device.specs.Fill.{filling, last_synced}
 use Rattle.sn_device.specs.declared.fill.Fill.{Fill}
 use Rattle.sn_device.specs.declared.status.Status.{Status}
 use Rattle.sn_model.specs.declared.call.Event.{Event}
-use Rattle.sn_model.specs.declared.mount.End.{End}
+use Rattle.sn_model.specs.declared.end.End.{End}
 use Rattle.sn_model.specs.declared.reply.Reply.{Reply}
 use Rattle.sn_model.specs.Machine.{Running}
 use Rattle.sn_model.specs.World.{World}

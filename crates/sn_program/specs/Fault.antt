@@ -1,7 +1,7 @@
 -- What a fault says to the shell, and the fault that a run ends with.
 use Rattle.std.specs.Prelude.{ℕ, ◌≡◌, ◌⊎◌, Option, None, Some, Result, Ok, Err}
-use Rattle.sn_model.specs.declared.mount.End.{End}
-use Rattle.sn_model.specs.declared.mount.End.TheVariants as end
+use Rattle.sn_model.specs.declared.end.End.{End}
+use Rattle.sn_model.specs.declared.end.End.TheVariants as end
 use Rattle.sn_script.specs.declared.fault.ScriptFault.TheVariants as reading
 use Rattle.sn_command.specs.declared.fault.WordsFault.{WordsFault}
 use Rattle.sn_command.specs.declared.fault.WordsFault.TheVariants as words

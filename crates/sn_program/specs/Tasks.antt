@@ -11,9 +11,9 @@ use Rattle.sn_device.specs.Memory.{first}
 use Rattle.sn_device.specs.Status.{uncalled}
 use Rattle.sn_device.specs.declared.fill.Fill.{Fill}
 use Rattle.sn_model.specs.declared.call.Event.{Event}
-use Rattle.sn_model.specs.declared.mount.Damage.{Damage}
-use Rattle.sn_model.specs.declared.mount.End.{End}
-use Rattle.sn_model.specs.declared.mount.End.TheVariants as ending
+use Rattle.sn_model.specs.declared.fault.Damage.{Damage}
+use Rattle.sn_model.specs.declared.end.End.{End}
+use Rattle.sn_model.specs.declared.end.End.TheVariants as ending
 use Rattle.sn_model.specs.declared.reply.Reply.{Reply}
 use Rattle.sn_model.specs.declared.reply.Reply.TheVariants as answer
 use Rattle.sn_command.specs.Tasks.{AsksFor}

@@ -3,7 +3,7 @@ ghost use Rattle.std.specs.Prelude.{◌≢◌, IsTrue, IfErr, IfOk, IsErrOf, OnE
 ghost use Rattle.std.specs.Io.KnownBytes.{Appends};
 ghost use Rattle.sn_check.specs.Verdicts.{IsRight};
 ghost use Rattle.sn_device.specs.Disk.{reads};
-ghost use Rattle.sn_model.specs.declared.mount.MountFault.{MountFault as Why};
+ghost use Rattle.sn_model.specs.declared.fault.MountFault.{MountFault as Why};
 ghost use Rattle.sn_program.specs.Tasks.{BeginsToSayVerdict, verdict_line};
 ghost use Rattle.sn_program.specs.declared.fault.ProgramFault.TheVariants as fault;
 ghost use Rattle.sn_sound.specs.Verdicts.{HasNoVerdict};

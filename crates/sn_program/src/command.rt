@@ -6,7 +6,7 @@ ghost use Rattle.sn_device.specs.Memory.{contents_of, disk_of, first, status_of}
 ghost use Rattle.sn_device.specs.Status.{uncalled};
 ghost use Rattle.sn_layout.specs.Geometry.{IsDiskSize};
 ghost use Rattle.sn_mkfs.specs.declared.fault.MkfsFault.TheVariants as mkfs_fault;
-ghost use Rattle.sn_model.specs.declared.mount.Damage.{Damage as Kind};
+ghost use Rattle.sn_model.specs.declared.fault.Damage.{Damage as Kind};
 ghost use Rattle.sn_model.specs.declared.reply.Reply.TheVariants as answer_of;
 ghost use Rattle.sn_program.specs.Answers.{AreEventsOf};
 ghost use Rattle.sn_program.specs.Fault.{IsOfFile, fault_in, outcome_of};

@@ -1,7 +1,7 @@
 //! Runs over a device.
 ghost use Rattle.std.specs.Prelude.{◌≡◌, IsTrue, OnOk, IfErr, length};
 ghost use Rattle.std.specs.Io.KnownBytes.{Appends};
-ghost use Rattle.sn_model.specs.declared.mount.End.TheVariants as ending;
+ghost use Rattle.sn_model.specs.declared.end.End.TheVariants as ending;
 ghost use Rattle.sn_program.specs.Answers.{AppendsFront, IsRun};
 ghost use Rattle.sn_program.specs.Fault.{IsOfFile, outcome_of};
 ghost use Rattle.sn_program.specs.Tasks.{lines_of};

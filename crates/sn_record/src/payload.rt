@@ -209,7 +209,7 @@ fn put_fields(block: &mut [u8], at: usize, change: &Change<'_>) -> usize
     }
 }
 
-/// Writes the payload of a change at a place, and answers the place after it.
+/// Writes the payload of a change at an offset, and answers the offset after it.
 pub fn put_change(block: &mut [u8], at: usize, change: &Change<'_>) -> usize
     requires spelled { IsSpelled change.now }
     requires room { at + length (payload_bytes change.now) ≤ length block.old }

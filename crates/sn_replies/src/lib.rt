@@ -10,6 +10,8 @@
 //! let events = read_script(alloc, b"0 login 0 0 -\n0 readdir /\n")?;
 //! let text = print_replies(alloc, replies.as_slice())?;
 //! ```
+//!
+//! What the sources leave open is decided in `docs/DECISIONS.md`, under "Scripts and the program".
 #![tactic(auto)]
 
 mod printing;

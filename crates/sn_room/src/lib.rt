@@ -11,9 +11,6 @@
 //! takes blocks for them until they are gone from its root. `unlink` and `rmdir`, which give blocks back, go without
 //! the reserve. The charge of a call is that of its change (`decided_changes_pay` of `sn_model`).
 //!
-//! What a write is charged, its blocks and its file, is said here once (`blocks_spanned`, `file_charge`), for the trees
-//! that lie below a decision too.
-//!
 //! What the sources leave open is decided in `docs/DECISIONS.md`, under "Room on the disk".
 //!
 //! ```text
@@ -26,10 +23,8 @@
 //! ```
 #![tactic(auto)]
 
-mod charges;
 mod laws;
 mod room;
 
-pub use charges::{blocks_spanned, file_charge};
 pub use laws::{calls_that_fit_are_paid, points_begin_anew};
 pub use room::Room;

@@ -82,6 +82,11 @@ no_node s file number none = node_found s file number ∙ ap (option_map (node_o
 pub nothing_shown : (s : Store) (file : BlockTree) (number : ℕ) → inode_at s file number ≡ None → None ≡ (viewed (image s file)).node number
 nothing_shown s file number none = sym (ap (option_map _) (no_node s file number none))
 
+-- an inode without an ACL block has no entries but those of its mode bits
+pub no_access : (s : Store) (block : ℕ) → block ≡ 0 → [] ≡ (acls_at s block).access
+unfolding acls_at
+no_access s block none = sym (ap (λ (n : ℕ). (acls_at s n).access) none)
+
 pub none_nameless : (s : Store) (file : BlockTree) (number : ℕ) → inode_at s file number ≡ None → false ≡ is_nameless (image s file) number (fin.get (image s file).nodes number)
 none_nameless s file number none = sym (ap (is_nameless (image s file) number) (no_node s file number none))
 

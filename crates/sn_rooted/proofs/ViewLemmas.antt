@@ -33,16 +33,6 @@ reads_none status = record { counts = refl; failures = omega arith }
 same_reads : (old new : Status) → new ≡ old → ReadsOn old new
 same_reads old new e = subst (ReadsOn old) (sym e) (reads_none old)
 
-pub reads_on : {T : Type 0} (result : Result T TreeFault) (old new : Status) → CountsTree result old new → ReadsOn old new
-reads_on (Ok x) old new counts = same_reads old new counts.done
-reads_on (Err (Read Memory)) old new counts = same_reads old new (counts.memory refl)
-reads_on (Err (Damaged block)) old new counts = same_reads old new (counts.damaged block refl)
-reads_on (Err (Read Device)) old new counts = told (has_ended old) (counts.device refl)
-  where
-    told : (b : Bool) → MatchBool b (new ≡ old) (new ≡ one_failure old) → ReadsOn old new
-    told true e = same_reads old new e
-    told false e = subst (ReadsOn old) (sym e) (record { counts = refl; failures = omega arith })
-
 pub caused : {T : Type 0} (tells : Bool) (result : Result T TreeFault) (old new : Status) → CountsTree result old new → (IsTrue tells → (block : Option ℕ) → result ≡ Err (Damaged block) → ⊥) → IfErr result (λ fault. IsCause tells old new fault)
 caused tells (Ok x) old new counts never = tt
 caused tells (Err (Read Memory)) old new counts never = tt

@@ -1,5 +1,5 @@
 -- Nodes and blocks of a sound root, as overlays see them.
-use Rattle.std.proofs.Common.{◌≡◌, ℕ, ◌+◌, ◌-◌, ◌*◌, ◌/◌, ◌^◌, ◌<◌, ◌≤◌, ◌⊎◌, inl, inr, List, ◌++◌, length, get_or, take, drop, replicate, min, Option, Some, None, refl, sym, ap, subst, ◌∙◌, arith, length-append, length-drop}
+use Rattle.std.proofs.Common.{◌≡◌, ℕ, ◌+◌, ◌-◌, ◌*◌, ◌/◌, ◌^◌, ◌<◌, ◌≤◌, ◌⊎◌, inl, inr, List, [], ◌++◌, length, get_or, take, drop, replicate, min, Option, Some, None, refl, sym, ap, subst, ◌∙◌, arith, length-append, length-drop}
 use Rattle.std.specs.Option.{option_map}
 use Rattle.std.specs.FinMap as fin
 use Rattle.std.proofs.lemmas.Bool.{cases_lt}
@@ -13,9 +13,10 @@ use Rattle.sn_limits.specs.declared.kind.Kind.{Kind}
 use Rattle.sn_limits.specs.declared.kind.Kind.TheVariants.{File, Directory}
 use Rattle.sn_limits.specs.declared.limits.Limits.{Limits}
 use Rattle.sn_limits.specs.Versions.{version_1}
+use Rattle.sn_live_files.specs.Known.{attributes_of}
 use Rattle.sn_model.specs.FileCalls.{bytes_of}
 use Rattle.sn_model.specs.NameTree.{IsTree}
-use Rattle.sn_model.specs.Tree.{Node, Tree}
+use Rattle.sn_model.specs.Tree.{Node, Tree, size_of as listed_size, attributes_of as known_of, viewed}
 use Rattle.sn_ondisk.specs.Trees.{Store, store_of}
 use Rattle.sn_image.specs.Acls.{acls_at, no_acls}
 use Rattle.sn_image.specs.Image.{image, file_bytes, node_of}
@@ -27,7 +28,7 @@ use Rattle.sn_image.proofs.SoundNodeLemmas.{only_version}
 use Rattle.sn_image.proofs.WellFormedLemmas.{links_counted}
 use Rattle.sn_overlay.specs.Layers.{bytes_of as shown_bytes}
 use Rattle.sn_overlay.specs.Pieces.{piece}
-use Rattle.sn_overlay.specs.Seen.{seen_node}
+use Rattle.sn_overlay.specs.Seen.{seen_node, seen_of}
 use Rattle.sn_overlay.proofs.PieceLemmas.{get_or-piece, length-piece}
 use Rattle.sn_rooted.specs.Nodes.{shown_size}
 use Rattle.sn_rooted.specs.Roots.{IsSoundRoot}
@@ -67,6 +68,19 @@ module _ (limits : Limits) (sectors : ℕ) (c : Contents) (file : BlockTree) (ar
   pub root_tree : IsTree version_1 (image (store_of c) file)
   root_tree = subst (λ (l : Limits). IsTree l (image (store_of c) file)) (sym (only_version limits root.version))
       (sound_tree limits root.blocks (store_of c) file root.version (λ block lies. data_whole c root.blocks block are (omega (arith, root.fits, count)) lies) root.sound)
+
+-- a directory has no bytes, so what a walk is told of its size is how many are seen
+size_is : (kind : Kind) (bytes : List ℕ) → (kind ≡ Directory → bytes ≡ []) → listed_size kind bytes ≡ length bytes
+size_is File bytes none = refl
+size_is Directory bytes none = sym (ap length (none refl))
+
+-- what a walk is told of a node of a name tree is told of the node that is seen
+pub viewed_seen : (tree : Tree) (number : ℕ) → IsTree version_1 tree → (viewed tree).node number ≡ option_map attributes_of (seen_node tree number)
+viewed_seen tree number whole = told (fin.get tree.nodes number) refl
+  where
+    told : (o : Option Node) → fin.get tree.nodes number ≡ o → option_map (known_of tree number) o ≡ option_map attributes_of (option_map (seen_of tree number) o)
+    told None e = refl
+    told (Some node) e = ap (λ (size : ℕ). Some (record (known_of tree number node) { size = size })) (size_is node.kind node.bytes (whole.nodes.nodes number node e).of_directory)
 
 -- no node has a number that the inode file has no record for
 pub numbered : (s : Store) (file : BlockTree) (end : ℕ) → end ≡ min (file.size / 128) 65536 → IsTree version_1 (image s file) → (number : ℕ) (node : Node) → fin.get (image s file).nodes number ≡ Some node → number < end

@@ -1,4 +1,4 @@
-//! Bytes of a file of a root's tree, and the names of a directory as overlays list them.
+//! What walks are told of a node of a root's tree, bytes of a file, and the names of a directory as overlays list them.
 ghost use Rattle.std.specs.Prelude.{◌≡◌, IfOk, map};
 ghost use Rattle.sn_dir.specs.declared.listings.ListedName.{ListedName as TheName};
 ghost use Rattle.sn_model.specs.Tree.{link_to};
@@ -10,8 +10,9 @@ use sn_device::Device;
 use sn_dir::ListedName;
 use sn_live_files::HasContents;
 use sn_model::Link;
-use sn_rooted::{names, read};
+use sn_rooted::{attributes, names, read};
 use sn_tree_read::TreeFault;
+use sn_walk::Attributes;
 use std::alloc::{AllocError, Global};
 
 // Names as those of a directory.
@@ -31,6 +32,20 @@ fn links_of(
 }
 
 impl<'a, D: Device> HasContents for RootedTree<'a, D> {
+    fn attributes(&mut self, number: u16) -> Result<Option<Attributes>, TreeFault> {
+        if let Some(fault) = self.fault {
+            return Err(fault);
+        }
+        let answer = attributes(
+            self.blocks,
+            &self.root.limits,
+            &self.root.inode_file,
+            number,
+        );
+        self.fault = fault_of(&answer);
+        answer
+    }
+
     fn read(
         &mut self,
         alloc: Global,

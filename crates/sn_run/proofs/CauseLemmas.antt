@@ -9,10 +9,10 @@ use Rattle.sn_block.proofs.CountLemmas.{later-ended}
 use Rattle.sn_limits.specs.Versions.{version_1}
 use Rattle.sn_model.specs.declared.call.Event.{Event}
 use Rattle.sn_model.specs.declared.call.Event.TheVariants as event
-use Rattle.sn_model.specs.declared.mount.End.{End}
-use Rattle.sn_model.specs.declared.mount.End.TheVariants as ending
-use Rattle.sn_model.specs.declared.mount.MountFault.{MountFault}
-use Rattle.sn_model.specs.declared.mount.MountFault.TheVariants as mount
+use Rattle.sn_model.specs.declared.end.End.{End}
+use Rattle.sn_model.specs.declared.end.End.TheVariants as ending
+use Rattle.sn_model.specs.declared.fault.MountFault.{MountFault}
+use Rattle.sn_model.specs.declared.fault.MountFault.TheVariants as mount
 use Rattle.sn_model.specs.declared.reply.Reply.{Reply}
 use Rattle.sn_model.specs.declared.reply.Reply.TheVariants as answer
 use Rattle.sn_model.specs.Machine.{State, Running, Stopped, Mishap, Memory, Read, Write, Space, Age, Ends, EventStep, IsUnmounted, RunBy}

@@ -8,8 +8,8 @@ use Rattle.sn_device.proofs.CrashLemmas.{LeavesOnly-join, LeavesOnly-start, Leav
 use Rattle.sn_block.specs.Counts.{IsLater}
 use Rattle.sn_block.proofs.CountLemmas.{later-is, later-join, later-same}
 use Rattle.sn_model.specs.declared.call.Event.TheVariants as event
-use Rattle.sn_model.specs.declared.mount.End.{End}
-use Rattle.sn_model.specs.declared.mount.End.TheVariants as ending
+use Rattle.sn_model.specs.declared.end.End.{End}
+use Rattle.sn_model.specs.declared.end.End.TheVariants as ending
 use Rattle.sn_model.specs.declared.reply.Errno.{Errno}
 use Rattle.sn_model.specs.declared.reply.Errno.TheVariants.{Eio, Elimit, Enomem, Estopped}
 use Rattle.sn_model.specs.declared.reply.Refusal.{Refusal}

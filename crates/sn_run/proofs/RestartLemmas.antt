@@ -11,9 +11,9 @@ use Rattle.sn_block.specs.Effects.{Nowhere}
 use Rattle.sn_block.proofs.CountLemmas.{later-is, later-join}
 use Rattle.sn_device.specs.declared.status.Status.{Status}
 use Rattle.sn_model.specs.declared.call.Event.TheVariants as event
-use Rattle.sn_model.specs.declared.mount.Damage.{Damage}
-use Rattle.sn_model.specs.declared.mount.MountFault.{MountFault}
-use Rattle.sn_model.specs.declared.mount.MountFault.TheVariants as fault
+use Rattle.sn_model.specs.declared.fault.Damage.{Damage}
+use Rattle.sn_model.specs.declared.fault.MountFault.{MountFault}
+use Rattle.sn_model.specs.declared.fault.MountFault.TheVariants as fault
 use Rattle.sn_model.specs.declared.reply.Reply.{Reply}
 use Rattle.sn_model.specs.declared.reply.Reply.TheVariants as answer
 use Rattle.sn_model.specs.Machine.{State, Running, Stopped, Mishap, Memory, Read, mount_fault_of}

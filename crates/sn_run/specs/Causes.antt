@@ -4,10 +4,10 @@ use Rattle.sn_device.specs.Disk.{Disk, reads}
 use Rattle.sn_device.specs.Status.{has_ended}
 use Rattle.sn_device.specs.declared.status.Status.{Status}
 use Rattle.sn_model.specs.declared.call.Event.{Event}
-use Rattle.sn_model.specs.declared.mount.End.{End}
-use Rattle.sn_model.specs.declared.mount.End.TheVariants as ending
-use Rattle.sn_model.specs.declared.mount.MountFault.{MountFault}
-use Rattle.sn_model.specs.declared.mount.MountFault.TheVariants as mount
+use Rattle.sn_model.specs.declared.end.End.{End}
+use Rattle.sn_model.specs.declared.end.End.TheVariants as ending
+use Rattle.sn_model.specs.declared.fault.MountFault.{MountFault}
+use Rattle.sn_model.specs.declared.fault.MountFault.TheVariants as mount
 use Rattle.sn_model.specs.declared.reply.Reply.{Reply}
 use Rattle.sn_model.specs.declared.reply.Reply.TheVariants as answer
 use Rattle.sn_model.specs.Machine.{Mishap, Memory, Read, Write, Space, Age, RunBy}

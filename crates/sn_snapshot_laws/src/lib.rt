@@ -7,7 +7,7 @@
 //! The way through: `specs/Staying.antt` has the laws of what stays, `specs/Reading.antt` that of who reads what in it, and
 //! [`snapshot_laws`] proves them.
 //!
-//! What the sources leave open is decided in `docs/DECISIONS.md`, under "Decisions of calls".
+//! What the sources leave open is decided in `docs/DECISIONS.md`, under "Snapshots".
 #![tactic(auto)]
 
 mod laws;

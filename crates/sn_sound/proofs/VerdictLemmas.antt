@@ -5,9 +5,9 @@ use Rattle.sn_layout.specs.declared.geometry.Slot.{Slot}
 use Rattle.sn_layout.specs.declared.geometry.Slot.TheVariants.{A, B}
 use Rattle.sn_layout.specs.declared.root.RootBody.{RootBody}
 use Rattle.sn_layout.specs.Geometry.{gate_sector}
-use Rattle.sn_model.specs.declared.mount.Damage.{Damage}
-use Rattle.sn_model.specs.declared.mount.MountFault.{MountFault}
-use Rattle.sn_model.specs.declared.mount.MountFault.TheVariants as mount
+use Rattle.sn_model.specs.declared.fault.Damage.{Damage}
+use Rattle.sn_model.specs.declared.fault.MountFault.{MountFault}
+use Rattle.sn_model.specs.declared.fault.MountFault.TheVariants as mount
 use Rattle.sn_ondisk.specs.Gates.{IsOpen}
 use Rattle.sn_ondisk.specs.Roots.{HasRoot, IsNewest}
 use Rattle.sn_ondisk.proofs.OneRootLemmas.{newest_is_one, root_is_one}

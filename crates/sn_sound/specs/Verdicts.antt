@@ -4,10 +4,10 @@ use Rattle.sn_device.specs.Sectors.{Contents}
 use Rattle.sn_layout.specs.declared.geometry.Slot.{Slot}
 use Rattle.sn_layout.specs.declared.root.RootBody.{RootBody}
 use Rattle.sn_layout.specs.Geometry.{map_blocks, gate_sector}
-use Rattle.sn_model.specs.declared.mount.Damage.{Damage}
-use Rattle.sn_model.specs.declared.mount.Damage.TheVariants.{Root, Pointer, ReachedTwice, MapWord, Misspelt, Links, Log}
-use Rattle.sn_model.specs.declared.mount.MountFault.{MountFault}
-use Rattle.sn_model.specs.declared.mount.MountFault.TheVariants as mount
+use Rattle.sn_model.specs.declared.fault.Damage.{Damage}
+use Rattle.sn_model.specs.declared.fault.Damage.TheVariants.{Root, Pointer, ReachedTwice, MapWord, Misspelt, Links, Log}
+use Rattle.sn_model.specs.declared.fault.MountFault.{MountFault}
+use Rattle.sn_model.specs.declared.fault.MountFault.TheVariants as mount
 use Rattle.sn_ondisk.specs.Gates.{IsClosed}
 use Rattle.sn_ondisk.specs.MapCopy.{map_word}
 use Rattle.sn_ondisk.specs.Roots.{IsNewest, body_block}

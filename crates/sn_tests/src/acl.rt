@@ -3,7 +3,7 @@
 use crate::entries::{acl_of, entries_of, rights_of};
 use anyhow::{Context, Result, ensure};
 use sn_acl::{Acl, Cred, MAX_GROUPS, Mode, Permissions, Tag, check, inherit};
-use sn_table::{Case, Report};
+use sn_testing_tables::{Case, Report};
 use std::alloc::Global;
 
 /// Compares access decisions, memberships, texts, entries, modes, inheritance and rights with the answers of the seven

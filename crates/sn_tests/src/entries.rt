@@ -2,7 +2,7 @@
 
 use anyhow::{Context, Result, bail};
 use sn_acl::{Acl, Entry, Permissions, Tag};
-use sn_table::{Case, number_of, pair_of};
+use sn_testing_tables::{Case, number_of, pair_of};
 use std::alloc::Global;
 
 /// The ACL that a word of a table spells, in the short text form of acl(5). An error where it spells none.

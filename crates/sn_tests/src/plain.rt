@@ -5,7 +5,7 @@ use sn_core::run_plain;
 use sn_model::{End, Errno, Event, Refusal, Reply};
 use sn_replies::print_replies;
 use sn_script::read_script;
-use sn_table::{Report, Tally};
+use sn_testing_tables::{Report, Tally};
 use std::alloc::Global;
 use std::str;
 

@@ -8,7 +8,7 @@ use sn_model::{
     Refusal, Reply, Rule, StoredAcl, Word,
 };
 use sn_replies::print_replies;
-use sn_table::Report;
+use sn_testing_tables::Report;
 use std::alloc::Global;
 use std::str;
 

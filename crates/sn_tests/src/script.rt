@@ -3,7 +3,7 @@
 use crate::calls::told;
 use anyhow::{Context, Result, bail};
 use sn_script::{SCRIPT_MAX, ScriptFault, read_script};
-use sn_table::{Case, Report, Tally};
+use sn_testing_tables::{Case, Report, Tally};
 use std::alloc::Global;
 
 /// Compares what lines and scripts are read as with two tables, by hand from `docs/SCRIPT.md`, and the line that is

@@ -3,7 +3,7 @@
 use crate::trees::{SmallTrees, tree_word};
 use anyhow::Result;
 use sn_acl::Cred;
-use sn_table::{Case, Report};
+use sn_testing_tables::{Case, Report};
 use sn_walk::{Failure, Object, Obstacle, PATH_MAX, Path, WalkRefusal, Walked, walk};
 use std::alloc::{AllocError, Global};
 use std::str;

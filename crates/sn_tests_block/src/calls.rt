@@ -3,7 +3,7 @@
 use crate::words::{push_answer, push_sector, sector_of};
 use anyhow::{Result, bail, ensure};
 use sn_device::{Device, SECTOR_SIZE};
-use sn_table::{Case, number_of, pair_of, push_number, push_word};
+use sn_testing_tables::{Case, number_of, pair_of, push_number, push_word};
 
 /// What a sector has before it is read.
 const UNREAD: u8 = 0xee;

@@ -6,7 +6,7 @@ use crate::words::{byte_of, push_sector};
 use anyhow::{Context, Result};
 use sn_device::SECTOR_SIZE;
 use sn_filedev::FileDevice;
-use sn_table::{Case, Report, number_of, push_number, push_word};
+use sn_testing_tables::{Case, Report, number_of, push_number, push_word};
 use std::alloc::Global;
 use std::cell::Cell;
 use std::fs::{Metadata, OpenFile};

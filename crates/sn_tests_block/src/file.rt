@@ -4,7 +4,7 @@ use crate::steps::take_step;
 use anyhow::{Result, bail};
 use sn_block::Blocks;
 use sn_filedev::FileDevice;
-use sn_table::{Case, Report, number_of, push_number};
+use sn_testing_tables::{Case, Report, number_of, push_number};
 use std::alloc::{AllocError, Global};
 use std::fs;
 use std::fs::File;

@@ -3,7 +3,7 @@
 use crate::calls::make_calls;
 use anyhow::{Result, bail};
 use sn_filedev::FileDevice;
-use sn_table::{Case, Report, number_of};
+use sn_testing_tables::{Case, Report, number_of};
 use std::alloc::Global;
 use std::fs::{File, Metadata, OpenFile, OpenOptions};
 use std::os::unix::fs::FileExt;

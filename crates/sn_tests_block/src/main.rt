@@ -19,7 +19,7 @@ mod steps;
 mod words;
 
 use anyhow::Result;
-use sn_table::Report;
+use sn_testing_tables::Report;
 
 fn main(rt: HostRuntime) -> Result<()> {
     let mut report = Report::new(&rt)?;

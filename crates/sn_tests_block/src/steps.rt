@@ -4,7 +4,7 @@ use crate::words::{push_answer, push_block, push_sectors, sector_of};
 use anyhow::{Result, bail, ensure};
 use sn_block::{BLOCK_SIZE, Block, Blocks, ReadFault};
 use sn_device::{Device, SECTOR_SIZE};
-use sn_table::{number_of, pair_of, push_number, push_word};
+use sn_testing_tables::{number_of, pair_of, push_number, push_word};
 use std::alloc::Global;
 
 /// Takes a step, and appends its answer.

@@ -3,7 +3,7 @@
 use anyhow::{Context, Result, bail};
 use sn_block::Block;
 use sn_device::{Fault, Fill, SECTOR_SIZE, Sector};
-use sn_table::{number_of, push_word};
+use sn_testing_tables::{number_of, push_word};
 
 /// The byte that a word spells in hexadecimal, as `a5`. An error where it spells none below 256.
 pub fn byte_of(word: &str) -> Result<u8> {

@@ -3,10 +3,10 @@
 use anyhow::{Context, Result};
 use rand_pcg::Pcg32;
 use sn_acl::{Acl, Entry as AclEntry, Permissions, Tag};
-use sn_drawn::is_once_in;
-use sn_drawn_trees::{Attributes, Entry, Kind, Node, Tree};
 use sn_model::{Link, Ownership, Word};
 use sn_overlay::{Block, FileBlock, NodeChange, NodeState, Overlay};
+use sn_testing_payloads::is_once_in;
+use sn_testing_trees::{Attributes, Entry, Kind, Node, Tree};
 use std::alloc::Global;
 
 /// An overlay that is being made, and how many names and blocks it has.

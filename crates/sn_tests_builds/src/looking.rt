@@ -77,6 +77,7 @@ pub fn are_blocks_right(layer: &Layer, built: &Built, words: &[u32]) -> bool {
     is_right
 }
 
+/// Whether a tree was built, of so many new blocks.
 pub fn is_built_of(answer: &Answer, count: usize) -> bool {
     match answer {
         Answer::Built(built) => built.blocks.len() == count,

@@ -1,6 +1,6 @@
 //! Whole trees that are built of drawn overlays, one over the other.
 //!
-//! A course begins with the empty tree of a new disk. `sn_drawn_trees` draws changes of the tree that was built last,
+//! A course begins with the empty tree of a new disk. `sn_testing_trees` draws changes of the tree that was built last,
 //! as lists of nodes and names alone. `layering` has the overlay of all that differs, and of some that doesn't.
 //! `building` builds it by `sn_cp_build` and writes the new blocks, and `reading` reads the disk by docs/FORMAT.md,
 //! without the codecs. What is wanted of each build:
@@ -34,7 +34,7 @@ mod seen;
 mod tallies;
 
 use anyhow::{Context, Result};
-use sn_table::{Report, number_of};
+use sn_testing_tables::{Report, number_of};
 use std::env;
 
 fn main(rt: HostRuntime) -> Result<()> {

@@ -1,8 +1,8 @@
 //! A plain reading of the tree of an inode file: its bytes by docs/FORMAT.md, without the codecs.
 
 use anyhow::{Result, ensure};
-use sn_drawn_disks::{block_of, number_at, part, put};
-use sn_drawn_trees::{Attributes, Block, Entry, FileBlock, Kind, Name, Node, Tree};
+use sn_testing_disks::{block_of, number_at, part, put};
+use sn_testing_trees::{Attributes, Block, Entry, FileBlock, Kind, Name, Node, Tree};
 use std::alloc::Global;
 
 /// The bytes of the largest file without an indirect block.

@@ -7,9 +7,9 @@ use crate::tallies::Tallies;
 use anyhow::Result;
 use rand_pcg::Pcg32;
 use sn_cp_build::Built;
-use sn_drawn::is_once_in;
-use sn_drawn_trees::{Tree, draw_changes};
-use sn_table::Report;
+use sn_testing_payloads::is_once_in;
+use sn_testing_tables::Report;
+use sn_testing_trees::{Tree, draw_changes};
 use std::alloc::{AllocError, Global};
 
 /// How many trees are built one over the other.

@@ -1,8 +1,8 @@
 //! What came up in the trees that were built.
 
 use anyhow::Result;
-use sn_drawn_trees::{Kind, Node, Tree};
-use sn_table::Report;
+use sn_testing_tables::Report;
+use sn_testing_trees::{Kind, Node, Tree};
 
 /// What came up of files, how often each.
 #[derive(Clone, Copy)]
@@ -34,6 +34,7 @@ struct Nodes {
     gone: u64,
 }
 
+/// How often the drawn layers had what a build may meet.
 #[derive(Clone, Copy)]
 pub struct Seen {
     files: Files,
@@ -136,6 +137,7 @@ impl Nodes {
 }
 
 impl Seen {
+    /// Nothing was seen yet.
     pub fn new() -> Seen {
         Seen {
             files: Files {

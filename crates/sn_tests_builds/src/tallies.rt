@@ -2,7 +2,7 @@
 
 use crate::seen::Seen;
 use anyhow::Result;
-use sn_table::{Report, Tally};
+use sn_testing_tables::{Report, Tally};
 
 /// A tally for each thing that is looked at.
 #[derive(Clone, Copy)]
@@ -23,6 +23,7 @@ pub struct Tallies {
 }
 
 impl Tallies {
+    /// Nothing was tried yet.
     pub fn new() -> Tallies {
         Tallies {
             trees: Tally::new(),

@@ -10,8 +10,8 @@ use crate::inheriting::inheriting_disk;
 use anyhow::{Result, bail};
 use sn_device::Fill;
 use sn_model::MountFault;
-use sn_mounted::{Disk, FILLS};
-use sn_table::{Report, Tally};
+use sn_testing_mounts::{Disk, FILLS};
+use sn_testing_tables::{Report, Tally};
 use std::alloc::Global;
 use std::ops::Range;
 

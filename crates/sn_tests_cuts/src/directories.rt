@@ -1,7 +1,7 @@
 //! A list of directories that is made, and how much of it is there.
 
 use anyhow::Result;
-use sn_mounted::Disk;
+use sn_testing_mounts::Disk;
 
 /// How many directories are made.
 pub const ALL: usize = 7;

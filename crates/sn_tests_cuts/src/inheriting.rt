@@ -5,7 +5,7 @@
 
 use anyhow::Result;
 use sn_device::{Fill, SECTOR_SIZE, Sector};
-use sn_mounted::Disk;
+use sn_testing_mounts::Disk;
 use std::alloc::Global;
 
 /// The first place of the log of epoch 1.

@@ -17,7 +17,7 @@ mod inheriting;
 mod schedules;
 
 use anyhow::{Context, Result};
-use sn_table::Report;
+use sn_testing_tables::Report;
 use std::env;
 use std::ops::Range;
 

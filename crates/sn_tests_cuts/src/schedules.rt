@@ -1,17 +1,18 @@
 //! Drawn lists of calls with steps of consistency points between them, cut short.
 //!
-//! A schedule is drawn from its number: calls on a few paths, so that they meet, and as many steps. What each leaves is looked
-//! at behind a crash; then the same list is cut short at writes of it, the disk crashes, and so does the mount behind it, up to
+//! A schedule is drawn from its number: calls on a few paths, so that they meet, and as many steps. It begins on an empty disk,
+//! or, where its number is odd, on one with files of bytes, a snapshot of them, and changes behind that. What each event leaves is
+//! looked at behind a crash, the live tree and those of snapshots alike; then the same list is cut short at writes of it, the disk crashes, and so does the mount behind it, up to
 //! twice. What is found then has to be what stood behind the last event that was answered as in the whole list, or behind the
 //! one in flight.
 
-use anyhow::{Context, Result};
+use anyhow::{Context, Result, ensure};
 use rand_core::Rng;
 use rand_pcg::Pcg32;
 use sn_device::Fill;
 use sn_model::Event;
-use sn_mounted::{Disk, FILLS, event_of};
-use sn_table::{Report, Tally};
+use sn_testing_mounts::{Disk, FILLS, event_of};
+use sn_testing_tables::{Report, Tally};
 use std::alloc::Global;
 use std::ops::Range;
 
@@ -55,33 +56,89 @@ const CALLS: &str = "0 mkdir /a 0755\n\
 /// How many these are.
 const CALL_COUNT: u32 = 27;
 
-/// What is asked behind a crash: names, attributes, lists of entries and bytes, of the live tree and of snapshots.
-const ASKED: &str = "0 login 0 0 -\n\
+/// What is asked of the live tree behind a crash: names, attributes, lists of entries, and bytes, each by a session of its own.
+const OF_LIVE: &str = "0 login 0 0 -\n\
     0 readdir /\n\
     0 readdir /a\n\
     0 readdir /a/b\n\
-    0 stat /a\n\
     0 getacl /a a\n\
+    0 stat /a\n\
     0 stat /a/b\n\
     0 stat /c\n\
     0 stat /f\n\
     0 stat /a/g\n\
     0 stat /a/h\n\
-    0 open /f r\n\
-    0 read 0 65536\n\
-    0 open /a/g r\n\
-    0 read 1 65536\n\
-    0 snap-list\n\
+    1 login 0 0 -\n\
+    1 open /f r\n\
+    1 read 0 65536\n\
+    2 login 0 0 -\n\
+    2 open /a/g r\n\
+    2 read 0 65536\n\
+    3 login 0 0 -\n\
+    3 open /a/h r\n\
+    3 read 0 65536";
+
+/// The same of the trees of both snapshots that there may be; and a change, at the end.
+const OF_SNAPSHOTS: &str = "0 snap-list\n\
     0 readdir /.snapshot/s\n\
     0 readdir /.snapshot/s/a\n\
+    0 readdir /.snapshot/s/a/b\n\
     0 getacl /.snapshot/s/a a\n\
+    0 stat /.snapshot/s/a\n\
+    0 stat /.snapshot/s/a/b\n\
+    0 stat /.snapshot/s/c\n\
     0 stat /.snapshot/s/f\n\
-    0 open /.snapshot/s/f r\n\
-    0 read 2 65536\n\
+    0 stat /.snapshot/s/a/g\n\
+    0 stat /.snapshot/s/a/h\n\
+    4 login 0 0 -\n\
+    4 open /.snapshot/s/f r\n\
+    4 read 0 65536\n\
+    5 login 0 0 -\n\
+    5 open /.snapshot/s/a/g r\n\
+    5 read 0 65536\n\
+    6 login 0 0 -\n\
+    6 open /.snapshot/s/a/h r\n\
+    6 read 0 65536\n\
+    0 readdir /.snapshot/t\n\
+    0 readdir /.snapshot/t/a\n\
+    0 readdir /.snapshot/t/a/b\n\
+    0 getacl /.snapshot/t/a a\n\
+    0 stat /.snapshot/t/a\n\
+    0 stat /.snapshot/t/a/b\n\
+    0 stat /.snapshot/t/c\n\
+    0 stat /.snapshot/t/f\n\
     0 stat /.snapshot/t/a/g\n\
-    0 open /.snapshot/t/a/g r\n\
-    0 read 3 65536\n\
+    0 stat /.snapshot/t/a/h\n\
+    7 login 0 0 -\n\
+    7 open /.snapshot/t/f r\n\
+    7 read 0 65536\n\
+    8 login 0 0 -\n\
+    8 open /.snapshot/t/a/g r\n\
+    8 read 0 65536\n\
+    9 login 0 0 -\n\
+    9 open /.snapshot/t/a/h r\n\
+    9 read 0 65536\n\
     0 mkdir /z 0700";
+
+/// What has become of a disk on which a schedule of an odd number begins, before the snapshot but for a long file.
+const START: &str = "0 login 0 0 -\n\
+    0 mkdir /a 0755\n\
+    0 mkdir /a/b 0711\n\
+    0 open /f rwc 0640\n\
+    0 open /a/g rwc 0644\n\
+    0 write 1 7a7a7a7a\n\
+    0 link /a/g /a/h";
+
+/// The snapshot, and what changes behind it: the bytes that it has are in no live file.
+const BEHIND: &str = "0 setacl /a a u::rwx,u:1001:r-x,g::r-x,m::rwx,o::---\n\
+    0 snap-create s\n\
+    0 seek 1 0\n\
+    0 write 1 6c697665\n\
+    0 ftruncate 0 100\n\
+    0 unlink /a/h";
+
+/// How the bytes are told that the snapshot of such a disk has, and that nothing else writes.
+const FROZEN: &str = "ok 7a7a7a7a";
 
 /// How many schedules the gate tries, and behind how many numbers of writes it cuts each short.
 const SCHEDULES: u32 = 100;
@@ -183,7 +240,7 @@ fn add_event(alloc: Global, line: &str, events: &mut Vec<Event>) -> Result<()> {
 /// Adds what is found on a disk behind a crash.
 fn find(disk: &mut Disk, found: &mut String) -> Result<()> {
     disk.remount()?;
-    for line in ASKED.lines() {
+    for line in OF_LIVE.lines().chain(OF_SNAPSHOTS.lines()) {
         add_told(disk, line, found)?;
     }
     Ok(())
@@ -358,9 +415,27 @@ fn cut(
     Ok(())
 }
 
+/// How many fronts of a schedule tell bytes that only a snapshot has.
+fn frozen_fronts(schedule: &Schedule) -> u32 {
+    let mut count = 0_u32;
+    for behind in schedule.behind.iter() {
+        if behind.found.as_str().lines().any(|line| line == FROZEN) {
+            count = count.saturating_add(1);
+        }
+    }
+    count
+}
+
 /// Cuts a schedule short behind some numbers of writes that are drawn.
-fn cut_at_some(report: &Report<'_>, tally: &mut Tally, image: &[u8], number: u32) -> Result<()> {
+fn cut_at_some(
+    report: &Report<'_>,
+    tally: &mut Tally,
+    image: &[u8],
+    number: u32,
+    frozen: &mut u32,
+) -> Result<()> {
     let schedule = schedule_of(report.alloc(), image, number)?;
+    *frozen = frozen.saturating_add(frozen_fronts(&schedule));
     cut_some(report, tally, image, &schedule)
 }
 
@@ -399,37 +474,94 @@ fn cut_all(
     Ok(())
 }
 
-/// A disk of the fewest blocks, as it is formatted.
-fn image_of(alloc: Global) -> Result<Vec<u8>> {
+/// The disks on which schedules begin: as it is formatted, and with a snapshot. Both have the fewest blocks.
+#[derive(Drop)]
+struct Images {
+    empty: Vec<u8>,
+    started: Vec<u8>,
+}
+
+impl Images {
+    /// That of the schedule of a number.
+    fn of(&self, number: u32) -> &[u8] {
+        if number % 2 == 0 {
+            self.empty.as_slice()
+        } else {
+            self.started.as_slice()
+        }
+    }
+}
+
+fn empty_image(alloc: Global) -> Result<Vec<u8>> {
     Disk::least(alloc)?.bytes(0, usize::MAX)
+}
+
+fn started_image(alloc: Global) -> Result<Vec<u8>> {
+    let mut disk = Disk::least(alloc)?;
+    disk.remount()?;
+    start(&mut disk)?;
+    disk.unmount()?;
+    disk.bytes(0, usize::MAX)
+}
+
+/// Makes the files, the snapshot, and what changes behind it.
+fn start(disk: &mut Disk) -> Result<()> {
+    ask_all(disk, START)?;
+    disk.write_all(0, b'x', LONG)?;
+    ask_all(disk, BEHIND)
+}
+
+/// Asks for lines each of which has to be done.
+fn ask_all(disk: &mut Disk, lines: &str) -> Result<()> {
+    for line in lines.lines() {
+        let told = disk.ask(line)?;
+        ensure!(
+            told.as_str().starts_with("ok"),
+            "a start that is refused: {line}"
+        );
+    }
+    Ok(())
+}
+
+fn images_of(alloc: Global) -> Result<Images> {
+    let empty = empty_image(alloc)?;
+    Ok(Images {
+        empty,
+        started: started_image(alloc)?,
+    })
 }
 
 /// The schedules of the gate.
 pub fn run(report: &mut Report<'_>) -> Result<()> {
-    let image = image_of(report.alloc())?;
-    let tally = some(report, image.as_slice())?;
-    report.add("schedules of calls and steps, cut short", tally)
+    let images = images_of(report.alloc())?;
+    let mut frozen = 0;
+    let tally = some(report, &images, &mut frozen)?;
+    report.add("schedules of calls and steps, cut short", tally)?;
+    let text = format!(in report.alloc();
+        "fronts that tell bytes which only a snapshot has: {frozen}\n"
+    )?;
+    report.print(text.as_str())
 }
 
-fn some(report: &Report<'_>, image: &[u8]) -> Result<Tally> {
+fn some(report: &Report<'_>, images: &Images, frozen: &mut u32) -> Result<Tally> {
     let mut tally = Tally::new();
     for number in 0..SCHEDULES {
-        cut_at_some(report, &mut tally, image, number)?;
+        cut_at_some(report, &mut tally, images.of(number), number, frozen)?;
     }
     Ok(tally)
 }
 
 /// Those of these numbers, by hand, cut short wherever they can be.
 pub fn sweep(report: &mut Report<'_>, numbers: Range<u32>) -> Result<()> {
-    let image = image_of(report.alloc())?;
-    let tally = each(report, image.as_slice(), numbers)?;
+    let images = images_of(report.alloc())?;
+    let tally = each(report, &images, numbers)?;
     report.add("schedules of calls and steps, cut short everywhere", tally)
 }
 
-fn each(report: &Report<'_>, image: &[u8], numbers: Range<u32>) -> Result<Tally> {
+fn each(report: &Report<'_>, images: &Images, numbers: Range<u32>) -> Result<Tally> {
     let mut tally = Tally::new();
     for number in numbers {
-        cut_at_each(report, &mut tally, image, number)?;
+        cut_at_each(report, &mut tally, images.of(number), number)?;
     }
     Ok(tally)
 }

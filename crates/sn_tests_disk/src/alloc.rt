@@ -3,7 +3,7 @@
 use anyhow::{Result, ensure};
 use sn_alloc::{BlockAllocator, Full};
 use sn_map::Map;
-use sn_table::Case;
+use sn_testing_tables::Case;
 use std::alloc::Global;
 
 /// The next block, for which there is room.

@@ -3,7 +3,7 @@
 use crate::journal;
 use anyhow::{Context, Result, bail, ensure};
 use sn_device::{Device, Fill, MemDevice, SECTOR_SIZE, Sector};
-use sn_table::{Case, Report, Tally};
+use sn_testing_tables::{Case, Report, Tally, push_number, push_word};
 use std::alloc::Global;
 
 /// Compares the answers of the device in memory with `device.txt`, whose answers are by hand, and looks whether the
@@ -94,22 +94,8 @@ fn take_step(device: &mut MemDevice, step: &str, value: &str, text: &mut String)
     }
 }
 
-fn push_word(text: &mut String, word: &str) -> Result<()> {
-    if !text.is_empty() {
-        text.push_str(" ")?;
-    }
-    text.push_str(word)?;
-    Ok(())
-}
-
 fn push_answer(text: &mut String, is_ok: bool) -> Result<()> {
     push_word(text, if is_ok { "ok" } else { "fault" })
-}
-
-fn push_number(text: &mut String, number: u64) -> Result<()> {
-    push_word(text, "")?;
-    write!(text, "{number}")?;
-    Ok(())
 }
 
 /// The byte that all of a sector is made of.

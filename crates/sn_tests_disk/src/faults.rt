@@ -7,7 +7,7 @@ use sn_block::{Blocks, ReadFault};
 use sn_device::{Fill, MemDevice};
 use sn_layout::Slot;
 use sn_root::RootFault;
-use sn_table::{Report, Tally};
+use sn_testing_tables::{Report, Tally};
 use std::alloc::Global;
 
 const SLOTS: [Held; 2] = [

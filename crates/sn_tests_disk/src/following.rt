@@ -4,7 +4,7 @@ use crate::roots::root_of;
 use anyhow::{Context, Result, bail};
 use sn_layout::RootBody;
 use sn_root::{PointKind, next_root};
-use sn_table::Case;
+use sn_testing_tables::Case;
 use std::alloc::Global;
 
 fn age_of(word: &str) -> Result<u64> {

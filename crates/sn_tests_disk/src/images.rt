@@ -6,7 +6,7 @@ use sn_block::Blocks;
 use sn_device::MemDevice;
 use sn_layout::{Gate, Slot};
 use sn_root::{NewestRoot, RootFault};
-use sn_table::Case;
+use sn_testing_tables::Case;
 use std::alloc::Global;
 
 /// What is found on the disk that the words spell.

@@ -24,7 +24,7 @@ mod point;
 mod roots;
 
 use anyhow::Result;
-use sn_table::Report;
+use sn_testing_tables::Report;
 
 fn main(rt: HostRuntime) -> Result<()> {
     let mut report = Report::new(&rt)?;

@@ -2,7 +2,7 @@
 
 use anyhow::{Context, Result, bail, ensure};
 use sn_map::Map;
-use sn_table::Case;
+use sn_testing_tables::Case;
 use std::alloc::Global;
 
 /// What is left of a map of some words after calls, and what can be asked of it.

@@ -4,7 +4,7 @@ use crate::host::{Host, Opened};
 use anyhow::{Context, Result, bail, ensure};
 use sn_device::{Device, Fault, SECTOR_SIZE};
 use sn_filedev::FileDevice;
-use sn_table::{Case, Report, number_of, pair_of, push_number, push_word};
+use sn_testing_tables::{Case, Report, number_of, pair_of, push_number, push_word};
 use std::alloc::Global;
 use std::os::unix::fs::MetadataExt;
 use std::{fs, io};

@@ -13,7 +13,7 @@ mod files;
 mod host;
 
 use anyhow::Result;
-use sn_table::Report;
+use sn_testing_tables::Report;
 
 fn main(rt: HostRuntime) -> Result<()> {
     let mut report = Report::new(&rt)?;

@@ -5,7 +5,7 @@ use anyhow::{Context, Result, bail, ensure};
 use sn_acl::{Acl, Entry, MAX_ENTRIES, Mode};
 use sn_layout::{Block, Reader};
 use sn_layout_acl::{AclBlock, AclParts, put_entries, read_entries};
-use sn_table::Case;
+use sn_testing_tables::Case;
 use std::alloc::Global;
 
 /// As many bytes as the entries of the longest ACL take.

@@ -3,7 +3,7 @@
 
 use anyhow::{Context, Result, ensure};
 use sn_layout::{BLOCK_SIZE, Block};
-use sn_table::Case;
+use sn_testing_tables::Case;
 use std::alloc::Global;
 
 /// What a block holds before it is written whole.

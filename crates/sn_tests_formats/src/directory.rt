@@ -5,7 +5,7 @@ use anyhow::{Context, Result, ensure};
 use sn_layout::Block;
 use sn_layout_node::DirectoryBlock;
 use sn_limits::is_name;
-use sn_table::Case;
+use sn_testing_tables::Case;
 use std::alloc::Global;
 use std::str;
 

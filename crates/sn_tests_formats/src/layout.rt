@@ -4,7 +4,7 @@ use crate::block::{DIRTY, block_of, ensure_same, push_pointers};
 use anyhow::{Result, bail, ensure};
 use sn_layout::{Area, Block, BlockTree, Geometry, LogHalf, RootBody, Slot, Snapshot, Superblock};
 use sn_limits::SnapshotName;
-use sn_table::Case;
+use sn_testing_tables::Case;
 use std::alloc::Global;
 use std::str;
 

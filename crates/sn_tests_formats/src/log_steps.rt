@@ -9,7 +9,7 @@ use sn_block::{Blocks, ReadFault};
 use sn_device::{Fill, MemDevice, SECTOR_SIZE};
 use sn_layout::LogHalf;
 use sn_log::{Log, Position};
-use sn_table::Case;
+use sn_testing_tables::{Case, push_word};
 use std::alloc::Global;
 
 fn number_of(word: &str) -> Result<u64> {
@@ -25,14 +25,6 @@ fn fill_of(word: &str) -> Result<Fill> {
         "junk" => Fill::Junk,
         _ => bail!("no such fill"),
     })
-}
-
-fn push_word(text: &mut String, word: &str) -> Result<()> {
-    if !text.is_empty() {
-        text.push_str(" ")?;
-    }
-    text.push_str(word)?;
-    Ok(())
 }
 
 /// What the log answers to the steps of a case.

@@ -20,7 +20,7 @@ mod nodes;
 mod payloads;
 
 use anyhow::{Result, bail};
-use sn_table::{Case, Report};
+use sn_testing_tables::{Case, Report};
 use std::alloc::Global;
 
 const TABLES: [&str; 15] = [

@@ -5,7 +5,7 @@ use anyhow::{Result, ensure};
 use sn_layout::{BLOCK_SIZE, Block};
 use sn_layout_node::{Content, INODE_SIZE, IndirectBlock, Inode, InodeRecord, POINTERS_PER_BLOCK};
 use sn_limits::{Kind, Limits};
-use sn_table::Case;
+use sn_testing_tables::Case;
 use std::alloc::Global;
 use std::str;
 

@@ -5,7 +5,7 @@ use anyhow::{Result, bail, ensure};
 use sn_acl::Acl;
 use sn_model::{Bytes, Change, Ownership};
 use sn_record::{decode, is_valid, payload_size, put_change};
-use sn_table::Case;
+use sn_testing_tables::Case;
 use std::alloc::Global;
 use std::str;
 

@@ -7,8 +7,8 @@ use rand_core::Rng;
 use rand_pcg::Pcg32;
 use sn_device::{Fill, SECTOR_SIZE, Sector};
 use sn_model::{Damage, MountFault};
-use sn_mounted::Disk;
-use sn_table::{Report, Tally};
+use sn_testing_mounts::Disk;
+use sn_testing_tables::{Report, Tally};
 use std::alloc::Global;
 
 const HALVES: u32 = 200;

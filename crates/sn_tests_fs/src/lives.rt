@@ -2,8 +2,8 @@
 
 use anyhow::{Context, Result, bail};
 use sn_device::Fill;
-use sn_mounted::Disk;
-use sn_table::{Case, Report};
+use sn_testing_mounts::Disk;
+use sn_testing_tables::{Case, Report};
 use std::alloc::Global;
 
 /// Compares what lives answer and leave. A word of the table that is no life is an error.

@@ -16,7 +16,7 @@ mod scripts;
 mod sizes;
 
 use anyhow::Result;
-use sn_table::Report;
+use sn_testing_tables::Report;
 
 fn main(rt: HostRuntime) -> Result<()> {
     let mut report = Report::new(&rt)?;

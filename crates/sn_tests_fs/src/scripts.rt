@@ -2,8 +2,8 @@
 
 use crate::lives::fill_of;
 use anyhow::{Context, Result, bail};
-use sn_mounted::Disk;
-use sn_table::Report;
+use sn_testing_mounts::Disk;
+use sn_testing_tables::Report;
 use std::alloc::Global;
 
 /// What files are filled with.

@@ -3,8 +3,8 @@
 use anyhow::Result;
 use sn_device::Fill;
 use sn_model::MountFault;
-use sn_mounted::Disk;
-use sn_table::{Report, Tally};
+use sn_testing_mounts::Disk;
+use sn_testing_tables::{Report, Tally};
 use std::alloc::Global;
 
 /// The blocks of the least disk.

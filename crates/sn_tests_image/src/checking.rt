@@ -6,7 +6,7 @@ use sn_block::Blocks;
 use sn_check::{Verdict, check};
 use sn_device::MemDevice;
 use sn_model::MountFault;
-use sn_table::Case;
+use sn_testing_tables::Case;
 use std::alloc::{AllocError, Global};
 
 /// A disk of BLOCKS blocks is formatted, runs AT:HEX are written over it, and it is checked: how many blocks are free,

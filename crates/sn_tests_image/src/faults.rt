@@ -7,8 +7,8 @@ use sn_block::Blocks;
 use sn_device::MemDevice;
 use sn_mkfs::{MkfsFault, Unformatted, mkfs};
 use sn_model::MountFault;
-use sn_mounted::Disk;
-use sn_table::{Report, Tally};
+use sn_testing_mounts::Disk;
+use sn_testing_tables::{Report, Tally};
 use std::alloc::{AllocError, Global};
 
 /// A format of 256 blocks writes 593 sectors and syncs four times.

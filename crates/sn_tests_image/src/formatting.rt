@@ -3,7 +3,7 @@
 use anyhow::{Context, Result, bail, ensure};
 use sn_device::{Device, MemDevice, SECTOR_SIZE, Sector};
 use sn_mkfs::{MkfsFault, Unformatted, mkfs};
-use sn_table::Case;
+use sn_testing_tables::Case;
 use std::alloc::Global;
 
 /// A number among the words of a case.

@@ -3,8 +3,8 @@
 use crate::formatting::{formatted, number, sector};
 use anyhow::{Context, Result, bail, ensure};
 use sn_device::{Device, MemDevice};
-use sn_mounted::Disk;
-use sn_table::Case;
+use sn_testing_mounts::Disk;
+use sn_testing_tables::Case;
 use std::alloc::Global;
 
 /// What is asked of a world that was found.

@@ -3,8 +3,8 @@
 use crate::drawing::{RESTART, list_of};
 use crate::lists::{List, Reached, is_alike};
 use anyhow::Result;
-use sn_mounted::Disk;
-use sn_table::{Report, Tally};
+use sn_testing_mounts::Disk;
+use sn_testing_tables::{Report, Tally};
 use std::alloc::Global;
 
 /// How many lists are drawn.

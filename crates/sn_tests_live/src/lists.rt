@@ -4,9 +4,9 @@ use anyhow::{Result, ensure};
 use sn_core::run_plain;
 use sn_device::Fill;
 use sn_model::{End, Event, Reply};
-use sn_mounted::Disk;
 use sn_replies::print_replies;
 use sn_script::read_script;
+use sn_testing_mounts::Disk;
 use std::alloc::Global;
 use std::slice;
 

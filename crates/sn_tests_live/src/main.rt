@@ -1,10 +1,11 @@
 //! The mounted file system, which reads its tree on demand, beside the tree in memory.
 //!
 //! `drawing` has lists of calls, with steps and restarts among them; each begins with a tree of several directories, and a
-//! restart or a consistency point, so that the calls behind it find that tree on the device alone. `lists` says what the tree
-//! in memory answers to a list, and asks a disk the same. `agreeing` compares the two where the device doesn't fail, a crash and a
-//! mount in the place of each restart; `refusing` does so with each call of the device refused in turn, and looks at what is
-//! answered behind a read that failed. What is printed is compared with `stdout`. The argument is a folder, as in
+//! restart or a consistency point, so that the calls behind it find that tree on the device alone. `lists` says what the
+//! tree in memory answers to a list, and asks a disk the same. `agreeing` compares the two where the device doesn't fail, a
+//! crash and a mount in the place of each restart; `refusing` does so with each call of the device refused in turn, and
+//! looks at what is answered behind a read that failed. `outgrown` has a file of more blocks than are kept. What is printed
+//! is compared with `stdout`. The argument is a folder, as in
 //!
 //! ```text
 //! rt run -- .
@@ -14,14 +15,16 @@
 mod agreeing;
 mod drawing;
 mod lists;
+mod outgrown;
 mod refusing;
 
 use anyhow::Result;
-use sn_table::Report;
+use sn_testing_tables::Report;
 
 fn main(rt: HostRuntime) -> Result<()> {
     let mut report = Report::new(&rt)?;
     agreeing::run(&mut report)?;
     refusing::run(&mut report)?;
+    outgrown::run(&mut report)?;
     report.end()
 }

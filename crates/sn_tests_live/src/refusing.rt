@@ -10,14 +10,14 @@ use crate::drawing::{SYNC, list_of};
 use crate::lists::{List, Told};
 use anyhow::{Result, bail};
 use sn_model::MountFault;
-use sn_mounted::Disk;
-use sn_table::{Report, Tally};
+use sn_testing_mounts::Disk;
+use sn_testing_tables::{Report, Tally};
 use std::alloc::Global;
 
-/// How many lists there are: two that are written here, and one that is drawn.
-const LISTS: u32 = 3;
+/// How many lists there are: two that are written here, and four that are drawn.
+const LISTS: u32 = 6;
 
-/// How many events of that are drawn.
+/// How many events of each of these are drawn.
 const EVENTS: u32 = 12;
 
 /// A list makes no more calls of its device.

@@ -6,7 +6,7 @@ use anyhow::{Context, Result, bail};
 use sn_limits::Kind;
 use sn_model::{Bytes, Change};
 use sn_overlay::FileBlock;
-use sn_table::Case;
+use sn_testing_tables::Case;
 use std::alloc::Global;
 
 /// A word of a case: what is done and to what, with colons between.

@@ -5,7 +5,7 @@ use sn_acl::{Cred, Mode, Permissions};
 use sn_desc::{DESCRIPTORS, OpenFile, SESSIONS, Sessions};
 use sn_limits::Limits;
 use sn_model::{Refusal, Session};
-use sn_table::Case;
+use sn_testing_tables::Case;
 use sn_walk::Home;
 use std::alloc::Global;
 use std::fmt;

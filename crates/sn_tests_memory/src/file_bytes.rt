@@ -2,7 +2,7 @@
 
 use anyhow::{Context, Result, bail, ensure};
 use sn_file_bytes::FileBytes;
-use sn_table::Case;
+use sn_testing_tables::Case;
 use std::alloc::Global;
 
 /// More than each offset of the table.

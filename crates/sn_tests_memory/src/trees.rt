@@ -9,6 +9,7 @@ use sn_overlay::{BLOCK_SIZE, Below, Block, FileBlock, Overlay, SeenNode, Through
 use sn_overlay_change::of_change;
 use std::alloc::{AllocError, Global};
 
+/// A root directory and what became of it, seen through two overlays.
 #[derive(Drop)]
 pub struct Trees {
     alloc: Global,

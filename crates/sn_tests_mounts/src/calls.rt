@@ -3,9 +3,9 @@
 use crate::sectors::{EPOCH, half_of};
 use anyhow::Result;
 use rand_pcg::Pcg32;
-use sn_drawn::{below, is_once_in, plain_name, push_copy};
-use sn_mounted::Disk;
-use sn_reading::Records;
+use sn_testing_mounts::Disk;
+use sn_testing_payloads::{below, is_once_in, plain_name, push_copy};
+use sn_testing_reading::Records;
 use std::alloc::Global;
 
 /// ACLs of objects, and default ACLs of directories.

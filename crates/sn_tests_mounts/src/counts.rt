@@ -1,19 +1,21 @@
 //! How many halves came to each end, and how many records of each kind were applied.
 
 use anyhow::{Context, Result, bail, ensure};
-use sn_reading::ChangeKind::{self, AddLink, Make, Remove, Rename, SetAttributes, SetSize, Write};
-use sn_reading::Ending::{Closed, Last, LaterEpoch, Misspelt, OtherEpoch};
-use sn_reading::Misspelling::{
+use sn_testing_reading::ChangeKind::{
+    self, AddLink, Make, Remove, Rename, SetAttributes, SetSize, Write,
+};
+use sn_testing_reading::Ending::{Closed, Last, LaterEpoch, Misspelt, OtherEpoch};
+use sn_testing_reading::Misspelling::{
     BytesLeft, CutOff, Entry, Kind, LongPayload, ManyEntries, Name, NoBytes, NoMask, NoPayload,
     NoRoom, Objects, Order, Padding, Rights, Sequence, SpecialBits, UnknownChange,
 };
-use sn_reading::Obstacle::{
+use sn_testing_reading::Obstacle::{
     BelowItself, DefaultAcl, DirectoryAsFile, FileAsDirectory, HiddenName, NoDirectory, NoFile,
     NoName, NoNode, NotEmpty, OtherKind, ReservedNumber, TakenName, TakenNumber, TooLarge,
 };
-use sn_reading::Outcome::{self, Ended, Obstructed};
-use sn_reading::Reading;
-use sn_table::{Report, Tally};
+use sn_testing_reading::Outcome::{self, Ended, Obstructed};
+use sn_testing_reading::Reading;
+use sn_testing_tables::{Report, Tally};
 use std::alloc::Global;
 
 /// The ends of a half: those that are a tree, what a record lacks that is misspelt, and what keeps one from being

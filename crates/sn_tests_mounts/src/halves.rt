@@ -8,11 +8,11 @@ use crate::trees::{is_made, is_tree};
 use anyhow::Result;
 use rand_pcg::Pcg32;
 use sn_device::Fill;
-use sn_drawn::{below, is_once_in, payloads, push_copy};
 use sn_model::{Damage, MountFault};
-use sn_mounted::Disk;
-use sn_reading::{Reading, read_half};
-use sn_table::Report;
+use sn_testing_mounts::Disk;
+use sn_testing_payloads::{below, is_once_in, payloads, push_copy};
+use sn_testing_reading::{Reading, read_half};
+use sn_testing_tables::Report;
 use std::alloc::Global;
 
 const HALVES: u32 = 10_000;

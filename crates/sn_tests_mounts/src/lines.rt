@@ -1,7 +1,7 @@
 //! What calls answer of a node, as lines.
 
 use anyhow::Result;
-use sn_reading::{Attributes, Entry, Kind, Node, Tag, Tree};
+use sn_testing_reading::{Attributes, Entry, Kind, Node, Tag, Tree};
 use std::alloc::Global;
 
 /// The bytes of an entry.

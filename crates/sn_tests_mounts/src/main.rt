@@ -1,8 +1,8 @@
 //! Halves of the log that a seed draws, mounted, and read plainly beside.
 //!
 //! Each half has random sectors, or records: those that real calls have left (`calls`), or drawn ones of all
-//! seven kinds (`sn_drawn`), which apply to one another but for a few. Then some of it is changed:
-//! the list of records and their heads (`records`), and bytes of its sectors (`sectors`). `sn_reading` reads the
+//! seven kinds (`sn_testing_payloads`), which apply to one another but for a few. Then some of it is changed:
+//! the list of records and their heads (`records`), and bytes of its sectors (`sectors`). `sn_testing_reading` reads the
 //! bytes by docs/FORMAT.md, to a tree or to the place of a damage. What is wanted is that a mount of the same
 //! bytes finds that tree, which is looked at by calls of the user 0 (`trees`, with the lines that are wanted
 //! in `lines`), or that damage at the block of its place; and the same at the next mount, after a crash, which
@@ -24,7 +24,7 @@ mod sectors;
 mod trees;
 
 use anyhow::Result;
-use sn_table::Report;
+use sn_testing_tables::Report;
 
 fn main(rt: HostRuntime) -> Result<()> {
     let mut report = Report::new(&rt)?;

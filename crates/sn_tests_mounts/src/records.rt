@@ -4,8 +4,8 @@ use crate::sectors::{EPOCH, PLACES, put};
 use anyhow::Result;
 use rand_pcg::Pcg32;
 use sn_device::{SECTOR_SIZE, Sector};
-use sn_drawn::{below, is_once_in, payload, push_copy};
-use sn_mounted::Disk;
+use sn_testing_mounts::Disk;
+use sn_testing_payloads::{below, is_once_in, payload, push_copy};
 use std::alloc::Global;
 
 /// The attributes of the root directory, as a new disk has them.

@@ -4,8 +4,8 @@ use anyhow::{Result, ensure};
 use rand_core::Rng;
 use rand_pcg::Pcg32;
 use sn_device::{SECTOR_SIZE, Sector};
-use sn_drawn::{below, is_once_in};
-use sn_mounted::Disk;
+use sn_testing_mounts::Disk;
+use sn_testing_payloads::{below, is_once_in};
 
 /// The epoch of the records.
 pub const EPOCH: u64 = 1;

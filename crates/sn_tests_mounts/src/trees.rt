@@ -2,10 +2,10 @@
 
 use crate::lines::{access_line, default_line, status_line};
 use anyhow::Result;
-use sn_drawn::NAMES;
 use sn_model::AclKind;
-use sn_mounted::Disk;
-use sn_reading::{Kind, Link, Name, Node, Reading, Tree};
+use sn_testing_mounts::Disk;
+use sn_testing_payloads::NAMES;
+use sn_testing_reading::{Kind, Link, Name, Node, Reading, Tree};
 use std::alloc::Global;
 use std::str;
 

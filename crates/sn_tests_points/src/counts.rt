@@ -3,7 +3,7 @@
 use crate::events::{Event, Kind};
 use crate::tape::Call;
 use anyhow::{Result, ensure};
-use sn_table::{Report, Tally};
+use sn_testing_tables::{Report, Tally};
 
 /// The parts of a point, in which a crash comes.
 const PARTS: [(Kind, &str); 7] = [

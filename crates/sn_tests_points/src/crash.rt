@@ -5,8 +5,8 @@ use anyhow::Result;
 use rand_core::Rng;
 use rand_pcg::Pcg32;
 use sn_device::{SECTOR_SIZE, Sector};
-use sn_drawn::below;
-use sn_drawn_disks::{part, put};
+use sn_testing_disks::{part, put};
+use sn_testing_payloads::below;
 use std::alloc::Global;
 
 /// What is left of the sectors that weren't synced.

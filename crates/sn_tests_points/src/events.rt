@@ -4,7 +4,7 @@ use crate::running::Running;
 use anyhow::{Result, ensure};
 use rand_pcg::Pcg32;
 use sn_cp::Stage;
-use sn_drawn::{below, payload};
+use sn_testing_payloads::{below, payload};
 use std::alloc::Global;
 
 /// More steps than a drawn point has.

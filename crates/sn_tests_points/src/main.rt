@@ -1,6 +1,6 @@
 //! Consistency points of drawn disks, cut by a crash behind each write and each sync.
 //!
-//! `sn_drawn_disks` draws a disk and the point on it. `running` has the point as `sn_cp` makes it, over a device that
+//! `sn_testing_disks` draws a disk and the point on it. `running` has the point as `sn_cp` makes it, over a device that
 //! keeps its calls (`tape`), and `events` its course: the steps, with drawn calls logged between any two of them. Then
 //! each moment of that course crashes (`crash`), with sectors that weren't synced old, new, of one byte, torn at any
 //! byte, random, and any subset of them new. What is wanted of each disk that is left, as it is read plainly:
@@ -27,7 +27,7 @@ mod running;
 mod tape;
 
 use anyhow::{Context, Result};
-use sn_table::{Report, number_of};
+use sn_testing_tables::{Report, number_of};
 use std::env;
 
 fn main(rt: HostRuntime) -> Result<()> {

@@ -7,8 +7,8 @@ use crate::running::Running;
 use crate::tape::Call;
 use anyhow::{Context, Result};
 use rand_pcg::Pcg32;
-use sn_drawn_disks::{DrawnDisk, Standing, draw_disk, stands};
-use sn_table::Report;
+use sn_testing_disks::{DrawnDisk, Standing, draw_disk, stands};
+use sn_testing_tables::Report;
 use std::alloc::Global;
 
 /// The first event's past: nothing of the point is there.

@@ -12,11 +12,13 @@ use anyhow::{Context, Result, bail, ensure};
 use sn_block::Blocks;
 use sn_cp::{Point, Stage};
 use sn_device::Device;
-use sn_drawn_disks::{DrawnDisk, Geometry as DrawnGeometry, Slot, block_of, number_at, part, put};
 use sn_layout::{BLOCK_SIZE, Block, Gate, Geometry, RootBody};
 use sn_log::{Buffer, Log, Position};
 use sn_map::Map;
 use sn_record::decode;
+use sn_testing_disks::{
+    DrawnDisk, Geometry as DrawnGeometry, Slot, block_of, number_at, part, put,
+};
 use sn_tree::NewBlock;
 use std::alloc::{AllocError, Global};
 use std::marker::Model;

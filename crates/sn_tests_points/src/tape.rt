@@ -3,7 +3,7 @@ ghost use Rattle.std.specs.Prelude.{false};
 ghost use Rattle.std.proofs.lemmas.Bool.{false≢true};
 
 use sn_device::{Device, Fault, SECTOR_SIZE, Sector, Status};
-use sn_drawn_disks::{part, put};
+use sn_testing_disks::{part, put};
 use std::alloc::Global;
 
 /// A call that changes what a crash may leave.

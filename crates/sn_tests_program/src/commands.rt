@@ -8,7 +8,7 @@
 
 use crate::ended::{Ended, staying};
 use anyhow::{Context, Result, bail};
-use sn_table::{Report, Tally};
+use sn_testing_tables::{Report, Tally};
 use std::{fs, str};
 
 /// The status of an end and its lines, behind commas.

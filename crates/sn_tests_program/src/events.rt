@@ -3,9 +3,9 @@
 use anyhow::{Result, ensure};
 use sn_device::MemDevice;
 use sn_model::{End, Event, Reply};
-use sn_mounted::{event_of, new_device};
 use sn_replies::print_replies;
 use sn_run::{Ran, Unwatched, run};
+use sn_testing_mounts::{event_of, new_device};
 use std::alloc::Global;
 use std::str;
 

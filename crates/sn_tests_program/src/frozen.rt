@@ -1,12 +1,12 @@
-//! Frozen trees in runs. No call makes one yet: a run ends, a snapshot is put by hand over the tree of the root that it
+//! Frozen trees in runs, which no call of a run made: a run ends, a snapshot is put by hand over the tree of the root that it
 //! leaves, and the next run begins. The places are those of a disk of 256 blocks, as `docs/FORMAT.md` has them.
 
 use crate::events::{lines_of, ran};
 use anyhow::{Context, Result, ensure};
 use sn_device::MemDevice;
 use sn_model::{End, Event};
-use sn_mounted::{event_of, least_device};
 use sn_run::Ran;
+use sn_testing_mounts::{event_of, least_device};
 use std::alloc::Global;
 
 /// Where the parts of a root begin.

@@ -5,8 +5,8 @@ use crate::ended::Ended;
 use anyhow::Result;
 use sn_device::{MemDevice, SECTOR_SIZE};
 use sn_filedev::FileDevice;
-use sn_mounted::least_device;
-use sn_table::{Report, Tally};
+use sn_testing_mounts::least_device;
+use sn_testing_tables::{Report, Tally};
 use std::fs;
 
 const IMAGE: &str = "made.img";

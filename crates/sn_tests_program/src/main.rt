@@ -24,7 +24,7 @@ mod torn;
 mod words;
 
 use anyhow::{Result, ensure};
-use sn_table::Report;
+use sn_testing_tables::Report;
 
 /// How many cases of the program were wrong.
 fn wrong_in_program(rt: &HostRuntime) -> std::io::Result<u64> {

@@ -7,9 +7,9 @@ use crate::events::{events_of, ran};
 use anyhow::{Result, bail, ensure};
 use sn_device::{Device, MemDevice};
 use sn_model::{Call, End, Errno, Event, MountFault, Progress, Reply};
-use sn_mounted::new_device;
 use sn_run::Ran;
-use sn_table::{Report, Tally};
+use sn_testing_mounts::new_device;
+use sn_testing_tables::{Report, Tally};
 use std::alloc::Global;
 
 /// Two directories, with a restart behind each, and two steps and a `sync`, which finishes them, behind the first; and what is

@@ -8,8 +8,8 @@ use crate::events::{events_of, found_on, lines_of as lines_of_replies, ran};
 use anyhow::{Result, ensure};
 use sn_device::{Device, MemDevice};
 use sn_model::{End, Event, Reply};
-use sn_mounted::{FILLS, crashed, least_device};
 use sn_run::Ran;
+use sn_testing_mounts::{FILLS, crashed, least_device};
 use std::alloc::Global;
 use std::ops::Range;
 

@@ -7,7 +7,7 @@ use sn_block::Blocks;
 use sn_device::MemDevice;
 use sn_dir::{ListedName, count, is_empty, lookup, names};
 use sn_layout::BlockTree;
-use sn_table::{Case, pair_of};
+use sn_testing_tables::{Case, pair_of};
 use std::alloc::Global;
 use std::str;
 

@@ -15,7 +15,7 @@ use sn_layout::{BlockTree, Pointers};
 use sn_layout_acl::AclBlock;
 use sn_layout_node::{Content, Inode};
 use sn_limits::Limits;
-use sn_table::{Report, Tally};
+use sn_testing_tables::{Report, Tally};
 use sn_tree::{Build, PlanFault};
 use sn_tree_read::{TreeFault, read};
 use std::alloc::Global;

@@ -8,7 +8,7 @@ use sn_inode::{acls, get};
 use sn_layout::{BlockTree, Pointers};
 use sn_layout_node::{Content, Inode};
 use sn_limits::{Kind, Limits};
-use sn_table::{Case, pair_of};
+use sn_testing_tables::{Case, pair_of};
 use std::alloc::Global;
 
 /// The block of the inode file, and the ACL block.

@@ -9,7 +9,7 @@ use sn_dir::{block_count, decoded, fetch_block};
 use sn_dir_change::{NameChange, are_changes, change};
 use sn_layout::BlockTree;
 use sn_layout_node::DirectoryBlock;
-use sn_table::{Case, pair_of};
+use sn_testing_tables::{Case, pair_of};
 use sn_tree::{Build, PlanFault};
 use sn_tree_read::TreeFault;
 use std::alloc::Global;

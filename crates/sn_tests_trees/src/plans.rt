@@ -8,7 +8,7 @@ use sn_block::Blocks;
 use sn_device::MemDevice;
 use sn_layout::{BlockTree, Pointers};
 use sn_map::Map;
-use sn_table::{Case, push_word};
+use sn_testing_tables::{Case, push_word};
 use sn_tree::{Build, plan_tree};
 use sn_tree_read::fetch_data;
 use std::alloc::Global;

@@ -13,10 +13,8 @@ ghost use Rattle.sn_tree_read.specs.declared.fault.TreeFault.TheVariants.{Damage
 use crate::TreeFault;
 use sn_block::Blocks;
 use sn_device::Device;
-use sn_layout::BlockTree;
+use sn_layout::{BlockTree, SECTORS_PER_BLOCK};
 use sn_layout_node::IndirectBlock;
-
-const SECTORS_PER_BLOCK: u64 = 8;
 
 /// Whether a pointer is a hole, or names a block of a device of so many sectors.
 pub fn lies_on(sectors: u64, pointer: u32) -> bool
@@ -62,7 +60,7 @@ fn pointer_below<D: Device>(
 }
 
 /// The pointer with number `i` of those that stand so many levels below the sixteen of a tree: on the
-/// last level it names data block `i`. 0 is a hole, also where the tree has no such place. `Damaged`
+/// last level it names data block `i`. 0 is a hole, also where the tree has no such block. `Damaged`
 /// comes exactly where a block above it isn't on the device.
 pub fn entry<D: Device>(
     blocks: &mut Blocks<D>,

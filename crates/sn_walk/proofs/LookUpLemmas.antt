@@ -2,8 +2,8 @@
 use Rattle.std.proofs.Common.{◌≡◌, ℕ, ◌+◌, List, [], ◌∷◌, ◌++◌, append_assoc, Option, Some, None, Result, Ok, Err, refl, sym, ap, ◌∙◌, subst}
 use Rattle.std.proofs.lemmas.List.{append-nil}
 use Rattle.sn_acl.specs.Credential.{Credential}
-use Rattle.sn_walk.specs.declared.failure.Failure.{Failure}
-use Rattle.sn_walk.specs.declared.failure.Failure.TheVariants.{Refused, Fault}
+use Rattle.sn_walk.specs.declared.fault.Failure.{Failure}
+use Rattle.sn_walk.specs.declared.fault.Failure.TheVariants.{Refused, Fault}
 use Rattle.sn_walk.specs.declared.object.Object.{Object}
 use Rattle.sn_walk.specs.declared.walking.WalkRefusal.{WalkRefusal}
 use Rattle.sn_walk.specs.Gives.{Fails}

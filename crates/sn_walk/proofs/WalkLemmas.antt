@@ -8,8 +8,8 @@ use Rattle.sn_walk.specs.declared.view.Attributes.{Attributes}
 use Rattle.sn_walk.specs.declared.object.Object.{Object}
 use Rattle.sn_walk.specs.declared.walking.Obstacle.TheVariants.{Missing, NotADirectory}
 use Rattle.sn_walk.specs.declared.walking.WalkRefusal.{WalkRefusal}
-use Rattle.sn_walk.specs.declared.failure.Failure.{Failure}
-use Rattle.sn_walk.specs.declared.failure.Failure.TheVariants.{Refused, Fault}
+use Rattle.sn_walk.specs.declared.fault.Failure.{Failure}
+use Rattle.sn_walk.specs.declared.fault.Failure.TheVariants.{Refused, Fault}
 use Rattle.sn_walk.specs.Gives.{Fails}
 use Rattle.sn_walk.specs.declared.walking.Walked.{Walked}
 use Rattle.sn_walk.specs.declared.walking.Walked.TheVariants.{Root, Name}

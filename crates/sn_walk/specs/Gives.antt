@@ -1,7 +1,7 @@
 -- What a function returned against what a definition answers, where a fault may have kept the function from it.
 use Rattle.std.specs.Prelude.{◌≡◌, Result, Ok, Err}
-use Rattle.sn_walk.specs.declared.failure.Failure.{Failure}
-use Rattle.sn_walk.specs.declared.failure.Failure.TheVariants.{Refused, Fault}
+use Rattle.sn_walk.specs.declared.fault.Failure.{Failure}
+use Rattle.sn_walk.specs.declared.fault.Failure.TheVariants.{Refused, Fault}
 
 abbrev pub Fails : {Y R F : Type 0} → Failure R F → Result Y R → Type 0
 Fails (Refused r) test = test ≡ Err r

@@ -2,8 +2,8 @@
 use Rattle.std.specs.Prelude.{◌≡◌, ℕ, ◌+◌, List, [], ◌∷◌, ◌++◌, Option, None, Some, Result, Ok, Err, if◌then◌else◌}
 use Rattle.sn_acl.specs.Credential.{Credential}
 use Rattle.sn_limits.specs.SnapshotName.{is_snapshot_name}
-use Rattle.sn_walk.specs.declared.failure.Failure.{Failure}
-use Rattle.sn_walk.specs.declared.failure.Failure.TheVariants.{Refused, Fault}
+use Rattle.sn_walk.specs.declared.fault.Failure.{Failure}
+use Rattle.sn_walk.specs.declared.fault.Failure.TheVariants.{Refused, Fault}
 use Rattle.sn_walk.specs.declared.object.Home.{Home}
 use Rattle.sn_walk.specs.declared.object.Object.{Object}
 use Rattle.sn_walk.specs.declared.object.Object.TheVariants.{Node, Snapshots}

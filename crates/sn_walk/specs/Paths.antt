@@ -1,8 +1,8 @@
 -- Paths: POSIX.1-2017, 3.271 Pathname. That a path is absolute, and which of its faults is told first, are rules of this project.
 use Rattle.std.specs.Prelude.{ℕ, ◌==◌, nat_lt, List, [], ◌∷◌, length, Option, None, Some, Result, Ok, Err, if◌then◌else◌}
 use Rattle.std.specs.List.{list_all, slice_split, flat_map}
-use Rattle.sn_walk.specs.declared.path.PathFault.{PathFault}
-use Rattle.sn_walk.specs.declared.path.PathFault.TheVariants.{Misspelt, TooLong}
+use Rattle.sn_walk.specs.declared.fault.PathFault.{PathFault}
+use Rattle.sn_walk.specs.declared.fault.PathFault.TheVariants.{Misspelt, TooLong}
 use Rattle.sn_limits.specs.Names.{is_name_spelled, has_name_length}
 
 -- the pieces between the slashes: one more than there are slashes

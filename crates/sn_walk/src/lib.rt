@@ -20,14 +20,14 @@
 //! ```
 #![tactic(auto)]
 
-mod failure;
+mod fault;
 mod object;
 mod path;
 mod view;
 mod walking;
 
-pub use failure::Failure;
+pub use fault::{Failure, PathFault};
 pub use object::{Home, Object};
-pub use path::{PATH_MAX, Path, PathFault};
+pub use path::{PATH_MAX, Path};
 pub use view::{Attributes, ROOT_NUMBER, TreeView};
 pub use walking::{Found, Obstacle, WalkRefusal, Walked, attributes_of, child_of, reached, walk};

@@ -4,33 +4,12 @@ ghost use Rattle.std.specs.List.{list_all};
 ghost use Rattle.sn_limits.specs.Names.{is_name_spelled, has_name_length};
 ghost use Rattle.sn_walk.specs.Paths.{parsed, of_names, pieces, pieces_of, last_of};
 
+use crate::PathFault;
 use sn_limits::{has_name_length, is_name_spelled};
-use std::error::Error;
-use std::fmt;
 use std::marker::Model;
 
 /// The most bytes of a path.
 pub const PATH_MAX: usize = 1023;
-
-/// What is wrong in a word that was to be a path.
-#[derive(Clone, Copy, Debug, PartialEq, Eq, Hash)]
-pub enum PathFault {
-    /// It is empty, relative, or one of its names is misspelt.
-    Misspelt,
-    /// It or one of its names has too many bytes.
-    TooLong,
-}
-
-impl fmt::Display for PathFault {
-    fn fmt<W: fmt::Write>(&self, f: &mut fmt::Formatter<W>) -> fmt::Result {
-        f.write_str(match self {
-            PathFault::Misspelt => "misspelt path",
-            PathFault::TooLong => "path or name too long",
-        })
-    }
-}
-
-impl Error for PathFault {}
 
 /// A path from the root: its names in order, none for `/`. It borrows the word that it was read from.
 #[derive(Drop)]

@@ -11,6 +11,8 @@
 //! let mode = octal(b"0755")?;
 //! let groups = groups(alloc, b"50,60")?;
 //! ```
+//!
+//! What the sources leave open is decided in `docs/DECISIONS.md`, under "Scripts and the program".
 #![tactic(auto)]
 
 pub mod cut;

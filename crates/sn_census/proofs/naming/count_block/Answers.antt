@@ -3,7 +3,7 @@ use Rattle.std.proofs.lemmas.Result.{err_from_is_err_and}
 use Rattle.sn_device.specs.Disk.{Disk, reads}
 use Rattle.sn_block.specs.Lending.{device_of}
 use Rattle.sn_layout_node.specs.Directory.{Link, IsDirectoryBlock}
-use Rattle.sn_model.specs.declared.mount.Damage.TheVariants.{Misspelt}
+use Rattle.sn_model.specs.declared.fault.Damage.TheVariants.{Misspelt}
 use Rattle.sn_ondisk.specs.Trees.{Store, store_of, data_block}
 use Rattle.sn_image.specs.Names.{names_in}
 use Rattle.sn_dir.specs.Blocks.{CanRead}

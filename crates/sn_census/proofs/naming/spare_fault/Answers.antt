@@ -2,7 +2,7 @@ use Rattle.std.proofs.Common.{Option, sym, ap, subst, ◌∙◌}
 use Rattle.sn_device.specs.Disk.{reads}
 use Rattle.sn_block.specs.Lending.{device_of}
 use Rattle.sn_limits.specs.declared.kind.Kind.{Kind}
-use Rattle.sn_model.specs.declared.mount.Damage.TheVariants.{Links}
+use Rattle.sn_model.specs.declared.fault.Damage.TheVariants.{Links}
 use Rattle.sn_ondisk.specs.Trees.{store_of}
 use Rattle.sn_sound.specs.Faults.{record_block}
 use Rattle.sn_marks.specs.Fault.{Tells}

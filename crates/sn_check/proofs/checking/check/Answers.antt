@@ -1,7 +1,7 @@
 use Rattle.std.proofs.Common.{IfErr, IfOk, Result, sym, subst}
 use Rattle.sn_block.specs.Lending.{device_of}
 use Rattle.sn_device.specs.Disk.{reads}
-use Rattle.sn_model.specs.declared.mount.MountFault.{MountFault}
+use Rattle.sn_model.specs.declared.fault.MountFault.{MountFault}
 use Rattle.sn_sound.specs.Verdicts.{HasNoVerdict}
 use Rattle.sn_examine.specs.Failing.{FailsAs}
 use Rattle.sn_check.specs.Verdicts.{IsRight}

@@ -2,7 +2,7 @@ use Rattle.std.proofs.Common.{ℕ, count_by, drop, sym, ap, subst, ◌∙◌, ar
 use Rattle.sn_block.specs.Lending.{device_of}
 use Rattle.sn_device.specs.Disk.{reads}
 use Rattle.sn_map.specs.Free.{is_free_word}
-use Rattle.sn_model.specs.declared.mount.MountFault.{MountFault}
+use Rattle.sn_model.specs.declared.fault.MountFault.{MountFault}
 use Rattle.sn_check_roots.specs.First.{IsFirstOf}
 use Rattle.sn_examine.specs.Failing.{IsSoOf}
 use Rattle.sn_check.specs.Faults.{IsDamageOf}

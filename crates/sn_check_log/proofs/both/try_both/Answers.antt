@@ -2,7 +2,7 @@ use Rattle.std.proofs.Common.{◌+◌, Result, Err, refl, sym, ap, subst, ◌∙
 use Rattle.std.proofs.lemmas.Result.{err_from_is_err_and}
 use Rattle.sn_block.specs.Lending.{device_of}
 use Rattle.sn_device.specs.Disk.{Disk, reads}
-use Rattle.sn_model.specs.declared.mount.MountFault.{MountFault}
+use Rattle.sn_model.specs.declared.fault.MountFault.{MountFault}
 use Rattle.sn_ondisk.specs.Trees.{store_of}
 use Rattle.sn_image.specs.Image.{image}
 use Rattle.sn_examine.specs.Replaying.{Breaks, HasAll, LeadsOn}

@@ -1,6 +1,6 @@
 use Rattle.std.proofs.Common.{sym, subst}
 use Rattle.sn_block.specs.Lending.{device_of}
-use Rattle.sn_model.specs.declared.mount.MountFault.{MountFault}
+use Rattle.sn_model.specs.declared.fault.MountFault.{MountFault}
 use Rattle.sn_examine.proofs.TreeLemmas.{tree_fails, tree_reads, tree_undamaged}
 use Rattle.sn_examine.specs.Failing.{IsSoOf}
 use Rattle.sn_examine.specs.Rooms.{IsNoDamage}

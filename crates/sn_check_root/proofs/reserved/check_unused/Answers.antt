@@ -6,7 +6,7 @@ use Rattle.sn_block.specs.Lending.{device_of, fetched_number}
 use Rattle.sn_layout.specs.Bytes.{zeros}
 use Rattle.sn_ondisk.specs.Trees.{Store, store_of, data_block}
 use Rattle.sn_image.specs.Inodes.{record_at}
-use Rattle.sn_model.specs.declared.mount.Damage.TheVariants.{Misspelt}
+use Rattle.sn_model.specs.declared.fault.Damage.TheVariants.{Misspelt}
 use Rattle.sn_sound.specs.Faults.{record_block}
 use Rattle.sn_marks.specs.Fault.{Tells}
 use Rattle.sn_marks.specs.declared.fault.CheckFault.{CheckFault}

@@ -1,5 +1,5 @@
 use Rattle.std.proofs.Common.{sym, subst}
-use Rattle.sn_model.specs.declared.mount.MountFault.{MountFault}
+use Rattle.sn_model.specs.declared.fault.MountFault.{MountFault}
 use Rattle.sn_examine.specs.Examining.{IsOfRoots}
 use Rattle.sn_examine.specs.Refusing.{Refuses}
 use Rattle.sn_device.specs.Disk.{reads}

@@ -2,7 +2,7 @@ use Rattle.std.proofs.Common.{false, None, refl, sym, ap, subst, arith}
 use Rattle.sn_device.specs.Disk.{Disk}
 use Rattle.sn_block.specs.Lending.{device_of}
 use Rattle.sn_live_world.specs.World.{kept_of, kept_since_of}
-use Rattle.sn_model.specs.declared.mount.MountFault.TheVariants.{Memory}
+use Rattle.sn_model.specs.declared.fault.MountFault.TheVariants.{Memory}
 use Rattle.sn_events.specs.Mounted.{holding}
 use Rattle.sn_events.specs.Mounting.{IsLeft, Mounts}
 use Rattle.sn_events.proofs.MountLemmas.{is_left, mounts, refused_memory}

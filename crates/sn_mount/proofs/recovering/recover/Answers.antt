@@ -18,7 +18,7 @@ use Rattle.sn_live_world.specs.World.{HasDrops, changes_of, tree_over, world_ove
 use Rattle.sn_live_world.specs.declared.world.LiveWorld.{LiveWorld}
 use Rattle.sn_log.specs.Clearing.{Clears}
 use Rattle.sn_log.specs.Positions.{LogPosition, first_of, half_base}
-use Rattle.sn_model.specs.declared.mount.MountFault.{MountFault}
+use Rattle.sn_model.specs.declared.fault.MountFault.{MountFault}
 use Rattle.sn_model.specs.Settling.{settled}
 use Rattle.sn_model.specs.Tree.{Tree}
 use Rattle.sn_model.specs.World.{World, new_world}

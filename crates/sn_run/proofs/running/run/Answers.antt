@@ -1,4 +1,4 @@
-use Rattle.sn_model.specs.declared.mount.End.TheVariants.{Mount}
+use Rattle.sn_model.specs.declared.end.End.TheVariants.{Mount}
 use Rattle.sn_fs.specs.Filesystem.{has_stopped, held}
 use Rattle.sn_run.specs.Servers.{is_stopped, standing}
 use Rattle.sn_run.proofs.RunLemmas.{is_run, is_unfit, served_to}

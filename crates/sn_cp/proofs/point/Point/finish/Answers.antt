@@ -1,7 +1,7 @@
 use Rattle.std.proofs.Common.{◌≡◌, Bool, false, IsTrue, Ok, Err, refl, sym, ap, subst, ◌∙◌, rules}
 use Rattle.sn_block.specs.Counts.{CountsCalls, called}
 use Rattle.sn_block.specs.Lending.{device_of}
-use Rattle.sn_device.specs.declared.device.Fault.{Fault}
+use Rattle.sn_device.specs.declared.fault.Fault.{Fault}
 use Rattle.sn_cp.specs.Counting.{IsStageOf}
 use Rattle.sn_cp.specs.Points.{Work, stage_of, work_of}
 use Rattle.sn_cp.specs.Steps.{StepsTo, next_stage, syncs_of, writes_of}

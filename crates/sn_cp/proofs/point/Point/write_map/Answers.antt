@@ -2,7 +2,7 @@ use Rattle.std.proofs.Common.{ℕ, ◌+◌, ◌*◌, ◌<◌, ◌≤◌, Ok, Lis
 use Rattle.std.proofs.lemmas.Bool.{le-ltb, lt-ltb}
 use Rattle.sn_block.specs.Effects.{WritesStretch}
 use Rattle.sn_block.specs.Lending.{device_of}
-use Rattle.sn_device.specs.declared.device.Fault.{Fault}
+use Rattle.sn_device.specs.declared.fault.Fault.{Fault}
 use Rattle.sn_layout.specs.MapCopy.{map_block_bytes}
 use Rattle.sn_ondisk.specs.MapLaws.{words_of_block}
 use Rattle.sn_cp.specs.Points.{work_of}
