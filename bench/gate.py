@@ -92,7 +92,7 @@ def main():
     out = open(sys.argv[1], "w") if len(sys.argv) > 1 else sys.stderr
     before, stolen_before = ticks()
     begun, seen = time.time(), {}
-    gate = subprocess.Popen(["rt", "ci"], cwd=TOP, stdout=out, stderr=subprocess.STDOUT)
+    gate = subprocess.Popen([str(TOP / ".ci" / "rt"), "ci"], cwd=TOP, stdout=out, stderr=subprocess.STDOUT)
     while gate.poll() is None:
         look(gate.pid, seen)
         time.sleep(PERIOD)

@@ -18,7 +18,7 @@ from pathlib import Path
 
 sys.dont_write_bytecode = True
 
-from wrong_bodies import TOP, below, linked  # noqa: E402
+from wrong_bodies import RT, TOP, below, linked  # noqa: E402
 
 OUT = TOP / "bench" / "out"
 
@@ -51,7 +51,7 @@ def built(name):
         if kept.is_dir():
             shutil.copytree(kept, crate / "out" / "incremental")
         # It ends at once, since it wants a word.
-        run = subprocess.run(["rt", "run"], cwd=crate, capture_output=True, text=True)
+        run = subprocess.run([RT, "run"], cwd=crate, capture_output=True, text=True)
         shutil.rmtree(kept, ignore_errors=True)
         if (crate / "out" / "incremental").is_dir():
             shutil.copytree(crate / "out" / "incremental", kept)

@@ -17,7 +17,7 @@ import tempfile
 sys.dont_write_bytecode = True
 
 from gate import TICKS  # noqa: E402
-from wrong_bodies import Copy  # noqa: E402
+from wrong_bodies import RT, Copy  # noqa: E402
 
 CHECKED = re.compile(r"^checked (.*), \d+ of \d+$")
 
@@ -57,7 +57,7 @@ def main():
         copy = Copy(crate, folder, keeps=False)
         part_from_others(copy)
         how = {"cwd": copy.folder, "stdout": subprocess.PIPE, "stderr": subprocess.STDOUT, "text": True}
-        run = subprocess.Popen(["rt", "check", "--jobs", "1"], **how)
+        run = subprocess.Popen([RT, "check", "--jobs", "1"], **how)
         for line in run.stdout:
             found = CHECKED.match(line)
             if found:

@@ -28,6 +28,7 @@ from pathlib import Path
 
 TOP = Path(__file__).resolve().parent.parent
 EDITS = TOP / "bench" / "wrong_bodies"
+RT = str(TOP / ".ci" / "rt")
 STATUS = re.compile(r"^(?:fn|impl|struct|enum|trait) ([\w:]+): (.*)$")
 WAITING = re.compile(r"^(not proved; it (waits|calls)|not proved: it calls|no proof; it (waits|calls))")
 
@@ -153,7 +154,7 @@ class Copy:
         for edit in edits:
             path = self.folder / edit.file
             path.write_text(edit.made_in(path.read_text()))
-        run = subprocess.run(["rt", "check"], cwd=self.folder, capture_output=True, text=True)
+        run = subprocess.run([RT, "check"], cwd=self.folder, capture_output=True, text=True)
         for file, text in before.items():
             (self.folder / file).write_text(text)
         output = run.stdout + run.stderr
