@@ -19,7 +19,7 @@
 //! after the other: the sixteen become the first pointers of an indirect block, with holes behind them.
 //! `plan_pointers` plans each pointer by `plan_pointer`, which copies an indirect block and plans the pointers in the
 //! copy by `plan_copy`, each by `plan_pointer` again: a recursion over levels, so a tree of three levels is no case of
-//! its own. A pointer stays where no dirty block lies below it and all below it stays, or it is a hole; a run of
+//! its own. A pointer stays where no dirty block lies below it and all below it stays, or it is a hole; a stretch of
 //! pointers up to the next dirty block, or to the end of what stays, is passed over at once, and one of holes in a
 //! few steps. The copy takes the indirect block's place where a pointer in it changes, and a hole does where all of
 //! its pointers are holes. `release_pointers` is `plan_pointers` where nothing stays and nothing is dirty.

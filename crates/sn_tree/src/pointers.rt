@@ -268,7 +268,7 @@ fn plan_pointer<D: Device>(
     replace_copy(build, pointer, copy)
 }
 
-// The same for the pointers of an indirect block, which are set in a copy of it. A run of them that stay is passed
+// The same for the pointers of an indirect block, which are set in a copy of it. A stretch of them that stay is passed
 // over at once: most are such.
 #[cycle(plan)]
 fn plan_copy<D: Device>(
