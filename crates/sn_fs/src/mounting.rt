@@ -6,8 +6,7 @@ ghost use Rattle.sn_mount.specs.Costs.{CostsFew, CostsMount};
 ghost use Rattle.sn_fs.specs.Filesystem.{IsFs, has_stopped, held};
 ghost use Rattle.sn_events.specs.Mounting.{IsLeft, Mounts};
 
-use crate::Fs;
-use crate::Unmounted;
+use crate::{Fs, Unmounted};
 use sn_block::Blocks;
 use sn_device::Device;
 use sn_model::MountFault;

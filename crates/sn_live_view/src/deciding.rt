@@ -10,8 +10,8 @@ ghost use Rattle.sn_overlay.specs.Overlays.{layer_of};
 ghost use Rattle.sn_live.specs.Live.{IsLive, shown_of};
 ghost use Rattle.sn_live_view.specs.Live.{IsNumbered, live_trees, world_of};
 
-use crate::{LiveView, Unread};
 use crate::unread::UnreadView;
+use crate::{LiveView, Unread};
 use sn_applies::NamedTree;
 use sn_core_calls::decide;
 use sn_core_files::CallError;

@@ -7,7 +7,8 @@ ghost use Rattle.sn_model.specs.declared.link.Link.{Link};
 
 use sn_applies::NamedTree;
 use sn_core_decide::{
-    attributes_charge, blocks_spanned, name_charge, rename_charge, size_charge, unlink_charge, write_charge,
+    attributes_charge, blocks_spanned, name_charge, rename_charge, size_charge, unlink_charge,
+    write_charge,
 };
 use sn_limits::{Kind, Limits};
 use sn_model::Change;
