@@ -31,6 +31,11 @@ class Tree:
         self.nodes[directory][3].append((number, name.encode()))
         return number
 
+    def add_link(self, directory, name, number):
+        """One more name of a file."""
+        self.nodes[number][2] += 1
+        self.nodes[directory][3].append((number, name.encode()))
+
 
 class Image:
     """Blocks of an image by their numbers, of which the data area is filled from its front; the others are zeros."""

@@ -150,10 +150,14 @@ impl<'a> FileView for PlainView<'a> {
         most: usize,
     ) -> Result<Vec<u8>, FileFault<Infallible>> {
         match home {
-            Home::Live => match self.tree.tree().read(alloc, number, offset, most)? {
-                Some(bytes) => Ok(bytes),
-                None => Ok(Vec::new(alloc)),
-            },
+            Home::Live => {
+                // It bounds where its bytes end.
+                let _size = self.tree.tree().size(number);
+                match self.tree.tree().read(alloc, number, offset, most)? {
+                    Some(bytes) => Ok(bytes),
+                    None => Ok(Vec::new(alloc)),
+                }
+            }
             Home::Frozen(_) => Ok(Vec::new(alloc)),
         }
     }

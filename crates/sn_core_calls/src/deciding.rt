@@ -13,11 +13,13 @@ ghost use Rattle.sn_desc.specs.Sessions.{in_use_of};
 ghost use Rattle.sn_core_files.specs.Decided.{Decides, DecidesShown};
 ghost use Rattle.sn_core_files.specs.Faults.{IfView};
 ghost use Rattle.sn_core_files.specs.Shown.{Shows};
+ghost use Rattle.sn_core_calls.specs.Groups.{group_of};
 
 use crate::deciding_names::{decide_link, decide_readdir, decide_rename, decide_rmdir};
 use crate::deciding_snapshots::{
     decide_snap_create, decide_snap_delete, decide_snap_list, decide_sync,
 };
+use crate::groups::{Group, group_of};
 use sn_acl::{Cred, Mode, Permissions};
 use sn_core_access::umask;
 use sn_core_decide::new_mode_argument;
@@ -59,6 +61,7 @@ fn login(uid: u32, gid: u32, groups: &Groups) -> Outcome<'static>
 fn unviewed<'a, F>(answer: Result<Outcome<'a>, Refusal>) -> Result<Outcome<'a>, CallError<F>>
     ensures decided { (world : World) → (session : ℕ) → (call : TheCall) → Answers (λ o. o) answer.entry (decision version_1 world session call) → Decides world session call result }
     ensures cause { IfView result (λ f. ⊥) }
+    ensures numbers { (call : TheCall) → IfOk answer.entry (λ o. IsCall call) → IfOk result (λ o. IsCall call) }
 {
     match answer {
         Ok(outcome) => Ok(outcome),
@@ -72,6 +75,141 @@ fn decide_umask(sessions: &Sessions, session: u32, mask: u16) -> Result<Outcome<
     let caller = logged_in(sessions, session)?;
     let mask = new_mode_argument(mask)?;
     Ok(umask(caller, mask))
+}
+
+/// What a call of sessions comes to, which asks nothing of the trees.
+fn decide_of_session<'a>(
+    sessions: &Sessions,
+    session: u32,
+    call: &'a Call,
+) -> Result<Outcome<'a>, Refusal>
+    requires { group_of call.now ≡ Group.Sessions }
+    ensures decided { (world : World) → Answers (λ o. o) result (decision version_1 (in_world (in_use_of sessions.now) world) session call.now) }
+    ensures numbers { IfOk result (λ o. IsCall call.now) }
+{
+    match call {
+        Call::Login { uid, gid, groups } => {
+            logged_out(sessions, session)?;
+            Ok(login(*uid, *gid, groups))
+        }
+        Call::Logout => decide_logout(sessions, session),
+        Call::Umask { mask } => decide_umask(sessions, session, *mask),
+        Call::Close { fd } => decide_close(sessions, session, *fd),
+        Call::Seek { fd, offset } => decide_seek(sessions, session, *fd, *offset),
+        Call::Ftruncate { fd, size } => decide_ftruncate(sessions, session, *fd, *size),
+        Call::Sync => decide_sync(sessions, session),
+        _ => unreachable!(),
+    }
+}
+
+/// What a call of a node comes to that a path names.
+fn decide_of_node<'a, V: FileView>(
+    alloc: Global,
+    view: &mut V,
+    sessions: &Sessions,
+    session: u32,
+    call: &'a Call,
+) -> Result<Outcome<'a>, CallError<V::Fault>>
+    requires holds { V.holds view.old }
+    requires group { group_of call.now ≡ Group.Nodes }
+    ensures kept { V.holds view.new }
+    ensures follows { V.follows view.old view.new }
+    ensures same { IsTrue V.is_told → V.shows view.new ≡ V.shows view.old }
+    ensures decided { IsTrue V.is_told → DecidesShown (in_use_of sessions.now) (V.shows view.old) (V.room view.old) (V.names view.old) (V.bytes view.old) session call.now result }
+    ensures cause { IfView result (λ f. V.causes view.old view.new f) }
+    ensures numbers { IfOk result (λ o. IsCall call.now) }
+{
+    match call {
+        Call::Mkdir { path, mode } => decide_mkdir(view, sessions, session, path, *mode),
+        Call::Chmod { path, mode } => decide_chmod(view, sessions, session, path, *mode),
+        Call::Chown { path, uid, gid } => decide_chown(view, sessions, session, path, *uid, *gid),
+        Call::Stat { path } => decide_stat(view, sessions, session, path),
+        Call::Access { path, want } => decide_access(view, sessions, session, path, *want),
+        Call::GetAcl { path, kind } => decide_getacl(alloc, view, sessions, session, path, *kind),
+        Call::SetAcl { path, kind, acl } => {
+            decide_setacl(view, sessions, session, path, *kind, acl)
+        }
+        _ => unreachable!(),
+    }
+}
+
+/// What a call comes to that lists names or exchanges them.
+fn decide_of_names<'a, V: FileView>(
+    alloc: Global,
+    view: &mut V,
+    sessions: &Sessions,
+    session: u32,
+    call: &'a Call,
+) -> Result<Outcome<'a>, CallError<V::Fault>>
+    requires holds { V.holds view.old }
+    requires group { group_of call.now ≡ Group.Names }
+    ensures kept { V.holds view.new }
+    ensures follows { V.follows view.old view.new }
+    ensures same { IsTrue V.is_told → V.shows view.new ≡ V.shows view.old }
+    ensures decided { IsTrue V.is_told → DecidesShown (in_use_of sessions.now) (V.shows view.old) (V.room view.old) (V.names view.old) (V.bytes view.old) session call.now result }
+    ensures cause { IfView result (λ f. V.causes view.old view.new f) }
+    ensures numbers { IfOk result (λ o. IsCall call.now) }
+{
+    match call {
+        Call::Rmdir { path } => decide_rmdir(view, sessions, session, path),
+        Call::Unlink { path } => decide_unlink(view, sessions, session, path),
+        Call::Link { old, new } => decide_link(view, sessions, session, old, new),
+        Call::Rename { old, new } => decide_rename(view, sessions, session, old, new),
+        Call::Readdir { path } => decide_readdir(alloc, view, sessions, session, path),
+        _ => unreachable!(),
+    }
+}
+
+/// What a call comes to that opens a file, reads or writes it.
+fn decide_of_file<'a, V: FileView>(
+    alloc: Global,
+    view: &mut V,
+    sessions: &Sessions,
+    session: u32,
+    call: &'a Call,
+) -> Result<Outcome<'a>, CallError<V::Fault>>
+    requires holds { V.holds view.old }
+    requires group { group_of call.now ≡ Group.Files }
+    ensures kept { V.holds view.new }
+    ensures follows { V.follows view.old view.new }
+    ensures same { IsTrue V.is_told → V.shows view.new ≡ V.shows view.old }
+    ensures decided { IsTrue V.is_told → DecidesShown (in_use_of sessions.now) (V.shows view.old) (V.room view.old) (V.names view.old) (V.bytes view.old) session call.now result }
+    ensures cause { IfView result (λ f. V.causes view.old view.new f) }
+    ensures numbers { IfOk result (λ o. IsCall call.now) }
+{
+    match call {
+        Call::Open { path, flags, mode } => {
+            decide_open(view, sessions, session, path, *flags, *mode)
+        }
+        Call::Read { fd, count } => decide_read(alloc, view, sessions, session, *fd, *count),
+        Call::Write { fd, bytes } => decide_write(view, sessions, session, *fd, bytes),
+        _ => unreachable!(),
+    }
+}
+
+/// What a call of snapshots comes to.
+fn decide_of_snapshot<'a, V: FileView>(
+    alloc: Global,
+    view: &mut V,
+    sessions: &Sessions,
+    session: u32,
+    call: &'a Call,
+) -> Result<Outcome<'a>, CallError<V::Fault>>
+    requires holds { V.holds view.old }
+    requires group { group_of call.now ≡ Group.Snapshots }
+    ensures kept { V.holds view.new }
+    ensures follows { V.follows view.old view.new }
+    ensures same { IsTrue V.is_told → V.shows view.new ≡ V.shows view.old }
+    ensures decided { IsTrue V.is_told → DecidesShown (in_use_of sessions.now) (V.shows view.old) (V.room view.old) (V.names view.old) (V.bytes view.old) session call.now result }
+    ensures cause { IfView result (λ f. V.causes view.old view.new f) }
+    ensures numbers { IfOk result (λ o. IsCall call.now) }
+{
+    match call {
+        Call::SnapCreate { name } => decide_snap_create(alloc, view, sessions, session, name),
+        Call::SnapDelete { name } => decide_snap_delete(view, sessions, session, name),
+        Call::SnapList => decide_snap_list(alloc, view, sessions, session),
+        _ => unreachable!(),
+    }
 }
 
 /// What a call comes to over each world that the view shows, or why it has no outcome.
@@ -90,43 +228,12 @@ fn decide_shown<'a, V: FileView>(
     ensures cause { IfView result (λ f. V.causes view.old view.new f) }
     ensures numbers { IfOk result (λ o. IsCall call.now) }
 {
-    match call {
-        Call::Login { uid, gid, groups } => {
-            logged_out(sessions, session)?;
-            Ok(login(*uid, *gid, groups))
-        }
-        Call::Umask { mask } => unviewed(decide_umask(sessions, session, *mask)),
-        Call::Mkdir { path, mode } => decide_mkdir(view, sessions, session, path, *mode),
-        Call::Chmod { path, mode } => decide_chmod(view, sessions, session, path, *mode),
-        Call::Chown { path, uid, gid } => {
-            decide_chown(view, sessions, session, path, *uid, *gid)
-        }
-        Call::Stat { path } => decide_stat(view, sessions, session, path),
-        Call::Access { path, want } => decide_access(view, sessions, session, path, *want),
-        Call::GetAcl { path, kind } => {
-            decide_getacl(alloc, view, sessions, session, path, *kind)
-        }
-        Call::SetAcl { path, kind, acl } => {
-            decide_setacl(view, sessions, session, path, *kind, acl)
-        }
-        Call::Rmdir { path } => decide_rmdir(view, sessions, session, path),
-        Call::Unlink { path } => decide_unlink(view, sessions, session, path),
-        Call::Link { old, new } => decide_link(view, sessions, session, old, new),
-        Call::Rename { old, new } => decide_rename(view, sessions, session, old, new),
-        Call::Readdir { path } => decide_readdir(alloc, view, sessions, session, path),
-        Call::Logout => unviewed(decide_logout(sessions, session)),
-        Call::Open { path, flags, mode } => {
-            decide_open(view, sessions, session, path, *flags, *mode)
-        }
-        Call::Close { fd } => unviewed(decide_close(sessions, session, *fd)),
-        Call::Read { fd, count } => decide_read(alloc, view, sessions, session, *fd, *count),
-        Call::Write { fd, bytes } => decide_write(view, sessions, session, *fd, bytes),
-        Call::Seek { fd, offset } => unviewed(decide_seek(sessions, session, *fd, *offset)),
-        Call::Ftruncate { fd, size } => unviewed(decide_ftruncate(sessions, session, *fd, *size)),
-        Call::Sync => unviewed(decide_sync(sessions, session)),
-        Call::SnapCreate { name } => decide_snap_create(alloc, view, sessions, session, name),
-        Call::SnapDelete { name } => decide_snap_delete(view, sessions, session, name),
-        Call::SnapList => decide_snap_list(alloc, view, sessions, session),
+    match group_of(call) {
+        Group::Sessions => unviewed(decide_of_session(sessions, session, call)),
+        Group::Nodes => decide_of_node(alloc, view, sessions, session, call),
+        Group::Names => decide_of_names(alloc, view, sessions, session, call),
+        Group::Files => decide_of_file(alloc, view, sessions, session, call),
+        Group::Snapshots => decide_of_snapshot(alloc, view, sessions, session, call),
     }
 }
 

@@ -6,8 +6,8 @@
 //! is neither: memory for what it tells was refused, or the view found a fault. Both come only once session and arguments
 //! have passed. Nothing is changed.
 //!
-//! `specs/Decided` of `sn_core_files` says what a call comes to. `deciding_names` and `deciding_snapshots` have calls, and in
-//! `deciding` [`decide`] goes over all of them.
+//! `specs/Decided` of `sn_core_files` says what a call comes to. `deciding_names` and `deciding_snapshots` have calls, `groups`
+//! says which are decided in one place, and in `deciding` [`decide`] goes over all of them.
 //!
 //! What the sources leave open is decided in `docs/DECISIONS.md`, under "Decisions of calls".
 //!
@@ -19,5 +19,6 @@
 mod deciding;
 mod deciding_names;
 mod deciding_snapshots;
+mod groups;
 
 pub use deciding::decide;

@@ -132,19 +132,6 @@ pub fn decide_close(sessions: &Sessions, session: u32, fd: u32) -> Result<Outcom
     Ok(asks(Caller::Closes { fd }, Reply::Done))
 }
 
-/// Where a file of a size stands behind a read of so many bytes: from its end on where it stood before. A view that
-/// isn't told may hand out more bytes than it says that there are.
-fn offset_behind(offset: u64, size: u64, count: u64) -> u64
-    ensures moves { offset + count ≤ size → result ≡ offset + count }
-    ensures stays { size ≤ offset → result ≡ offset }
-{
-    if offset < size {
-        offset.saturating_add(count)
-    } else {
-        offset
-    }
-}
-
 /// What a read from an open file comes to.
 fn reads<V: FileView>(
     alloc: Global,
@@ -161,12 +148,8 @@ fn reads<V: FileView>(
     ensures found { IsTrue V.is_told → IfOk result (λ o. o ≡ calls.reads fd (descriptor_of file.now) (take count (drop file.now.offset (V.bytes view.old file.now.home file.now.number)))) }
     ensures cause { IfLookUp result (λ f. V.causes view.old view.new f) }
 {
-    let size = match view.size(&file.home, file.number) {
-        Ok(size) => size,
-        Err(fault) => return Err(FileFault::View(fault)),
-    };
     let bytes = view.read(alloc, &file.home, file.number, file.offset, count as usize)?;
-    let offset = offset_behind(file.offset, size, bytes.len() as u64);
+    let offset = file.offset + bytes.len() as u64;
     Ok(asks(
         Caller::Moves { fd, offset },
         Reply::Content(FileData::new(bytes)),

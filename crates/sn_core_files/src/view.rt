@@ -7,7 +7,7 @@ use std::alloc::Global;
 /// What calls ask of the trees beside what decisions ask: the bytes of files, and the names that a
 /// directory is listed with.
 pub trait FileView: MoveView {
-    ghost use Rattle.std.specs.Prelude.{◌≡◌, ℕ, IsTrue, IfOk, IfErr, List, length, take, drop};
+    ghost use Rattle.std.specs.Prelude.{◌≡◌, ℕ, ◌+◌, ◌<◌, ◌^◌, IsTrue, IfOk, IfErr, List, length, take, drop};
     ghost use Rattle.sn_walk.specs.declared.object.Home.{Home};
     ghost use Rattle.sn_core_files.specs.Faults.{IfLookUp};
 
@@ -37,6 +37,7 @@ pub trait FileView: MoveView {
         ensures follows { Self.follows self.old self.new }
         ensures same { IsTrue Self.is_told → Self.shows self.new ≡ Self.shows self.old }
         ensures found { IsTrue Self.is_told → IfOk result (λ read. read.items ≡ take most (drop offset (bytes self.old home.now number))) }
+        ensures ends { IfOk result (λ read. offset + length read.items < 2 ^ 64) }
         ensures cause { IfLookUp result (λ f. Self.causes self.old self.new f) };
 
     /// The names that a directory is listed with, in the order of their bytes.

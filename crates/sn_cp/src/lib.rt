@@ -39,7 +39,7 @@
 //! begin(&mut blocks, geometry, &mut log)?;
 //! while point.steps_left() > 1 {
 //!     point.advance(&mut blocks)?;
-//!     log.append(&mut blocks, &change)?;
+//!     log.append(&mut blocks, &payload)?;
 //! }
 //! point.finish(&mut blocks)?;
 //! ```

@@ -11,7 +11,7 @@ use std::alloc::{AllocError, Global};
 /// Which snapshots there are is known without a look-up. Each answer of a look-up is that of the frozen tree with this
 /// name, and nothing where no snapshot has it. A fault is one of the tree.
 pub trait HasSnapshots: Below {
-    ghost use Rattle.std.specs.Prelude.{◌≡◌, IsTrue, IfOk, IfErr, drop, length, take};
+    ghost use Rattle.std.specs.Prelude.{◌≡◌, ◌+◌, ◌<◌, ◌^◌, IsTrue, IfOk, IfErr, drop, length, take};
     ghost use Rattle.std.specs.FinMap as map;
     ghost use Rattle.sn_core_files.specs.Faults.{IfLookUp};
     ghost use Rattle.sn_frozen.specs.Frozen.{FrozenTrees, bytes_at, seen_at};
@@ -100,6 +100,7 @@ pub trait HasSnapshots: Below {
         ensures follows { Self.follows self.old self.new }
         ensures same { IsTrue Self.is_told → Self.shows self.new ≡ Self.shows self.old }
         ensures found { IsTrue Self.is_told → IfOk result (λ read. read.items ≡ take most (drop offset (bytes_at (frozen self.old) snapshot.now number))) }
+        ensures ends { IfOk result (λ read. offset + length read.items < 2 ^ 64) }
         ensures cause { IfLookUp result (λ f. Self.causes self.old self.new f) };
 
     /// The names of a directory of a frozen tree, in the order of their bytes. It is `Memory` where there is none for the

@@ -10,14 +10,13 @@ ghost use Rattle.sn_log.specs.Positions.{HasRoom as HasLogRoom};
 ghost use Rattle.sn_model.specs.Changes.{apply};
 ghost use Rattle.sn_model.specs.Settling.{OnlyLost};
 ghost use Rattle.sn_model.specs.Tree.{Tree};
-ghost use Rattle.sn_record.specs.Payload.{IsSpelled};
 ghost use Rattle.sn_room.specs.Rooms.{logged};
 
 use crate::Fs;
 use sn_device::Device;
 use sn_events::ChangeFault;
 use sn_live_world::LookFault;
-use sn_model::Change;
+use sn_record::Payload;
 
 /// Why a change isn't made whose blocks couldn't be looked at.
 fn fault_of(fault: LookFault) -> ChangeFault
@@ -35,16 +34,15 @@ impl<D: Device> Fs<D> {
     /// first write, also for the drop of each file that is open behind it.
     pub(crate) fn log_change(
         &mut self,
-        change: &Change<'_>,
+        payload: &Payload<'_>,
         charge: u64,
     ) -> Result<Option<u16>, ChangeFault>
         requires running { has_stopped self.old ≡ false }
         requires sound { IsFs self.old }
-        requires can { IsTrue D.tells_bytes → (tree : Tree) × (apply version_1 change.now (held self.old).world.live ≡ Some tree) }
-        requires spelled { IsSpelled change.now }
-        requires room { HasLogRoom self.old.log change.now }
+        requires can { IsTrue D.tells_bytes → (tree : Tree) × (apply version_1 payload.now (held self.old).world.live ≡ Some tree) }
+        requires room { HasLogRoom self.old.log payload.now }
         requires charge { self.old.room.charged + charge < 2 ^ 64 }
-        ensures made { IsTrue D.tells_bytes → Changes result change.now charge (held self.old) (held self.new) }
+        ensures made { IsTrue D.tells_bytes → Changes result payload.now charge (held self.old) (held self.new) }
         ensures over { IsTrue D.tells_bytes → OnOk result (IsOver self.new.world (tree_of self.new)) }
         ensures lost { IsTrue D.tells_bytes → IfOk result (OnlyLost (held self.new).world) }
         ensures charged { OnOk result (self.new.room ≡ logged charge self.old.room) }
@@ -62,16 +60,18 @@ impl<D: Device> Fs<D> {
         ensures epoch { self.new.log.epoch ≡ self.old.log.epoch }
         ensures sectors { (D.status (device_of self.new.blocks)).sectors ≡ (D.status (device_of self.old.blocks)).sectors }
     {
-        let prepared = match self
-            .world
-            .prepare_change(self.alloc, &mut self.blocks, &self.base.root, change)
-        {
+        let prepared = match self.world.prepare_change(
+            self.alloc,
+            &mut self.blocks,
+            &self.base.root,
+            payload.change(),
+        ) {
             Ok(Some(prepared)) => prepared,
             // Over a device that tells its bytes a change that was decided can be made.
             Ok(None) => return Err(ChangeFault::Read),
             Err(fault) => return Err(fault_of(fault)),
         };
-        match self.log.append(&mut self.blocks, change) {
+        match self.log.append(&mut self.blocks, payload) {
             Ok(()) => {
                 self.room.log(charge);
                 Ok(self.world.commit(prepared))

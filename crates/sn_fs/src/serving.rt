@@ -8,7 +8,6 @@ ghost use Rattle.sn_live_world.specs.World.{HasDrops, IsOver, descriptors_of, na
 ghost use Rattle.sn_model.specs.Machine as machine;
 ghost use Rattle.sn_model.specs.Outcomes.{is_opening};
 ghost use Rattle.sn_model.specs.Steps.{asks_for_point};
-ghost use Rattle.sn_record.specs.Payload.{IsSpelled};
 ghost use Rattle.sn_sound.specs.Logs.{HasAgeLeft};
 ghost use Rattle.sn_room.specs.Rooms.{charged_behind, dropping};
 ghost use Rattle.sn_events.specs.Answers.{is_fitting};
@@ -21,8 +20,8 @@ use sn_device::Device;
 use sn_layout::{LARGEST_AGE, RootBody};
 use sn_limits::Limits;
 use sn_live_world::{CallFault, Picked};
-use sn_model::{Call, Caller, Change, Errno, Outcome, Refusal, Reply};
-use sn_record::is_valid;
+use sn_model::{Call, Caller, Errno, Outcome, Refusal, Reply};
+use sn_record::Payload;
 use std::alloc::AllocError;
 
 /// Whether a mount could make a point of what is logged on top of this root.
@@ -89,13 +88,12 @@ impl<D: Device> Fs<D> {
 
     /// Whether a change lacks something that a whole point gives: room for its record in the log or for its charge on
     /// the disk, a number that isn't kept back, or a root that another one can follow on.
-    fn lacks(&self, change: &Change<'_>, fits: bool) -> bool
-        requires { IsSpelled change.now }
-        ensures { TellsLack result (held self.now) change.now fits }
+    fn lacks(&self, payload: &Payload<'_>, fits: bool) -> bool
+        ensures { TellsLack result (held self.now) payload.now fits }
     {
         !fits
-            || !self.log.has_room(change)
-            || self.world.gives_kept(change)
+            || !self.log.has_room(payload)
+            || self.world.gives_kept(payload.change())
             || !has_age_left(&self.base.root)
     }
 
@@ -153,13 +151,13 @@ impl<D: Device> Fs<D> {
         };
         match change {
             Some(change) => {
-                if !is_valid(&change) {
+                let Some(payload) = Payload::of(&change) else {
                     return Some(refused(Errno::Eio));
-                }
-                if self.lacks(&change, fits) {
+                };
+                if self.lacks(&payload, fits) {
                     return None;
                 }
-                match self.log_change(&change, charge) {
+                match self.log_change(&payload, charge) {
                     // A file that goes with its last name was charged by its call.
                     Ok(lost) => self.turn(session, caller, lost, 0),
                     Err(fault) => {

@@ -98,6 +98,7 @@ fn gathered<B: Below>(
     ensures follows { B.follows tree.old tree.new }
     ensures same { IsTrue B.is_told → B.shows tree.new ≡ B.shows tree.old }
     ensures found { IsTrue B.is_told → IfOk result (λ read. read.items ≡ take count (drop offset (bytes_of (map.get (B.shows tree.old).nodes number)))) }
+    ensures ends { IfOk result (λ read. offset + length read.items < 2 ^ 64) }
     ensures cause { IfLookUp result (λ f. B.causes tree.old tree.new f) }
 {
     let mut bytes = Vec::with_capacity(alloc, count)?;
@@ -124,6 +125,7 @@ pub(crate) fn gathered_from<B: Below>(
     ensures follows { B.follows tree.old tree.new }
     ensures same { IsTrue B.is_told → B.shows tree.new ≡ B.shows tree.old }
     ensures found { IsTrue B.is_told → IfOk result (λ read. read.items ≡ take most (drop offset (bytes_of (map.get (B.shows tree.old).nodes number)))) }
+    ensures ends { IfOk result (λ read. offset + length read.items < 2 ^ 64) }
     ensures cause { IfLookUp result (λ f. B.causes tree.old tree.new f) }
 {
     let size = match size(tree, number) {

@@ -6,7 +6,7 @@ use std::alloc::Global;
 
 /// A tree below an overlay that answers what a walk is told of a node, bytes of a file, and the names of a directory.
 pub trait HasContents: Below {
-    ghost use Rattle.std.specs.Prelude.{◌≡◌, IsTrue, IfErr, IfOk, drop, take};
+    ghost use Rattle.std.specs.Prelude.{◌≡◌, ◌+◌, ◌<◌, ◌^◌, IsTrue, IfErr, IfOk, drop, length, take};
     ghost use Rattle.std.specs.FinMap as map;
     ghost use Rattle.std.specs.Option.{option_map};
     ghost use Rattle.sn_core_files.specs.Faults.{IfLookUp};
@@ -40,6 +40,7 @@ pub trait HasContents: Below {
         ensures follows { Self.follows self.old self.new }
         ensures same { IsTrue Self.is_told → Self.shows self.new ≡ Self.shows self.old }
         ensures found { IsTrue Self.is_told → IfOk result (λ read. read.items ≡ take most (drop offset (bytes_of (map.get (Self.shows self.old).nodes number)))) }
+        ensures ends { IfOk result (λ read. offset + length read.items < 2 ^ 64) }
         ensures cause { IfLookUp result (λ f. Self.causes self.old self.new f) };
 
     /// The names of a directory in the order of their bytes, each with its number: none where the number isn't a

@@ -3,7 +3,7 @@ ghost use Rattle.std.specs.Prelude.{◌≡◌, ◌+◌, ◌*◌, ◌/◌, ◌%�
 ghost use Rattle.sn_block.specs.Counts.{CountsCalls};
 ghost use Rattle.sn_block.specs.Lending.{device_of};
 ghost use Rattle.sn_ondisk.specs.LogHalf.{body_sectors};
-ghost use Rattle.sn_record.specs.Payload.{IsSpelled, payload_bytes};
+ghost use Rattle.sn_record.specs.Payload.{payload_bytes};
 ghost use Rattle.sn_log.specs.Positions.{HasRoom};
 ghost use Rattle.sn_log.specs.Appending.{Appends, WritesBehind};
 
@@ -13,7 +13,7 @@ use crate::sectors::sector_of;
 use sn_block::Blocks;
 use sn_device::{Device, Fault};
 use sn_layout::{Gate, SECTOR_SIZE};
-use sn_model::Change;
+use sn_record::Payload;
 
 /// Writes a body behind the gate in the sector `at`, closes the gate behind the body, and syncs.
 fn write_behind<D: Device>(blocks: &mut Blocks<D>, at: u64, body: &[u8]) -> Result<(), Fault>
@@ -37,19 +37,18 @@ pub(crate) fn append_at<D: Device>(
     blocks: &mut Blocks<D>,
     position: Position,
     room: &mut [u8; 66_048],
-    change: &Change<'_>,
+    payload: &Payload<'_>,
 ) -> Result<u64, Fault>
-    requires spelled { IsSpelled change.now }
-    requires room { HasRoom position change.now }
+    requires room { HasRoom position payload.now }
     requires disk { 8 * position.blocks ≤ (D.status (device_of blocks.old)).sectors }
-    ensures disk { IsTrue D.tells_bytes → Appends position change.now result
+    ensures disk { IsTrue D.tells_bytes → Appends position payload.now result
         (D.disk (device_of blocks.old)) (D.disk (device_of blocks.new)) }
-    ensures counts { CountsCalls (body_sectors (payload_bytes change.now) + 2) 2 result
+    ensures counts { CountsCalls (body_sectors (payload_bytes payload.now) + 2) 2 result
         (D.status (device_of blocks.old)) (D.status (device_of blocks.new)) }
-    ensures sectors { IfOk result (λ sectors. sectors ≡ body_sectors (payload_bytes change.now)) }
+    ensures sectors { IfOk result (λ sectors. sectors ≡ body_sectors (payload_bytes payload.now)) }
 {
     let gate = 8 * u64::from(position.start()) + position.place();
-    let size = put_body(room, position.epoch(), position.count(), change);
+    let size = put_body(room, position.epoch(), position.count(), payload);
     write_behind(blocks, gate, &room[..size])?;
     blocks.write_synced(gate, &sector_of(Gate::Open))?;
     Ok((size / SECTOR_SIZE) as u64)

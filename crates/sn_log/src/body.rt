@@ -5,8 +5,7 @@ ghost use Rattle.sn_ondisk.specs.LogHalf.{body_sectors, body_bytes};
 ghost use Rattle.sn_record.specs.Payload.{IsSpelled, payload_bytes};
 
 use sn_layout::{Reader, SECTOR_SIZE, put_u32, put_u64, put_zeros};
-use sn_model::Change;
-use sn_record::{payload_size, put_change};
+use sn_record::{Payload, put_change};
 
 /// The bytes of the longest body: 129 sectors.
 pub(crate) const BODY_MAX: usize = 66_048;
@@ -62,13 +61,13 @@ pub(crate) fn is_body(bytes: &[u8], head: Head) -> bool
     reader.are_zeros(rest) && found == head
 }
 
-/// How many sectors the body of a change's record takes.
-pub(crate) fn sectors_of(change: &Change<'_>) -> u64
-    requires { IsSpelled change.now }
-    ensures value { result ≡ body_sectors (payload_bytes change.now) }
+/// How many sectors a body takes whose payload has so many bytes.
+pub(crate) fn sectors_for(size: usize) -> usize
+    requires { size ≤ 65547 }
+    ensures value { result ≡ (16 + size + 511) / 512 }
     ensures most { result ≤ 129 }
 {
-    (HEAD_SIZE + payload_size(change)).div_ceil(SECTOR_SIZE) as u64
+    (HEAD_SIZE + size).div_ceil(SECTOR_SIZE)
 }
 
 /// Spells the body of a change's record, and answers how many bytes it has, which are whole sectors.
@@ -76,18 +75,18 @@ pub(crate) fn put_body(
     body: &mut [u8; 66_048],
     epoch: u64,
     sequence: u32,
-    change: &Change<'_>,
+    payload: &Payload<'_>,
 ) -> usize
-    requires { IsSpelled change.now }
-    ensures bytes { take result body.new ≡ body_bytes epoch sequence (payload_bytes change.now) }
-    ensures size { result ≡ 512 * body_sectors (payload_bytes change.now) }
-    ensures fits { (1 ≤ length (payload_bytes change.now)) × (length (payload_bytes change.now) ≤ 65547) }
+    ensures bytes { take result body.new ≡ body_bytes epoch sequence (payload_bytes payload.now) }
+    ensures size { result ≡ 512 * body_sectors (payload_bytes payload.now) }
+    ensures spelled { IsSpelled payload.now }
+    ensures fits { (1 ≤ length (payload_bytes payload.now)) × (length (payload_bytes payload.now) ≤ 65547) }
 {
-    let length = payload_size(change);
-    let size = SECTOR_SIZE * (HEAD_SIZE + length).div_ceil(SECTOR_SIZE);
+    let length = payload.size();
+    let size = SECTOR_SIZE * sectors_for(length);
     let at = put_u64(body, 0, epoch);
     let at = put_u32(body, at, sequence);
     let at = put_u32(body, at, length as u32);
-    let at = put_change(body, at, change);
+    let at = put_change(body, at, payload.change());
     put_zeros(body, at, size - at)
 }

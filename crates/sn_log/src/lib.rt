@@ -41,8 +41,10 @@
 //! }
 //! clear(&mut blocks, geometry, LogHalf::of_epoch(epoch), replay.position().place())?;
 //! let mut log = Log::new(replay.position(), buffer);
-//! if log.has_room(&change) {
-//!     log.append(&mut blocks, &change)?;
+//! if let Some(payload) = Payload::of(&change) {
+//!     if log.has_room(&payload) {
+//!         log.append(&mut blocks, &payload)?;
+//!     }
 //! }
 //! ```
 #![tactic(auto)]

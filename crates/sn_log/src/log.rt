@@ -3,16 +3,16 @@ ghost use Rattle.std.specs.Prelude.{◌≡◌, ◌+◌, ◌*◌, ◌/◌, ◌%�
 ghost use Rattle.sn_block.specs.Counts.{CountsCalls};
 ghost use Rattle.sn_block.specs.Lending.{device_of};
 ghost use Rattle.sn_ondisk.specs.LogHalf.{body_sectors};
-ghost use Rattle.sn_record.specs.Payload.{IsSpelled, payload_bytes};
+ghost use Rattle.sn_record.specs.Payload.{payload_bytes};
 ghost use Rattle.sn_log.specs.Positions.{first_of, behind, HasRoom};
 ghost use Rattle.sn_log.specs.Appending.{Appends};
 
 use crate::appending::append_at;
-use crate::body::sectors_of;
+use crate::body::sectors_for;
 use crate::{Buffer, Position};
 use sn_block::Blocks;
 use sn_device::{Device, Fault};
-use sn_model::Change;
+use sn_record::Payload;
 use std::marker::Model;
 
 /// The log of a mounted disk, to which changes are appended. Callers see it as the position where the
@@ -48,11 +48,10 @@ impl Log {
 
     /// Whether there is room for the record of a change. Where there isn't, a consistency point has to
     /// come first.
-    pub fn has_room(&self, change: &Change<'_>) -> bool
-        requires { IsSpelled change.now }
-        ensures { IsTrue result ↔ HasRoom self.now change.now }
+    pub fn has_room(&self, payload: &Payload<'_>) -> bool
+        ensures { IsTrue result ↔ HasRoom self.now payload.now }
     {
-        self.position.has_room(sectors_of(change))
+        self.position.has_room(sectors_for(payload.size()) as u64)
     }
 
     /// Appends the record of a change. It takes no memory. After a fault the position is as it was,
@@ -60,19 +59,18 @@ impl Log {
     pub fn append<D: Device>(
         &mut self,
         blocks: &mut Blocks<D>,
-        change: &Change<'_>,
+        payload: &Payload<'_>,
     ) -> Result<(), Fault>
-        requires spelled { IsSpelled change.now }
-        requires room { HasRoom self.old change.now }
+        requires room { HasRoom self.old payload.now }
         requires disk { 8 * self.old.blocks ≤ (D.status (device_of blocks.old)).sectors }
-        ensures disk { IsTrue D.tells_bytes → Appends self.old change.now result
+        ensures disk { IsTrue D.tells_bytes → Appends self.old payload.now result
             (D.disk (device_of blocks.old)) (D.disk (device_of blocks.new)) }
-        ensures counts { CountsCalls (body_sectors (payload_bytes change.now) + 2) 2 result
+        ensures counts { CountsCalls (body_sectors (payload_bytes payload.now) + 2) 2 result
             (D.status (device_of blocks.old)) (D.status (device_of blocks.new)) }
-        ensures moves { OnOk result (self.new ≡ behind self.old change.now) }
+        ensures moves { OnOk result (self.new ≡ behind self.old payload.now) }
         ensures stays { OnErr result (self.new ≡ self.old) }
     {
-        let sectors = append_at(blocks, self.position, &mut self.buffer.body, change)?;
+        let sectors = append_at(blocks, self.position, &mut self.buffer.body, payload)?;
         self.position = self.position.behind(sectors);
         Ok(())
     }

@@ -7,7 +7,7 @@ ghost use Rattle.sn_model.specs.declared.change.Change.{Change as TheChange};
 ghost use Rattle.sn_log.specs.Positions.{first_of, IsBehind};
 ghost use Rattle.sn_log.specs.Replaying.{Finds, Fills, Looks, position_after, changes_in};
 
-use crate::body::{HEAD_SIZE, Head, is_body, sectors_of};
+use crate::body::{HEAD_SIZE, Head, is_body, sectors_for};
 use crate::position::LAST_GATE;
 use crate::sectors::{read_sector, read_sectors};
 use crate::{Buffer, Position};
@@ -97,7 +97,7 @@ impl Replay {
                 block: position.block(),
             });
         };
-        self.position = position.behind(sectors_of(&change));
+        self.position = position.behind(sectors_for(size as usize) as u64);
         Ok(NextRecord::Change(change))
     }
 }
@@ -150,7 +150,7 @@ fn fill<D: Device>(
     if size == 0 || size > PAYLOAD_MAX as u32 {
         return Ok(false);
     }
-    let sectors = (HEAD_SIZE + size as usize).div_ceil(SECTOR_SIZE);
+    let sectors = sectors_for(size as usize);
     if !position.has_room(sectors as u64) {
         return Ok(false);
     }

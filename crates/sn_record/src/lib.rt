@@ -3,7 +3,7 @@
 //!
 //! A payload begins with a byte that says the kind of change, and ends with the change's last field.
 //! `payload_bytes` in `specs/` is the spelling, in the order of the fields, and `IsSpelled` says which
-//! changes have one. [`put_change`] writes exactly it, [`payload_size`] counts its bytes, and
+//! changes have one. [`put_change`] writes exactly it, a [`Payload`] has the number of its bytes, and
 //! [`decode`] answers a change exactly where bytes are its spelling: `found` says that the bytes are
 //! the change's spelling, and `only` that each change with a spelling is read from it. The names and
 //! the written bytes of what is decoded are lent from the payload. `payloads_fit` and
@@ -27,6 +27,4 @@ mod ownership;
 mod payload;
 
 pub use contents::WRITE_MAX;
-pub use payload::{
-    PAYLOAD_MAX, decode, is_valid, payload_size, payloads_differ, payloads_fit, put_change,
-};
+pub use payload::{PAYLOAD_MAX, Payload, decode, payloads_differ, payloads_fit, put_change};

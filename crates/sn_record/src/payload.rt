@@ -7,7 +7,7 @@
 //! | 5 | write |
 //! | 6 | set size |
 //! | 7 | set attributes |
-ghost use Rattle.std.specs.Prelude.{◌≡◌, ◌↔◌, ◌+◌, ◌≤◌, ◌<◌, ◌^◌, [], ◌∷◌, ◌++◌, length, Some, IfSome, IsTrue};
+ghost use Rattle.std.specs.Prelude.{◌≡◌, ◌↔◌, ◌+◌, ◌≤◌, ◌<◌, ◌^◌, [], ◌∷◌, ◌++◌, length, Some, IsSome, IfSome, IsTrue};
 ghost use Rattle.sn_model.specs.declared.change.Change.{Change as TheChange};
 ghost use Rattle.sn_layout.specs.Bytes.{Puts};
 ghost use Rattle.sn_record.specs.Payload.{IsOwnership, HasFittingNumbers, IsSpelled, change_number, fields_bytes, payload_bytes, PayloadsDiffer, PayloadsFit};
@@ -20,9 +20,63 @@ use crate::ownership::entries_of;
 use sn_layout::{Reader, put_u8};
 use sn_limits::is_name;
 use sn_model::{Change, Ownership};
+use std::marker::Model;
 
 /// The bytes of the longest payload, that of a write.
 pub const PAYLOAD_MAX: usize = 65_547;
+
+/// A change that has a payload, with the size of that, which is counted once for all that a log asks of it. Callers see it
+/// as the change.
+#[derive(Drop)]
+pub struct Payload<'a> {
+    change: &'a Change<'a>,
+    size: usize,
+}
+
+impl<'a> Model for Payload<'a> {
+    ghost use Rattle.std.specs.Prelude.{◌≡◌, length};
+    ghost use Rattle.sn_model.specs.declared.change.Change.{Change as TheChange};
+    ghost use Rattle.sn_record.specs.Payload.{IsSpelled, payload_bytes};
+
+    ghost Value = { TheChange };
+
+    ghost view = { λ payload. payload.change.now };
+
+    ghost invariant = { λ payload. IsSpelled payload.change.now × (payload.size ≡ length (payload_bytes payload.change.now)) };
+}
+
+impl<'a> Payload<'a> {
+    /// The payload of a change, or none where its names aren't such as a directory can have, or it writes no byte or over
+    /// 65,536. All else is so by its types. Whether it can be applied to a tree is not asked.
+    pub fn of(change: &'a Change<'a>) -> Option<Self>
+        ensures valid { IsSome result ↔ IsSpelled change.now }
+        ensures same { IfSome result (λ payload. payload ≡ change.now) }
+    {
+        if !is_valid(change) {
+            return None;
+        }
+        let size = payload_size(change);
+        Some(Payload { change, size })
+    }
+
+    /// The change that it spells.
+    pub fn change(&self) -> &'a Change<'a>
+        ensures same { result.now ≡ self.now }
+        ensures spelled { IsSpelled self.now }
+    {
+        self.change
+    }
+
+    /// How many bytes it has.
+    pub fn size(&self) -> usize
+        ensures value { result ≡ length (payload_bytes self.now) }
+        ensures spelled { IsSpelled self.now }
+        ensures least { 1 ≤ result }
+        ensures most { result ≤ PAYLOAD_MAX }
+    {
+        self.size
+    }
+}
 
 // By the types of its fields.
 fn fits(ownership: &Ownership)
@@ -80,9 +134,8 @@ fn numbers_fit(change: &Change<'_>)
     }
 }
 
-/// Whether a change has a payload: its names are such as a directory can have, and it writes 1 to
-/// 65,536 bytes. All else is so by its types. Whether it can be applied to a tree is not asked.
-pub fn is_valid(change: &Change<'_>) -> bool
+// Whether a change has a payload. All but its names and the bytes that it writes is so by its types.
+fn is_valid(change: &Change<'_>) -> bool
     ensures { IsTrue result ↔ IsSpelled change.now }
 {
     numbers_fit(change);
@@ -123,8 +176,8 @@ fn fields_size(change: &Change<'_>) -> usize
     }
 }
 
-/// How many bytes the payload of a change has.
-pub fn payload_size(change: &Change<'_>) -> usize
+// How many bytes the payload of a change has.
+fn payload_size(change: &Change<'_>) -> usize
     requires { IsSpelled change.now }
     ensures value { result ≡ length (payload_bytes change.now) }
     ensures least { 1 ≤ result }

@@ -1,5 +1,5 @@
 //! The bytes of a file.
-ghost use Rattle.std.specs.Prelude.{◌≡◌, ◌⊎◌, ℕ, Option as TheOption, Err, drop, take, IsTrue, IfOk, IfSome};
+ghost use Rattle.std.specs.Prelude.{◌≡◌, ◌⊎◌, ℕ, ◌+◌, ◌<◌, ◌^◌, Option as TheOption, Err, drop, length, take, IsTrue, IfOk, IfSome};
 ghost use Rattle.std.specs.FinMap as fin;
 ghost use Rattle.sn_block.specs.Lending.{device_of};
 ghost use Rattle.sn_image.specs.Inodes.{inode_at};
@@ -70,6 +70,7 @@ pub fn read<D: Device>(
 ) -> Result<Vec<u8>, TreeFault>
     ensures bytes { IsTrue D.tells_bytes → IsSoundOn blocks.old limits.now file.now → IfOk result (λ part. part.items
         ≡ take most (drop offset (bytes_of (fin.get (tree_on blocks.old file.now).nodes number)))) }
+    ensures ends { IfOk result (λ part. offset + length part.items < 2 ^ 64) }
     ensures damaged { IsTrue D.tells_bytes → IsSoundOn blocks.old limits.now file.now → (block : TheOption ℕ) → result ≡ Err (Damaged block) → ⊥ }
     ensures unread { IsTrue D.tells_bytes → (block : TheOption ℕ) → result ≡ Err (Damaged block)
         → IsUnreadRecord limits.now (D.status (device_of blocks.old)).sectors (store_on blocks.old) file.now number block
@@ -79,7 +80,11 @@ pub fn read<D: Device>(
 {
     read_laws();
     match file_at(blocks, limits, file, number)? {
-        Some(content) => sn_tree_read::read(alloc, blocks, &content, offset, most),
+        Some(content) => {
+            // It bounds where its bytes end.
+            let _size = content.size();
+            sn_tree_read::read(alloc, blocks, &content, offset, most)
+        }
         None => Ok(Vec::new(alloc)),
     }
 }

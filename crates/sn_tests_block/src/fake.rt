@@ -2,11 +2,11 @@
 ghost use Rattle.std.specs.Prelude.{◌≤◌};
 
 use crate::calls::make_call;
-use crate::words::{byte_of, push_sector};
+use crate::words::push_sector;
 use anyhow::{Context, Result};
 use sn_device::SECTOR_SIZE;
 use sn_filedev::FileDevice;
-use sn_testing_tables::{Case, Report, number_of, push_number, push_word};
+use sn_testing_tables::{Case, Report, byte_of, number_of, push_number, push_word};
 use std::alloc::Global;
 use std::cell::Cell;
 use std::fs::{Metadata, OpenFile};

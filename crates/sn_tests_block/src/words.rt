@@ -1,14 +1,9 @@
 //! The words of the steps and of their answers.
 
-use anyhow::{Context, Result, bail};
+use anyhow::Result;
 use sn_block::Block;
-use sn_device::{Fault, Fill, SECTOR_SIZE, Sector};
-use sn_testing_tables::{number_of, push_word};
-
-/// The byte that a word spells in hexadecimal, as `a5`. An error where it spells none below 256.
-pub fn byte_of(word: &str) -> Result<u8> {
-    u8::from_str_radix(word, 16).context("no byte")
-}
+use sn_device::{Fault, SECTOR_SIZE, Sector};
+use sn_testing_tables::{byte_of, push_word};
 
 /// A sector that is made of one byte.
 pub fn sector_of(word: &str) -> Result<Sector> {
@@ -21,26 +16,6 @@ pub fn push_sectors(bytes: &mut Vec<u8>, word: &str) -> Result<()> {
         bytes.extend_from_slice(sector_of(part)?.as_slice())?;
     }
     Ok(())
-}
-
-/// What a crash leaves of a sector that wasn't synced: `old`, `new`, `zero`, `one`, `junk`, or `seed:N` for what N
-/// draws of each sector. An error for any other word.
-pub fn fill_of(word: &str) -> Result<Fill> {
-    match word {
-        "old" => Ok(Fill::Old),
-        "new" => Ok(Fill::New),
-        "zero" => Ok(Fill::Zero),
-        "one" => Ok(Fill::One),
-        "junk" => Ok(Fill::Junk),
-        _ => seeded(word),
-    }
-}
-
-fn seeded(word: &str) -> Result<Fill> {
-    match word.split_once(':') {
-        Some(("seed", seed)) => Ok(Fill::Seeded(u64::from(number_of(seed)?))),
-        _ => bail!("no such fill"),
-    }
 }
 
 /// Appends `ok`, or `fault` where the device failed, behind a space unless the text is empty.

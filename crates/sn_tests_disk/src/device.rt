@@ -3,7 +3,7 @@
 use crate::journal;
 use anyhow::{Context, Result, bail, ensure};
 use sn_device::{Device, Fill, MemDevice, SECTOR_SIZE, Sector};
-use sn_testing_tables::{Case, Report, Tally, push_number, push_word};
+use sn_testing_tables::{Case, Report, Tally, byte_of, fill_of, push_number, push_word};
 use std::alloc::Global;
 
 /// Compares the answers of the device in memory with `device.txt`, whose answers are by hand, and looks whether the
@@ -17,24 +17,6 @@ pub fn run(report: &mut Report<'_>) -> Result<()> {
 
 fn number_of(word: &str) -> Result<u64> {
     word.parse().context("no number")
-}
-
-fn byte_of(word: &str) -> Result<u8> {
-    u8::from_str_radix(word, 16).context("no byte")
-}
-
-fn fill_of(word: &str) -> Result<Fill> {
-    Ok(match word {
-        "old" => Fill::Old,
-        "new" => Fill::New,
-        "zero" => Fill::Zero,
-        "one" => Fill::One,
-        "junk" => Fill::Junk,
-        _ => match word.strip_prefix("seed") {
-            Some(seed) => Fill::Seeded(number_of(seed)?),
-            None => bail!("no such fill"),
-        },
-    })
 }
 
 /// A device of so many sectors, or one that holds as many bytes of 07.

@@ -6,7 +6,7 @@ use sn_device::{MemDevice, SECTOR_SIZE, Sector};
 use sn_layout::{Geometry, LogHalf};
 use sn_log::{Buffer, Log, NextRecord, Position, Replay, clear};
 use sn_model::{Bytes, Change};
-use sn_record::is_valid;
+use sn_record::Payload;
 use std::alloc::{AllocError, Global};
 
 /// The blocks of the disk, of which the halves of the log begin at 6 and 38.
@@ -76,15 +76,17 @@ fn append_change(
     log: &mut Log,
     change: &Change<'_>,
 ) -> Result<Appended> {
-    ensure!(is_valid(change), "a change without a payload");
+    let Some(payload) = Payload::of(change) else {
+        bail!("a change without a payload");
+    };
     ensure!(
         8 * u64::from(log.position().blocks()) <= blocks.sectors(),
         "a smaller device"
     );
-    if !log.has_room(change) {
+    if !log.has_room(&payload) {
         return Ok(Appended::Full);
     }
-    Ok(match log.append(blocks, change) {
+    Ok(match log.append(blocks, &payload) {
         Ok(()) => Appended::Done,
         Err(_) => Appended::Failed,
     })

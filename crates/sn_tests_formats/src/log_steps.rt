@@ -6,25 +6,14 @@ use crate::log::{
 };
 use anyhow::{Context, Result, bail, ensure};
 use sn_block::{Blocks, ReadFault};
-use sn_device::{Fill, MemDevice, SECTOR_SIZE};
+use sn_device::{MemDevice, SECTOR_SIZE};
 use sn_layout::LogHalf;
 use sn_log::{Log, Position};
-use sn_testing_tables::{Case, push_word};
+use sn_testing_tables::{Case, fill_of, push_word};
 use std::alloc::Global;
 
 fn number_of(word: &str) -> Result<u64> {
     word.parse().context("no number")
-}
-
-fn fill_of(word: &str) -> Result<Fill> {
-    Ok(match word {
-        "old" => Fill::Old,
-        "new" => Fill::New,
-        "zero" => Fill::Zero,
-        "one" => Fill::One,
-        "junk" => Fill::Junk,
-        _ => bail!("no such fill"),
-    })
 }
 
 /// What the log answers to the steps of a case.

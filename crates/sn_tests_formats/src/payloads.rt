@@ -4,7 +4,7 @@ use crate::nodes::kind_word;
 use anyhow::{Result, bail, ensure};
 use sn_acl::Acl;
 use sn_model::{Bytes, Change, Ownership};
-use sn_record::{decode, is_valid, payload_size, put_change};
+use sn_record::{Payload, decode, put_change};
 use sn_testing_tables::Case;
 use std::alloc::Global;
 use std::str;
@@ -46,7 +46,10 @@ fn spelled(alloc: Global, payload: &[u8]) -> Result<String> {
 
 fn is_spelled_so(change: &Change<'_>, bytes: &[u8]) -> bool {
     let mut again = [0xa5; ROOM];
-    if !is_valid(change) || payload_size(change) > ROOM {
+    let Some(payload) = Payload::of(change) else {
+        return false;
+    };
+    if payload.size() > ROOM {
         return false;
     }
     let end = put_change(&mut again, 0, change);

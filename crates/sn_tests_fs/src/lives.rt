@@ -1,26 +1,14 @@
 //! Crashes at each write of a mount and a mkdir.
 
-use anyhow::{Context, Result, bail};
+use anyhow::{Context, Result};
 use sn_device::Fill;
 use sn_testing_mounts::Disk;
-use sn_testing_tables::{Case, Report};
+use sn_testing_tables::{Case, Report, fill_of};
 use std::alloc::Global;
 
 /// Compares what lives answer and leave. A word of the table that is no life is an error.
 pub fn run(report: &mut Report<'_>) -> Result<()> {
     report.table("stops.txt", stops)
-}
-
-/// The fill of its word; any other word is an error.
-pub fn fill_of(word: &str) -> Result<Fill> {
-    Ok(match word {
-        "old" => Fill::Old,
-        "new" => Fill::New,
-        "zero" => Fill::Zero,
-        "one" => Fill::One,
-        "junk" => Fill::Junk,
-        _ => bail!("no fill: {word}"),
-    })
 }
 
 /// So many writes succeed, and then there is a crash.

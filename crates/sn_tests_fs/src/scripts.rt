@@ -1,9 +1,8 @@
 //! The tables of calls, with steps, crashes and new disks among them.
 
-use crate::lives::fill_of;
 use anyhow::{Context, Result, bail};
 use sn_testing_mounts::Disk;
-use sn_testing_tables::Report;
+use sn_testing_tables::{Report, fill_of};
 use std::alloc::Global;
 
 /// What files are filled with.

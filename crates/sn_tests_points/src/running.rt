@@ -15,7 +15,7 @@ use sn_device::Device;
 use sn_layout::{BLOCK_SIZE, Block, Gate, Geometry, RootBody};
 use sn_log::{Buffer, Log, Position};
 use sn_map::Map;
-use sn_record::decode;
+use sn_record::{Payload, decode};
 use sn_testing_disks::{
     DrawnDisk, Geometry as DrawnGeometry, Slot, block_of, number_at, part, put,
 };
@@ -231,10 +231,13 @@ impl Running {
         let Some(change) = decode(payload) else {
             return Ok(false);
         };
-        if !self.log.has_room(&change) {
+        let Some(payload) = Payload::of(&change) else {
+            return Ok(false);
+        };
+        if !self.log.has_room(&payload) {
             return Ok(false);
         }
-        if self.log.append(&mut self.blocks, &change).is_err() {
+        if self.log.append(&mut self.blocks, &payload).is_err() {
             bail!("a device without a fault");
         }
         Ok(true)

@@ -9,8 +9,8 @@ use Rattle.sn_log.proofs.replay.fill.Goals as goal
 pub returns-clause-fills : goal.returns-clause-fills
 returns-clause-fills g c told =
     let at = c.args.position in
-    let n = c.div_ceil-sectors.result in
-    let sectors : n ≡ (16 + c.args.size + 511) / 512 = omega (arith, c.div_ceil-sectors.ensures) in
+    let n = c.sectors_for-sectors.result in
+    let sectors : n ≡ (16 + c.args.size + 511) / 512 = c.sectors_for-sectors.ensures.value in
     let here : 8 * c.start.result + (c.place.result + 1) ≡ base_at at + at.place + 1 = omega (arith, c.start.ensures.start, c.place.ensures.value) in
     let room : at.place + n + 1 ≤ 255 = c.has_room.ensures.0 c.if-not-has_room.false in
     let heads : (payload : List ℕ) → body_bytes c.epoch.result c.count.result payload ≡ body_bytes at.epoch at.count payload =

@@ -5,6 +5,7 @@ use Rattle.sn_desc.specs.InUse.{live_in}
 use Rattle.sn_live.specs.Prepared.{IsPrepared}
 use Rattle.sn_live.specs.declared.preparing.PreparedLive.{PreparedLive}
 use Rattle.sn_live_world.specs.World.{HasRoomFor, descriptors_of}
+use Rattle.sn_model.specs.declared.change.Change.{Change}
 use Rattle.sn_events.specs.Changing.{FailsChange}
 use Rattle.sn_events.specs.declared.fault.ChangeFault.{ChangeFault}
 use Rattle.sn_events.proofs.LoggedLemmas.{Commits, is_logged, lost_logged, over_logged}
@@ -29,7 +30,7 @@ pub returns-in-Ok-None-clause-made : goal.returns-in-Ok-None-clause-made
 returns-in-Ok-None-clause-made g c told =
     let fs = c.args.self.now in
     let can = c.requires.can told in
-    let none = subst (λ (p : Option PreparedLive). IsPrepared p (held fs).world.live c.args.change.now) c.in-Ok-None.field-0-is (c.in-Ok-None.ensures.prepared told) in
+    let none = subst (λ (p : Option PreparedLive). IsPrepared p (held fs).world.live c.args.payload.now) c.in-Ok-None.field-0-is (subst (λ (x : Change). IsPrepared c.in-Ok-None.field-0 (held fs).world.live x) c.change.ensures.same (c.in-Ok-None.ensures.prepared told)) in
     let never : None ≡ Some can.0 = sym none ∙ can.1 in absurd cc
 
 pub returns-in-Ok-None-clause-kept : goal.returns-in-Ok-None-clause-kept
@@ -47,9 +48,9 @@ pub returns-in-Err-clause-made : goal.returns-in-Err-clause-made
 returns-in-Err-clause-made g c told =
     let fs = c.args.self.now in
     let now = c.prepare_change.new in
-    let unread = unread_change _ _ _ _ fs.log fs.world fs.room fs.base fs.going (c.in-Err.ensures.same told) g.D.Device.tells_bytes told c.args.change.now c.in-Err.fault c.in-Err.ensures.counts in
-    subst (λ (f : ChangeFault). FailsChange f c.args.change.now (held fs) (held (record fs { blocks = now.blocks; world = now.self }))) (sym c.fault_of.ensures)
-    (subst (FailsChange _ c.args.change.now (held fs)) (sym (alike_held _ _ fs.log fs.world now.self fs.room fs.base fs.going c.in-Err.ensures.alike)) unread)
+    let unread = unread_change _ _ _ _ fs.log fs.world fs.room fs.base fs.going (c.in-Err.ensures.same told) g.D.Device.tells_bytes told c.args.payload.now c.in-Err.fault c.in-Err.ensures.counts in
+    subst (λ (f : ChangeFault). FailsChange f c.args.payload.now (held fs) (held (record fs { blocks = now.blocks; world = now.self }))) (sym c.fault_of.ensures)
+    (subst (FailsChange _ c.args.payload.now (held fs)) (sym (alike_held _ _ fs.log fs.world now.self fs.room fs.base fs.going c.in-Err.ensures.alike)) unread)
 
 pub returns-in-Err-clause-kept : goal.returns-in-Err-clause-kept
 returns-in-Err-clause-kept g c = c.in-Err.ensures.keeps _ (c.requires.sound.drops c.requires.running)
@@ -69,8 +70,8 @@ returns-in-Ok-clause-made g c told =
     let e = c.commit.ensures in
     let commits : Commits c.in-Ok-Some.prepared c.prepare_change.new.self c.commit.new.self c.commit.result = record { over = e.over; made = e.made; merged = e.merged; lost = e.lost; kept = e.kept; since = e.since } in
     let appends = c.in-Ok.ensures.disk told in
-    is_logged _ _ _ _ _ _ fs.log fs.world c.prepare_change.new.self c.commit.new.self fs.room fs.base fs.going c.args.change.now c.args.charge c.in-Ok-Some.prepared c.commit.result (c.requires.sound.meant c.requires.running told)
-    (g.met.D.Device.whole (device_of fs.blocks) told) (g.met.D.Device.whole (device_of c.append.new.blocks) told) (looked.same told) looked.counts looked.alike (subst (λ (p : Option PreparedLive). IsPrepared p (held fs).world.live c.args.change.now) c.in-Ok-Some.field-0-is (looked.prepared told)) commits appends.touched
+    is_logged _ _ _ _ _ _ fs.log fs.world c.prepare_change.new.self c.commit.new.self fs.room fs.base fs.going c.args.payload.now c.args.charge c.in-Ok-Some.prepared c.commit.result (c.requires.sound.meant c.requires.running told)
+    (g.met.D.Device.whole (device_of fs.blocks) told) (g.met.D.Device.whole (device_of c.append.new.blocks) told) (looked.same told) looked.counts looked.alike (subst (λ (p : Option PreparedLive). IsPrepared p (held fs).world.live c.args.payload.now) c.in-Ok-Some.field-0-is (subst (λ (x : Change). IsPrepared c.in-Ok-Some.field-0 (held fs).world.live x) c.change.ensures.same (looked.prepared told))) commits appends.touched
     c.in-Ok.field-0 c.append.new.self c.log.new.self appends c.in-Ok.ensures.moves c.log.ensures c.in-Ok.ensures.counts.done
 
 pub returns-in-Ok-clause-over : goal.returns-in-Ok-clause-over
@@ -79,8 +80,8 @@ returns-in-Ok-clause-over g c told =
     let looked = c.in-Ok-Some.ensures in
     let e = c.commit.ensures in
     let commits : Commits c.in-Ok-Some.prepared c.prepare_change.new.self c.commit.new.self c.commit.result = record { over = e.over; made = e.made; merged = e.merged; lost = e.lost; kept = e.kept; since = e.since } in
-    over_logged _ _ _ _ _ (g.D.Device.status (device_of c.append.new.blocks)) fs.log fs.world c.prepare_change.new.self c.commit.new.self fs.room fs.base fs.going c.args.change.now c.args.charge c.in-Ok-Some.prepared c.commit.result (c.requires.sound.meant c.requires.running told)
-    (g.met.D.Device.whole (device_of fs.blocks) told) (g.met.D.Device.whole (device_of c.append.new.blocks) told) (looked.same told) looked.counts looked.alike (subst (λ (p : Option PreparedLive). IsPrepared p (held fs).world.live c.args.change.now) c.in-Ok-Some.field-0-is (looked.prepared told)) commits (c.in-Ok.ensures.disk told).touched
+    over_logged _ _ _ _ _ (g.D.Device.status (device_of c.append.new.blocks)) fs.log fs.world c.prepare_change.new.self c.commit.new.self fs.room fs.base fs.going c.args.payload.now c.args.charge c.in-Ok-Some.prepared c.commit.result (c.requires.sound.meant c.requires.running told)
+    (g.met.D.Device.whole (device_of fs.blocks) told) (g.met.D.Device.whole (device_of c.append.new.blocks) told) (looked.same told) looked.counts looked.alike (subst (λ (p : Option PreparedLive). IsPrepared p (held fs).world.live c.args.payload.now) c.in-Ok-Some.field-0-is (subst (λ (x : Change). IsPrepared c.in-Ok-Some.field-0 (held fs).world.live x) c.change.ensures.same (looked.prepared told))) commits (c.in-Ok.ensures.disk told).touched
 
 pub returns-in-Ok-clause-lost : goal.returns-in-Ok-clause-lost
 returns-in-Ok-clause-lost g c told =
@@ -88,8 +89,8 @@ returns-in-Ok-clause-lost g c told =
     let looked = c.in-Ok-Some.ensures in
     let e = c.commit.ensures in
     let commits : Commits c.in-Ok-Some.prepared c.prepare_change.new.self c.commit.new.self c.commit.result = record { over = e.over; made = e.made; merged = e.merged; lost = e.lost; kept = e.kept; since = e.since } in
-    lost_logged _ _ _ _ _ (g.D.Device.status (device_of c.append.new.blocks)) fs.log fs.world c.prepare_change.new.self c.commit.new.self fs.room fs.base fs.going c.args.change.now c.args.charge c.in-Ok-Some.prepared c.commit.result (c.requires.sound.meant c.requires.running told)
-    (g.met.D.Device.whole (device_of fs.blocks) told) (g.met.D.Device.whole (device_of c.append.new.blocks) told) (looked.same told) looked.counts looked.alike (subst (λ (p : Option PreparedLive). IsPrepared p (held fs).world.live c.args.change.now) c.in-Ok-Some.field-0-is (looked.prepared told)) commits (c.in-Ok.ensures.disk told).touched
+    lost_logged _ _ _ _ _ (g.D.Device.status (device_of c.append.new.blocks)) fs.log fs.world c.prepare_change.new.self c.commit.new.self fs.room fs.base fs.going c.args.payload.now c.args.charge c.in-Ok-Some.prepared c.commit.result (c.requires.sound.meant c.requires.running told)
+    (g.met.D.Device.whole (device_of fs.blocks) told) (g.met.D.Device.whole (device_of c.append.new.blocks) told) (looked.same told) looked.counts looked.alike (subst (λ (p : Option PreparedLive). IsPrepared p (held fs).world.live c.args.payload.now) c.in-Ok-Some.field-0-is (subst (λ (x : Change). IsPrepared c.in-Ok-Some.field-0 (held fs).world.live x) c.change.ensures.same (looked.prepared told))) commits (c.in-Ok.ensures.disk told).touched
 
 pub returns-in-Ok-clause-drops : goal.returns-in-Ok-clause-drops
 returns-in-Ok-clause-drops g c =
@@ -103,4 +104,4 @@ returns-in-Err-append-clause-made g c told =
     let can = c.requires.can told in
     let fs = c.args.self.now in
     let looked = c.in-Ok-Some.ensures in
-    is_cut c.in-Err-append.field-0 c.args.change.now (held fs) (held (record fs { blocks = c.append.new.blocks; log = c.append.new.self; world = c.prepare_change.new.self })) _ _ can.0 can.1 (looked.same told) looked.counts (c.in-Err-append.ensures.disk told) c.in-Err-append.ensures.counts
+    is_cut c.in-Err-append.field-0 c.args.payload.now (held fs) (held (record fs { blocks = c.append.new.blocks; log = c.append.new.self; world = c.prepare_change.new.self })) _ _ can.0 can.1 (looked.same told) looked.counts (c.in-Err-append.ensures.disk told) c.in-Err-append.ensures.counts

@@ -1,4 +1,4 @@
-use Rattle.std.proofs.Common.{Bool, false, None, Some, sym, ap, subst, ◌∙◌, arith}
+use Rattle.std.proofs.Common.{Bool, false, IsSome, None, Some, sym, ap, subst, ◌∙◌, arith}
 use Rattle.std.proofs.lemmas.Bool.{true≢false}
 use Rattle.sn_block.specs.Lending.{device_of}
 use Rattle.sn_core.specs.Called.{HasRoom}
@@ -50,8 +50,8 @@ returns-in_default-choose-clause-served g c told =
     (numbered (held fs) (held p) c.args.session c.args.call.now c.in-Ok.outcome c.in-Ok.ensures.numbers (c.requires.sound.meant c.requires.running told).whole (c.in-Ok.ensures.decided told) same) in
     absurd (true≢false (sym left))
 
-pub returns-then-not-is_valid-clause-served : goal.returns-then-not-is_valid-clause-served
-returns-then-not-is_valid-clause-served g c told =
+pub returns-in_default-of-clause-served : goal.returns-in_default-of-clause-served
+returns-in_default-of-clause-served g c told =
     let fs = c.args.self.now in
     let p = c.prepare.new.self in
     let o = c.in-Ok.outcome in
@@ -60,11 +60,12 @@ returns-then-not-is_valid-clause-served g c told =
     let picked = c.in-Some.field-0 in
     let picks = c.in-Some.ensures.picked (tree_of p) (c.in-Ok-prepare.ensures.sound.meant running told).over in
     let is = spelled (held fs) (held p) c.args.session c.args.call.now o c.in-Ok.ensures.numbers (c.requires.sound.meant c.requires.running told).whole (c.in-Ok.ensures.decided told) same picked picks c.in-Some-change.change c.in-Some-change.is in
-    absurd (true≢false (sym (c.is_valid.ensures.1 is) ∙ c.if-not-is_valid.true))
+    absurd (true≢false (sym (subst IsSome c.in_default-of.is (c.of.ensures.valid.1 is))))
 
 pub returns-then-lacks-clause-served : goal.returns-then-lacks-clause-served
 returns-then-lacks-clause-served g c told =
     let fs = c.args.self.now in
+    let recorded = c.in-Some-change.is ∙ ap Some (sym c.in-Some-of.ensures.same) in
     let p = c.prepare.new.self in
     let o = c.in-Ok.outcome in
     let running = ap has_stopped c.in-Ok.ensures.rest ∙ c.requires.running in
@@ -74,7 +75,7 @@ returns-then-lacks-clause-served g c told =
     let picked = c.in-Some.field-0 in
     let picks = c.in-Some.ensures.picked (tree_of p) (c.in-Ok-prepare.ensures.sound.meant ready told).over in
     let fits = c.fits-fits.ensures.exact (c.in-Ok.ensures.sound.meant running told).over ∙ ap (λ (x : Held). is_fitting x o) quiet in (
-      lacks_first (held fs) (held p) c.args.session c.args.call.now o c.in-Ok.ensures.numbers (c.requires.sound.meant c.requires.running told).whole (c.in-Ok.ensures.decided told) same picked picks c.in-Some-change.change c.in-Some-change.is
+      lacks_first (held fs) (held p) c.args.session c.args.call.now o c.in-Ok.ensures.numbers (c.requires.sound.meant c.requires.running told).whole (c.in-Ok.ensures.decided told) same picked picks c.in-Some-of.payload recorded
           c.fits-fits.result c.lacks.result fits c.lacks.ensures c.if-lacks.true,
       same,
       c.in-Ok.ensures.numbers,
@@ -83,19 +84,21 @@ returns-then-lacks-clause-served g c told =
 pub log_change-requires-clause-can : goal.log_change-requires-clause-can
 log_change-requires-clause-can g c told =
     let fs = c.args.self.now in
+    let recorded = c.in-Some-change.is ∙ ap Some (sym c.in-Some-of.ensures.same) in
     let p = c.prepare.new.self in
     let o = c.in-Ok.outcome in
     let running = ap has_stopped c.in-Ok-prepare.ensures.rest ∙ ap has_stopped c.in-Ok.ensures.rest ∙ c.requires.running in
     let same = c.in-Ok-prepare.ensures.held ∙ c.in-Ok.ensures.quiet told in
     let picked = c.in-Some.field-0 in
     let picks = c.in-Some.ensures.picked (tree_of p) (c.in-Ok-prepare.ensures.sound.meant running told).over in
-    applies (held fs) (held p) c.args.session c.args.call.now o c.in-Ok.ensures.numbers (c.requires.sound.meant c.requires.running told).whole (c.in-Ok.ensures.decided told) same picked picks c.in-Some-change.change c.in-Some-change.is
+    applies (held fs) (held p) c.args.session c.args.call.now o c.in-Ok.ensures.numbers (c.requires.sound.meant c.requires.running told).whole (c.in-Ok.ensures.decided told) same picked picks c.in-Some-of.payload recorded
 
 -- ---- it isn't made
 
 pub returns-in-Err-log_change-clause-served : goal.returns-in-Err-log_change-clause-served
 returns-in-Err-log_change-clause-served g c told =
     let fs = c.args.self.now in
+    let recorded = c.in-Some-change.is ∙ ap Some (sym c.in-Some-of.ensures.same) in
     let h = held fs in
     let p = c.prepare.new.self in
     let o = c.in-Ok.outcome in
@@ -108,7 +111,7 @@ returns-in-Err-log_change-clause-served g c told =
     let picked = c.in-Some.field-0 in
     let picks = c.in-Some.ensures.picked (tree_of p) (c.in-Ok-prepare.ensures.sound.meant ready told).over in
     let fits = c.fits-fits.ensures.exact (c.in-Ok.ensures.sound.meant running told).over ∙ ap (λ (x : Held). is_fitting x o) quiet in
-    let a = fails h (held p) c.args.session c.args.call.now o c.in-Ok.ensures.numbers (c.requires.sound.meant c.requires.running told).whole (c.in-Ok.ensures.decided told) same picked picks c.in-Some-change.change c.in-Some-change.is
+    let a = fails h (held p) c.args.session c.args.call.now o c.in-Ok.ensures.numbers (c.requires.sound.meant c.requires.running told).whole (c.in-Ok.ensures.decided told) same picked picks c.in-Some-of.payload recorded
     c.fits-fits.result c.lacks.result fits c.lacks.ensures c.if-lacks.false after fault (c.in-Err-log_change.ensures.made told) in
     subst (λ (r : Reply). Serves (Some r) h c.args.session c.args.call.now after c.stops-self.result) (sym (c.refused-in-Err-log_change.ensures ∙ ap refused c.errno.ensures))
     (subst (Serves (Some (refused (errno_of fault))) h c.args.session c.args.call.now after) (sym c.stops-self.ensures) a)
@@ -124,6 +127,7 @@ returns-in-Err-log_change-clause-sound g c =
 pub returns-in-Ok-log_change-clause-served : goal.returns-in-Ok-log_change-clause-served
 returns-in-Ok-log_change-clause-served g c told =
     let fs = c.args.self.now in
+    let recorded = c.in-Some-change.is ∙ ap Some (sym c.in-Some-of.ensures.same) in
     let h = held fs in
     let p = c.prepare.new.self in
     let o = c.in-Ok.outcome in
@@ -140,16 +144,17 @@ returns-in-Ok-log_change-clause-served g c told =
     let picks = c.in-Some.ensures.picked (tree_of p) (c.in-Ok-prepare.ensures.sound.meant ready told).over in
     let fits = c.fits-fits.ensures.exact (c.in-Ok.ensures.sound.meant running told).over ∙ ap (λ (x : Held). is_fitting x o) quiet in
     let room = subst (HasRoom o.caller) (sym logged.places.0) c.in-Ok-prepare.ensures.room in
-    let turns = turns_then h (held p) c.args.session c.args.call.now o c.in-Ok.ensures.numbers whole decided same picked picks c.in-Some-change.change c.in-Some-change.is c.fits-fits.result c.lacks.result fits c.lacks.ensures c.if-lacks.false
+    let turns = turns_then h (held p) c.args.session c.args.call.now o c.in-Ok.ensures.numbers whole decided same picked picks c.in-Some-of.payload recorded c.fits-fits.result c.lacks.result fits c.lacks.ensures c.if-lacks.false
     c.changed_laws.ensures.changes (held mid) (logged.made told) (room_of mid.world) room in
     let turned = c.turn.ensures.turned (record { over = logged.over told; can = turns; only = logged.lost told }) in
-    let a = serves h (held p) c.args.session c.args.call.now o c.in-Ok.ensures.numbers whole decided same picked picks c.in-Some-change.change c.in-Some-change.is c.fits-fits.result c.lacks.result fits c.lacks.ensures c.if-lacks.false
+    let a = serves h (held p) c.args.session c.args.call.now o c.in-Ok.ensures.numbers whole decided same picked picks c.in-Some-of.payload recorded c.fits-fits.result c.lacks.result fits c.lacks.ensures c.if-lacks.false
     c.changed_laws.ensures.changes (held mid) (logged.made told) (held new) turned c.requires.alone in
     subst (Serves (Some o.told) h c.args.session c.args.call.now (held new)) (sym (ap has_stopped c.turn.ensures.rest ∙ logged.stopped ∙ ready)) a
 
 pub returns-in-Ok-log_change-clause-sound : goal.returns-in-Ok-log_change-clause-sound
 returns-in-Ok-log_change-clause-sound g c =
     let fs = c.args.self.now in
+    let recorded = c.in-Some-change.is ∙ ap Some (sym c.in-Some-of.ensures.same) in
     let h = held fs in
     let p = c.prepare.new.self in
     let o = c.in-Ok.outcome in
@@ -168,7 +173,7 @@ returns-in-Ok-log_change-clause-sound g c =
         ap (λ (r : RoomCounts). r.dropped) c.turn.ensures.room,
         ap (λ (r : RoomCounts). r.dropped) logged.charged,
         ap (λ (x : Fs _ _). x.room.dropped) c.in-Ok-prepare.ensures.rest,
-        c.fits-fits.ensures.within (subst (λ (b : Bool). TellsLack b (held p) c.in-Some-change.change c.fits-fits.result) c.if-lacks.false c.lacks.ensures).fits,
+        c.fits-fits.ensures.within (subst (λ (b : Bool). TellsLack b (held p) c.in-Some-of.payload c.fits-fits.result) c.if-lacks.false c.lacks.ensures).fits,
       );
       based = λ _. based;
       between = λ _ none. c.turn.ensures.point ∙ logged.point ∙ sound.between ready (sym logged.going ∙ none);
@@ -183,15 +188,15 @@ returns-in-Ok-log_change-clause-sound g c =
           let picks = c.in-Some.ensures.picked (tree_of p) m.over in
           let fits = c.fits-fits.ensures.exact (c.in-Ok.ensures.sound.meant running told).over ∙ ap (λ (x : Held). is_fitting x o) quiet in
           let room = subst (HasRoom o.caller) (sym logged.places.0) c.in-Ok-prepare.ensures.room in
-          let turns = turns_then h (held p) c.args.session c.args.call.now o c.in-Ok.ensures.numbers whole decided same picked picks c.in-Some-change.change c.in-Some-change.is c.fits-fits.result c.lacks.result fits c.lacks.ensures c.if-lacks.false
+          let turns = turns_then h (held p) c.args.session c.args.call.now o c.in-Ok.ensures.numbers whole decided same picked picks c.in-Some-of.payload recorded c.fits-fits.result c.lacks.result fits c.lacks.ensures c.if-lacks.false
           c.changed_laws.ensures.changes (held mid) (logged.made told) (room_of mid.world) room in
           let can : CanTurnOver mid.world (tree_of mid) c.args.session picked.caller c.in-Ok-log_change.lost = record { over = logged.over told; can = turns; only = logged.lost told } in
           let turned = subst (λ (x : Fs _ _). Turns c.args.session picked.caller 0 (held mid) (held x)) c.turn.ensures.rest (c.turn.ensures.turned can) in
           record {
             over = subst (λ (x : Fs _ _). IsOver x.world (tree_of x)) c.turn.ensures.rest (c.turn.ensures.over can);
-            whole = whole_then h (held p) c.args.session c.args.call.now o c.in-Ok.ensures.numbers whole decided same picked picks c.in-Some-change.change c.in-Some-change.is c.fits-fits.result c.lacks.result fits c.lacks.ensures c.if-lacks.false
+            whole = whole_then h (held p) c.args.session c.args.call.now o c.in-Ok.ensures.numbers whole decided same picked picks c.in-Some-of.payload recorded c.fits-fits.result c.lacks.result fits c.lacks.ensures c.if-lacks.false
                 c.changed_laws.ensures.changes (held mid) (logged.made told) (held new) turned;
-            runs = runs_then h (held p) c.args.session c.args.call.now o c.in-Ok.ensures.numbers whole decided same picked picks c.in-Some-change.change c.in-Some-change.is c.fits-fits.result c.lacks.result fits c.lacks.ensures c.if-lacks.false
+            runs = runs_then h (held p) c.args.session c.args.call.now o c.in-Ok.ensures.numbers whole decided same picked picks c.in-Some-of.payload recorded c.fits-fits.result c.lacks.result fits c.lacks.ensures c.if-lacks.false
                 c.changed_laws.ensures.changes (held mid) (logged.made told) (held new) turned m.runs;
             stands = still_stands p.going mid.going p.log p.base _ _ logged.going (sound.based ready) (g.met.D.Device.whole (device_of p.blocks) told) (logged.made told).touched m.stands;
           };

@@ -1,4 +1,4 @@
-use Rattle.std.proofs.Common.{◌≡◌, ◌+◌, ◌-◌, Some, IfSome, [], ◌∷◌, ◌++◌, take, drop, ◌∙◌, sym, ap, subst, arith}
+use Rattle.std.proofs.Common.{◌≡◌, ◌+◌, ◌-◌, ◌/◌, Some, IfSome, [], ◌∷◌, ◌++◌, take, drop, ◌∙◌, sym, ap, subst, arith}
 use Rattle.sn_device.specs.Disk.{Disk, reads}
 use Rattle.sn_layout.proofs.Fields.{some_none}
 use Rattle.sn_record.specs.Payload.{IsSpelled, payload_bytes}
@@ -42,13 +42,14 @@ returns-clause-behind g c told changes stands =
     let change = c.in-Some-change.change in
     let looks : Looks before at (Some size) = subst (λ o. Looks before at o) c.in-Some.is (c.in_ok-size.ensures.looks told) in
     let fills : Fills before at size room c.in_ok-is_body.is_body = subst (λ (d : Disk). Fills (reads d) at size room c.in_ok-is_body.is_body) (c.look.ensures.same told) (c.in_ok-is_body.ensures.fills told) in
-    let moved : c.behind-self-inside.result ≡ behind at change = c.behind-self-inside.ensures ∙ ap (λ n. record at { place = at.place + n + 1; count = at.count + 1 }) c.sectors_of.ensures.value in
     elim c.if-is_body.branch [
       | then-is_body w ↦
           let part : take (16 + size - 16) (drop 16 w.deref.result.now) ≡ take size (drop 16 room) = ap (λ n. take n (drop 16 w.deref.result.now)) (omega arith) ∙ ap (λ r. take size (drop 16 r)) w.deref.ensures in
           let found : IsSpelled change × (take (16 + size - 16) (drop 16 w.deref.result.now) ≡ payload_bytes change) =
           subst (λ o. IfSome o (λ x. IsSpelled x × (take (16 + size - 16) (drop 16 w.deref.result.now) ≡ payload_bytes x))) (sym w.change-is ∙ c.in-Some-change.is) w.decode-change.ensures.found in
           let next : HasNext before at (payload_bytes change) = subst (HasNext before at) (sym part ∙ found.1) (fills.found w.if-is_body.true) in
+          let sectors = c.sectors_for.ensures.value ∙ ap (λ n. (16 + n + 511) / 512) (sym (looks.2 (payload_bytes change) next)) in
+          let moved : c.behind-self-inside.result ≡ behind at change = c.behind-self-inside.ensures ∙ ap (λ n. record at { place = at.place + n + 1; count = at.count + 1 }) sectors in
           subst (λ x. IsBehind x (changes ++ change ∷ []) before) (sym moved) (behind-more before at changes change (subst (λ x. IsBehind x changes before) (sym c.self.view_is) stands) looks.0 next)
       | else-is_body w ↦ some_none c.if-is_body.change change c.in-Some-change.is w.change-is
     ]
