@@ -25,7 +25,6 @@ PROGRAM = TOP / "crates/sn_bin/out/sn_bin"
 ROUNDS = 7
 ASKED = 1000
 LINKS = 32767
-SECTORS = 8
 
 
 def tree_of(names):
@@ -74,7 +73,7 @@ def main():
         nothing, idle = least(image, login)
         for what, lines in (("one name", [last]), (f"that name {ASKED:,} times", [last] * ASKED), (f"{len(some):,} names", some)):
             reads, taken = least(image, login + lines)
-            print(f"{what}: {(reads - nothing) / SECTORS:.0f} blocks read, {taken - idle:.2f} ms more than {idle:.2f} ms for none")
+            print(f"{what}: {reads - nothing} blocks read, {taken - idle:.2f} ms more than {idle:.2f} ms for none")
 
 
 if __name__ == "__main__":

@@ -1,6 +1,6 @@
 #!/bin/bash
 # Times calls between consistency points, and the points, over devices in memory, by runs of the program `measure_runs`. Run by
-# hand; it takes some minutes and ten gigabytes of memory.
+# hand; it takes some seconds and four gigabytes of memory.
 #
 # Prints what a call costs that makes or takes away a directory, where no point comes between, in trees of 100, 10,000 and
 # 60,000 directories, by a hundred of them in each; and what a point costs behind 1, 10 and 100 such calls, in these trees,
