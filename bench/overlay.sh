@@ -1,6 +1,6 @@
 #!/bin/bash
-# Times changes through overlays, and look-ups through two of them, by runs of the test program of what stands in
-# memory. Run by hand.
+# Times changes through overlays, and look-ups through two of them, by runs of the part `memory` of the test program
+# sn_tests. Run by hand.
 #
 # Prints the time of 1,000 makes of a directory, each laid over an overlay of those before, beside 1,000 mkdir in
 # the tree in memory, where the program also walks and checks access; and the time of 10,000 look-ups of a name
@@ -10,7 +10,7 @@ set -eu
 top=$(cd "$(dirname "$0")/.." && pwd)
 work=$(mktemp -d)
 trap 'rm -rf "$work"' EXIT
-(cd "$top/crates/sn_tests_memory" && rt run -- data > "$work/log" 2>&1) || { tail -n 20 "$work/log"; exit 1; }
+(cd "$top/crates/sn_tests" && "$top/.ci/rt" run -- data memory > "$work/log" 2>&1) || { tail -n 20 "$work/log"; exit 1; }
 "$top/bench/program.py" measure_runs
 
 python3 - "$top" "$work" <<'P'
@@ -20,7 +20,7 @@ import time
 from pathlib import Path
 
 top, work = Path(sys.argv[1]), Path(sys.argv[2])
-overlays = top / "crates/sn_tests_memory/out/sn_tests_memory"
+overlays = top / "crates/sn_tests/out/sn_tests"
 runs = top / "bench/out/measure_runs"
 
 
@@ -35,13 +35,14 @@ def least(*command):
 
 def table(steps, answers):
     """The time of a table of one case over that of an empty one."""
-    folder = work / "data"
-    folder.mkdir(exist_ok=True)
+    tables = work / "data" / "memory"
+    tables.mkdir(parents=True, exist_ok=True)
     for name in ("file_bytes.txt", "descriptors.txt", "changes.txt"):
-        (folder / name).write_text("")
-    empty = least(overlays, folder)
-    (folder / "changes.txt").write_text(" ".join(steps) + " => " + " ".join(answers) + "\n")
-    return least(overlays, folder) - empty
+        (tables / name).write_text("")
+    run = (overlays, work / "data", "memory")
+    empty = least(*run)
+    (tables / "changes.txt").write_text(" ".join(steps) + " => " + " ".join(answers) + "\n")
+    return least(*run) - empty
 
 
 def in_memory():

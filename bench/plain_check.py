@@ -2,7 +2,7 @@
 """Tells what `snapfs check` has to print of an image: a reading of its own, by the documents alone.
 
     bench/plain_check.py IMAGE..          prints the line for each image, and ends with the status of a check, that of the worst
-    bench/plain_check.py --table FILE..   compares it with tables of crates/sn_tests_image/data; the status is 1 where one differs
+    bench/plain_check.py --table FILE..   compares it with tables of crates/sn_tests_program/data/image; the status is 1 where one differs
 
 docs/FORMAT.md has the rules, and the block that a fault of each is told of. Which of several faults of one group is told stands
 in docs/DECISIONS.md, under "The image check": the first one in the order in which the functions here look for them.

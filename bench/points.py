@@ -1,10 +1,10 @@
 #!/usr/bin/env python3
 """Lets many consistency points of drawn disks crash, or plants faults in them and sees each found.
 
-    bench/points.py [COUNT]            runs the program of sn_tests_points on so many points, 10,000 where it isn't given
+    bench/points.py [COUNT]            runs the part `points` of sn_tests on so many points, 10,000 where it isn't given
     bench/points.py --faults [COUNT]   plants each fault below in a copy of the code, and runs it on so many points, 20
 
-Run by hand. The program has to be built: `rt run -- . 1` in crates/sn_tests_points. A copy with a fault can't be proved, so it is run by
+Run by hand. The program has to be built: `../../.ci/rt run -- data points 1` in crates/sn_tests. A copy with a fault can't be proved, so it is run by
 `rt try`, which is slow: half an hour for all of them. Some show in few points alone: that a closed gate is closed again
 only where a whole body stands behind it, one point in five. A fault is found where the program says that a crash or a
 step went wrong, or where it ends with an error. The status is 1 where a crash of the code as it stands went wrong, or
@@ -22,7 +22,7 @@ sys.dont_write_bytecode = True
 
 from wrong_bodies import TOP, below  # noqa: E402
 
-NAME = "sn_tests_points"
+NAME = "sn_tests"
 PROGRAM = TOP / "crates" / NAME / "out" / NAME
 STEPS, POINT = "sn_cp/src/steps.rt", "sn_cp/src/point.rt"
 CLEARED = "8 * u64::from(self.geometry.range(Area::Log(sn_layout::LogHalf::of_epoch(self.next.epoch))).start)"
@@ -66,8 +66,8 @@ FAULTS = {
 def run_program(count):
     """Runs the program as it was built, and answers its status."""
     if not PROGRAM.is_file():
-        sys.exit(f"{PROGRAM} isn't there: run `rt run -- . 1` in crates/{NAME}")
-    return subprocess.run([PROGRAM, ".", str(count)]).returncode
+        sys.exit(f"{PROGRAM} isn't there: run `../../.ci/rt run -- data points 1` in crates/{NAME}")
+    return subprocess.run([PROGRAM, ".", "points", str(count)]).returncode
 
 
 def planted(changes, count):
@@ -84,7 +84,7 @@ def planted(changes, count):
             if text.count(old) != 1:
                 sys.exit(f"{file} has not one {old.strip()}")
             path.write_text(text.replace(old, new))
-        run = subprocess.run(["rt", "try", "--seconds", "600", "--", ".", str(count)], cwd=top / "crates" / NAME,
+        run = subprocess.run(["rt", "try", "--seconds", "600", "--", ".", "points", str(count)], cwd=top / "crates" / NAME,
                              capture_output=True, text=True)
         return run.stdout + run.stderr
 

@@ -1,73 +1,74 @@
 #!/usr/bin/env python3
-"""Proves a crate from nothing, in a copy, and prints what its functions cost, dearest first, in processor seconds.
+"""Proves a crate from nothing, as the gate does, and prints what its functions cost, dearest first, in processor seconds.
 
     bench/proofs.py CRATE [COUNT]
 
-Each function has what was spent since the end of the one before it: the first one has the reading of the libraries too.
-COUNT is how many are printed, 25 where it is left out. The libraries below the crate are taken as an earlier
-`rt check` built them. Other work on the machine makes the figures greater, by half and more.
+Each function has what was spent since the end of the one before it: the first one has the reading of the libraries too, and one
+that is the first to use a type of another crate has what the check makes of that. COUNT is how many are printed, 25 where it is
+left out. The libraries below the crate are taken as an earlier `rt check` or `rt lib` built them. What `rt check` shows for a crate of
+over 300 lines differs: it proves such a crate in batches, each of which begins anew. Other work on the machine makes the figures
+greater, by half and more.
 """
 
+import importlib.machinery
+import importlib.util
 import os
 import re
+import shutil
 import subprocess
 import sys
-import tempfile
+from pathlib import Path
 
 sys.dont_write_bytecode = True
 
-from gate import TICKS  # noqa: E402
-from wrong_bodies import RT, Copy  # noqa: E402
+from gate import TICKS, TOP  # noqa: E402
 
 CHECKED = re.compile(r"^checked (.*), \d+ of \d+$")
 
 
-def spent_below(top):
-    """The processor seconds of a process and of all below it, those that have ended among them."""
-    parents, spent = {}, {}
-    for name in os.listdir("/proc"):
-        if name.isdigit():
-            try:
-                with open(f"/proc/{name}/stat") as file:
-                    words = file.read().rpartition(")")[2].split()
-            except OSError:
-                continue
-            parents[int(name)] = int(words[1])
-            spent[int(name)] = sum(int(it) for it in words[11:15]) / TICKS
-    inside = {top}
-    while more := {it for it in parents if parents[it] in inside} - inside:
-        inside |= more
-    return sum(spent.get(it, 0) for it in inside)
+def rt_of(top):
+    """The command rt as a module, as .ci/rt has it."""
+    loader = importlib.machinery.SourceFileLoader("faster_rt", str(top / ".ci" / "rt"))
+    faster = importlib.util.module_from_spec(importlib.util.spec_from_loader("faster_rt", loader))
+    loader.exec_module(faster)
+    rt = faster.loaded(os.path.realpath(shutil.which("rt") or sys.exit("rt isn't on the PATH")))
+    rt.rtlib.Crate.stamp = faster.summed_once(rt.rtlib.Crate.stamp)
+    rt.rtlib.Crate.below = faster.gone_through_once(rt.rtlib.Crate.below)
+    return rt
 
 
-def part_from_others(copy):
-    """Lets the check of a copy begin with nothing. `rt` takes what another checkout on this machine kept of the same
-    text, or else what the copy has, if it has a folder for that."""
-    (copy.folder / "out" / "incremental").mkdir(parents=True)
-    for name in ("lib.rt", "main.rt"):
-        root = copy.folder / "src" / name
-        if root.is_file():
-            root.write_text(root.read_text() + "\n// Proved from nothing.\n")
+def command_of(top, name):
+    """The command that proves a crate, with one job, and the folder where it runs."""
+    rt = rt_of(top)
+    crate = next((it for it in rt.crates_of(str(top)) if it.name == name), None) or sys.exit(f"no crate {name}")
+    missing = [it.name for it in crate.below() if not os.path.isdir(it.rlib)]
+    if missing:
+        sys.exit(f"not built yet, run .ci/rt all check: {' '.join(missing)}")
+    words = crate.words(["--jobs", "1"], keeps=False)
+    return [rt.rtlib.RATTLE, "check", *words, "--progress"], crate.folder
+
+
+def spent_by(pid):
+    """The processor seconds of a process and of those below it that have ended."""
+    words = Path(f"/proc/{pid}/stat").read_text().rpartition(")")[2].split()
+    return sum(int(it) for it in words[11:15]) / TICKS
 
 
 def main():
-    crate, count = sys.argv[1], int(sys.argv[2]) if len(sys.argv) > 2 else 25
+    name, count = sys.argv[1], int(sys.argv[2]) if len(sys.argv) > 2 else 25
+    command, folder = command_of(TOP, name)
     costs, last, verdict = [], 0, ""
-    with tempfile.TemporaryDirectory() as folder:
-        copy = Copy(crate, folder, keeps=False)
-        part_from_others(copy)
-        how = {"cwd": copy.folder, "stdout": subprocess.PIPE, "stderr": subprocess.STDOUT, "text": True}
-        run = subprocess.Popen([RT, "check", "--jobs", "1"], **how)
-        for line in run.stdout:
-            found = CHECKED.match(line)
-            if found:
-                now = spent_below(run.pid)
-                costs.append((now - last, found[1]))
-                last = now
-            verdict = line.strip()
-        status = run.wait()
-    for seconds, name in sorted(costs, reverse=True)[:count]:
-        print(f"{seconds:7.1f} {name}")
+    run = subprocess.Popen(command, cwd=folder, stdout=subprocess.PIPE, stderr=subprocess.STDOUT, text=True)
+    for line in run.stdout:
+        found = CHECKED.match(line)
+        if found:
+            now = spent_by(run.pid)
+            costs.append((now - last, found[1]))
+            last = now
+        verdict = line.strip()
+    status = run.wait()
+    for seconds, function in sorted(costs, reverse=True)[:count]:
+        print(f"{seconds:7.1f} {function}")
     print(f"{last:7.1f} in all, {len(costs)} functions: {verdict}")
     sys.exit(status)
 

@@ -1,5 +1,5 @@
 #!/bin/bash
-# Refuses each allocation in turn of a run of the program, and of the programs that test the libraries, and looks
+# Refuses each allocation in turn of a run of the program, and of the parts of the program that tests the libraries, and looks
 # at what they answer. Run by hand: it wants gcc, since the refusals come from a small library that stands before
 # the C library's malloc.
 #
@@ -13,7 +13,7 @@
 # A check with one refusal, of an image with records in its log, gives the verdict that it gives without it, or
 # `snapfs: memory`, `snapfs: M5` or `snapfs: file`.
 #
-# A test program with one refusal may say that it found no memory, or that the device in memory has come to its end for
+# A part of the test program with one refusal may say that it found no memory, or that the device in memory has come to its end for
 # want of it; that of builds makes one that was refused memory again, of the same root and overlay, and goes on. Each case that it finds wrong has to be so for
 # want of memory, and all else that it prints is what it prints without the refusal.
 set -eu
@@ -165,15 +165,16 @@ judge=verdict before=:
 each_refused "$program" check "$work/logged"
 
 judge=tested
-for crate in sn_tests sn_tests_disk sn_tests_block sn_tests_formats sn_tests_memory sn_tests_trees sn_tests_builds; do
-    folder=$top/crates/$crate
+folder=$top/crates/sn_tests
+(cd "$folder" && "$top/.ci/rt" run -- data > "$work/log" 2>&1) || { tail -n 20 "$work/log"; exit 1; }
+for part in calls disk block formats memory trees builds; do
     # Some have tens of thousands of allocations, nearly all of them in devices and contents that are made anew.
-    case $crate in
-        sn_tests_disk | sn_tests_trees) step=7 words=("$folder/data") ;;
-        sn_tests_builds) step=1 words=(. 2) ;;
-        *) step=1 words=("$folder/data") ;;
+    case $part in
+        disk | trees) step=7 words=("$folder/data" "$part") ;;
+        builds) step=1 words=("$folder/data" "$part" 2) ;;
+        *) step=1 words=("$folder/data" "$part") ;;
     esac
-    (cd "$folder" && rt run -- "${words[@]}" > "$work/log" 2>&1) || { tail -n 20 "$work/log"; exit 1; }
-    "$folder/out/$crate" "${words[@]}" > "$work/whole"
-    each_refused "$folder/out/$crate" "${words[@]}"
+    "$folder/out/sn_tests" "${words[@]}" > "$work/whole"
+    echo "$part:"
+    each_refused "$folder/out/sn_tests" "${words[@]}"
 done

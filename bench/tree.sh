@@ -1,6 +1,6 @@
 #!/bin/bash
 # Times block trees and directories on a device in memory, by runs of the programs `measure_plans` and `measure_directories`
-# and of the test program of trees. Run by hand; the memory wants gcc.
+# and of the part `trees` of the test program sn_tests. Run by hand; the memory wants gcc.
 #
 # Prints the time of reading 64 MiB through lent blocks, in parts of 64 KiB, beside a copy of as many bytes; of a plan
 # of one dirty block in files of 64 KiB, of which it makes one new block, and of 68 KiB and 64 MiB, of which it makes an
@@ -14,7 +14,7 @@ top=$(cd "$(dirname "$0")/.." && pwd)
 . "$top/bench/peak.sh"
 work=$(mktemp -d)
 trap 'rm -rf "$work"' EXIT
-(cd "$top/crates/sn_tests_trees" && rt run -- data > "$work/log" 2>&1) || { tail -n 20 "$work/log"; exit 1; }
+(cd "$top/crates/sn_tests" && "$top/.ci/rt" run -- data trees > "$work/log" 2>&1) || { tail -n 20 "$work/log"; exit 1; }
 "$top/bench/program.py" measure_plans
 "$top/bench/program.py" measure_directories
 plans=$top/bench/out/measure_plans
@@ -48,14 +48,14 @@ import time
 from pathlib import Path
 
 top, work = Path(sys.argv[1]), Path(sys.argv[2])
-trees = top / "crates/sn_tests_trees/out/sn_tests_trees"
+trees = top / "crates/sn_tests/out/sn_tests"
 
 
 def least(folder, turns):
     times = []
     for _ in range(turns):
         start = time.perf_counter()
-        subprocess.run([trees, folder], stdout=subprocess.DEVNULL, stderr=subprocess.DEVNULL, check=True)
+        subprocess.run([trees, folder, "trees"], stdout=subprocess.DEVNULL, stderr=subprocess.DEVNULL, check=True)
         times.append(time.perf_counter() - start)
     return min(times)
 
@@ -67,10 +67,11 @@ def table(names, asked):
     listed = " ".join(f"{name} {2 + i % 65534}" for name, i in sorted((name, i) for i, name in enumerate(names)))
     found = " ".join(str(2 + i % 65534) for i in asked)
     folder = work / "data"
-    folder.mkdir(exist_ok=True)
+    tables = folder / "trees"
+    tables.mkdir(parents=True, exist_ok=True)
     for name in ("plans.txt", "inodes.txt", "changes.txt"):
-        (folder / name).write_text("")
-    (folder / "directories.txt").write_text(
+        (tables / name).write_text("")
+    (tables / "directories.txt").write_text(
         f"{','.join(names[i] for i in asked)} {' '.join(blocks)} => {len(names)}, not empty: {listed}; {found}\n")
     return folder
 

@@ -19,7 +19,7 @@ type FileBlocks = Blocks<FileDevice<File>>;
 /// can't be read, or a want of memory.
 pub fn run(report: &mut Report<'_>) -> Result<()> {
     let rt = report.runtime();
-    report.table("file.txt", |alloc, case| steps(rt, alloc, case))
+    report.table("block/file.txt", |alloc, case| steps(rt, alloc, case))
 }
 
 /// What blocks of a file answer to calls, one after the other. The file is there no longer then.

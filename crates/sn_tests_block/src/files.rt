@@ -17,7 +17,7 @@ const FILE: &str = "bytes.image";
 /// table that can't be read, or a want of memory.
 pub fn run(report: &mut Report<'_>) -> Result<()> {
     let rt = report.runtime();
-    report.table("files.txt", |alloc, case| answers(rt, alloc, case))
+    report.table("block/files.txt", |alloc, case| answers(rt, alloc, case))
 }
 
 fn answers(rt: &HostRuntime, alloc: Global, case: Case<'_>) -> Result<String> {

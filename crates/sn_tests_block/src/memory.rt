@@ -12,8 +12,8 @@ use std::alloc::{AllocError, Global};
 /// `blocks.txt`, and what the faults print with `faults.txt`. An error is a step that is none, a table that can't be
 /// read, output that can't be written, or a want of memory.
 pub fn run(report: &mut Report<'_>) -> Result<()> {
-    report.table("blocks.txt", steps)?;
-    report.table("faults.txt", text_of)
+    report.table("block/blocks.txt", steps)?;
+    report.table("block/faults.txt", text_of)
 }
 
 /// What a fault prints.

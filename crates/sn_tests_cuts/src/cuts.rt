@@ -6,7 +6,7 @@
 //! doesn't fit, and makes a root first; so do the mounts, of what they find in the log.
 
 use crate::directories::{ALL, make, present};
-use crate::inheriting::inheriting_disk;
+use crate::inheriting::put_record;
 use anyhow::{Result, bail};
 use sn_device::Fill;
 use sn_model::MountFault;
@@ -88,11 +88,12 @@ fn image_of(disk: &Disk) -> Result<Vec<u8>> {
 
 /// The disk of the list: what is made inherits a long ACL, and the log is empty.
 fn first_image(alloc: Global) -> Result<Vec<u8>> {
-    let mut disk = inheriting_disk(alloc)?;
+    let mut disk = Disk::least(alloc)?;
     first_bytes(&mut disk)
 }
 
 fn first_bytes(disk: &mut Disk) -> Result<Vec<u8>> {
+    put_record(disk)?;
     disk.remount()?;
     disk.crash(Fill::Old)?;
     image_of(disk)
@@ -449,8 +450,12 @@ fn mounts_again(
 
 fn found_behind_two(alloc: Global, left: &[u8], number: u32) -> Result<Option<usize>> {
     let mut disk = Disk::of_bytes(alloc, left)?;
-    mount_twice(&mut disk, number)?;
-    found(&mut disk)
+    found_when_mounted_twice(&mut disk, number)
+}
+
+fn found_when_mounted_twice(disk: &mut Disk, number: u32) -> Result<Option<usize>> {
+    mount_twice(disk, number)?;
+    found(disk)
 }
 
 fn mount_twice(disk: &mut Disk, number: u32) -> Result<()> {

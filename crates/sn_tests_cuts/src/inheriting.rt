@@ -54,14 +54,8 @@ fn gate() -> Sector {
     gate
 }
 
-/// The disk, which isn't mounted, and on which nothing is unsynced. Too little memory is an error.
-pub fn inheriting_disk(alloc: Global) -> Result<Disk> {
-    let mut disk = Disk::least(alloc)?;
-    put_record(&mut disk)?;
-    Ok(disk)
-}
-
-fn put_record(disk: &mut Disk) -> Result<()> {
+/// Puts the record on a new disk that isn't mounted. Nothing of it is unsynced then. Too little memory is an error.
+pub fn put_record(disk: &mut Disk) -> Result<()> {
     disk.write(GATE, &gate())?;
     disk.write(GATE + 1, &body())?;
     disk.crash(Fill::New)

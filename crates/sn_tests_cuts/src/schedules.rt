@@ -498,8 +498,12 @@ fn empty_image(alloc: Global) -> Result<Vec<u8>> {
 
 fn started_image(alloc: Global) -> Result<Vec<u8>> {
     let mut disk = Disk::least(alloc)?;
+    started_on(&mut disk)
+}
+
+fn started_on(disk: &mut Disk) -> Result<Vec<u8>> {
     disk.remount()?;
-    start(&mut disk)?;
+    start(disk)?;
     disk.unmount()?;
     disk.bytes(0, usize::MAX)
 }

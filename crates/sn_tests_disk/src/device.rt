@@ -10,7 +10,7 @@ use std::alloc::Global;
 /// journal that stands here keeps its body through a crash and wipes its sectors. An error is a step that is none, a
 /// table that can't be read, output that can't be written, or a want of memory.
 pub fn run(report: &mut Report<'_>) -> Result<()> {
-    report.table("device.txt", steps)?;
+    report.table("disk/device.txt", steps)?;
     let journal = journal_cases(report)?;
     report.add("the journal", journal)
 }

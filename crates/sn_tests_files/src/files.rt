@@ -19,7 +19,7 @@ type FileDevices = Vec<FileDevice<Opened>>;
 /// of the system that no answer tells, a step that is none, a table that can't be read, or a want of memory.
 pub fn run(report: &mut Report<'_>) -> Result<()> {
     let rt = report.runtime();
-    report.table("files.txt", |alloc, case| answers(rt, alloc, case))
+    report.table("files/files.txt", |alloc, case| answers(rt, alloc, case))
 }
 
 /// What comes of the steps, one after the other. Their files are there no longer then.

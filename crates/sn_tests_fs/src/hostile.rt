@@ -55,8 +55,12 @@ fn halves(report: &Report<'_>, trees: &mut Tally, damaged: &mut Tally) -> Result
 /// What a half that is drawn comes to at two mounts.
 fn ending_of(alloc: Global, random: &mut Pcg32) -> Result<Ending> {
     let mut disk = Disk::large(alloc)?;
-    draw(&mut disk, random)?;
-    mounted_twice(alloc, &mut disk)
+    drawn_and_mounted(alloc, &mut disk, random)
+}
+
+fn drawn_and_mounted(alloc: Global, disk: &mut Disk, random: &mut Pcg32) -> Result<Ending> {
+    draw(disk, random)?;
+    mounted_twice(alloc, disk)
 }
 
 fn mounted_twice(alloc: Global, disk: &mut Disk) -> Result<Ending> {

@@ -8,7 +8,7 @@ use std::alloc::Global;
 
 /// Compares what lives answer and leave. A word of the table that is no life is an error.
 pub fn run(report: &mut Report<'_>) -> Result<()> {
-    report.table("stops.txt", stops)
+    report.table("fs/stops.txt", stops)
 }
 
 /// So many writes succeed, and then there is a crash.

@@ -10,9 +10,9 @@ const FILLING: u8 = 0x5a;
 
 /// Compares the replies of each table's calls. A line that is none of these, and a disk that isn't mounted again, are errors.
 pub fn run(report: &mut Report<'_>) -> Result<()> {
-    report.script("calls.txt", replies)?;
-    report.script("room.txt", replies_in_little_room)?;
-    report.script("numbers.txt", replies_in_little_room)
+    report.script("fs/calls.txt", replies)?;
+    report.script("fs/room.txt", replies_in_little_room)?;
+    report.script("fs/numbers.txt", replies_in_little_room)
 }
 
 /// A line for each line of a script, of steps, calls, and lines that other scripts don't have: `crash` and a fill stand for

@@ -48,8 +48,12 @@ pub fn run(report: &mut Report<'_>) -> Result<()> {
 /// A disk with a file of one block and one of 300.
 fn image_of(alloc: Global) -> Result<Vec<u8>> {
     let mut disk = Disk::formatted(alloc, SECTORS, BLOCKS)?;
+    image_on(&mut disk)
+}
+
+fn image_on(disk: &mut Disk) -> Result<Vec<u8>> {
     disk.remount()?;
-    fill(&mut disk)?;
+    fill(disk)?;
     disk.unmount()?;
     disk.bytes(0, usize::MAX)
 }
@@ -126,9 +130,13 @@ fn is_refused_on(disk: &mut Disk, calls: u32) -> Result<bool> {
 /// Whether a block is read again by the call behind so many.
 fn is_read_again(alloc: Global, image: &[u8], calls: u32) -> Result<bool> {
     let mut disk = Disk::of_bytes(alloc, image)?;
+    reads_again_on(&mut disk, calls)
+}
+
+fn reads_again_on(disk: &mut Disk, calls: u32) -> Result<bool> {
     disk.fail_behind(calls)?;
     disk.remount()?;
-    reads_again(&mut disk)
+    reads_again(disk)
 }
 
 /// Whether all is read once, and then the byte that was read first is refused, and there when it is asked for again.

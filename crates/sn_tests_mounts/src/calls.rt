@@ -65,8 +65,12 @@ pub fn payloads(alloc: Global, random: &mut Pcg32) -> Result<Vec<Vec<u8>>> {
 /// The half behind drawn calls.
 fn called_half(alloc: Global, random: &mut Pcg32) -> Result<Vec<u8>> {
     let mut disk = Disk::large(alloc)?;
-    ask_some(alloc, &mut disk, random)?;
-    half_of(&disk)
+    called_half_of(alloc, &mut disk, random)
+}
+
+fn called_half_of(alloc: Global, disk: &mut Disk, random: &mut Pcg32) -> Result<Vec<u8>> {
+    ask_some(alloc, disk, random)?;
+    half_of(disk)
 }
 
 fn ask_some(alloc: Global, disk: &mut Disk, random: &mut Pcg32) -> Result<()> {

@@ -29,10 +29,14 @@ pub fn run(report: &mut Report<'_>) -> Result<()> {
 }
 
 fn count_all(report: &Report<'_>, counts: &mut Counts) -> Result<()> {
-    let mut random = Pcg32::new(1, 0);
     let mut disk = Disk::large(report.alloc())?;
+    take_turns(report, counts, &mut disk)
+}
+
+fn take_turns(report: &Report<'_>, counts: &mut Counts, disk: &mut Disk) -> Result<()> {
+    let mut random = Pcg32::new(1, 0);
     for turn in 0..HALVES / TURN {
-        take_turn(report, counts, &mut disk, &mut random, turn * TURN)?;
+        take_turn(report, counts, disk, &mut random, turn * TURN)?;
     }
     Ok(())
 }

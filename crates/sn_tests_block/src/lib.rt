@@ -1,0 +1,29 @@
+//! Cases of the blocks of a device, and of a device over a file.
+//!
+//! The tables of the cases are in the data of `sn_tests`: their head lines say where the answers come from. `steps` has
+//! the calls of the tables over any device, and `memory` and `file` have the tables over each device. `calls` has those
+//! of a device alone, which `fake` makes over a file in memory whose calls fail, and `files` over files that are no
+//! images.
+//!
+//! No clause promises what comes out, since it is compared: `sn_tests` runs it.
+#![tactic(auto)]
+
+mod calls;
+mod fake;
+mod file;
+mod files;
+mod memory;
+mod steps;
+mod words;
+
+use anyhow::Result;
+use sn_testing_tables::Report;
+
+/// Compares the answers of all cases with their tables, with a line for each table. An error is a case, or a table, that can't
+/// be read, one of the system that no answer tells, or a want of memory.
+pub fn run(report: &mut Report<'_>) -> Result<()> {
+    memory::run(report)?;
+    file::run(report)?;
+    fake::run(report)?;
+    files::run(report)
+}

@@ -1,0 +1,42 @@
+//! The cases of crashes of a mounted file system, and of logs of any bytes that are mounted.
+//!
+//! Both parts are crates of their own, which say what they compare: `sn_tests_cuts` and `sn_tests_mounts`. They read no tables.
+//! What is printed is compared with `stdout`. The argument is a folder. With a number and a count behind it, so many of the
+//! schedules of `sn_tests_cuts` from that number on are cut short wherever they can be.
+//!
+//! ```text
+//! rt run -- .
+//! rt run -- . 0 10000
+//! ```
+#![tactic(auto)]
+
+use anyhow::{Context, Result};
+use sn_testing_tables::{Report, number_of};
+use std::env;
+use std::ops::Range;
+
+/// The schedules that a person asks for.
+fn asked(rt: &HostRuntime) -> Result<Option<Range<u32>>> {
+    let mut words = env::args(rt)?.skip(2);
+    let Some(first) = words.next() else {
+        return Ok(None);
+    };
+    let first = number_of(first.as_str())?;
+    let count = words.next().context("no count of schedules")?;
+    let end = first.saturating_add(number_of(count.as_str())?);
+    Ok(Some(first..end))
+}
+
+fn run_all(report: &mut Report<'_>) -> Result<()> {
+    sn_tests_mounts::run(report)?;
+    sn_tests_cuts::run(report)
+}
+
+fn main(rt: HostRuntime) -> Result<()> {
+    let mut report = Report::new(&rt)?;
+    match asked(&rt)? {
+        Some(numbers) => sn_tests_cuts::sweep(&mut report, numbers)?,
+        None => run_all(&mut report)?,
+    }
+    report.end()
+}

@@ -1,0 +1,23 @@
+//! Calls and mounts that are cut short, with points among them, and what a crash leaves of them.
+//!
+//! `cuts` cuts lists of calls and mounts short at each call of the device, on the disk of `inheriting`, whose
+//! directories are those of `directories`; what is found behind it is compared with what the rules say of the calls
+//! that were answered. `schedules` cuts drawn lists of calls short, with steps of points between them.
+//!
+//! No clause promises what comes out, since it is compared: `sn_tests_program` runs it.
+#![tactic(auto)]
+
+mod cuts;
+mod directories;
+mod inheriting;
+mod schedules;
+
+use anyhow::Result;
+pub use schedules::sweep;
+use sn_testing_tables::Report;
+
+/// Compares what all that is cut short leaves with what it may. A want of memory is an error.
+pub fn run(report: &mut Report<'_>) -> Result<()> {
+    cuts::run(report)?;
+    schedules::run(report)
+}

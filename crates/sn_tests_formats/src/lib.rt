@@ -1,0 +1,78 @@
+//! Cases of what stands on a disk byte by byte: blocks and records whose bytes were laid out by hand, and a log.
+//!
+//! The tables of the cases are in the data of `sn_tests`: their head lines say where the answers come from. There is a
+//! module for each subject: `layout`, `nodes`, `acl_blocks`, `directory` and `payloads`. `block` has the spelling of
+//! blocks in tables. `log_steps` has what is appended, replayed and cleared, by the calls of a log on a device in
+//! memory in `log`.
+//!
+//! No clause promises what comes out, since it is compared: `sn_tests` runs it.
+#![tactic(auto)]
+
+mod acl_blocks;
+mod block;
+mod directory;
+mod layout;
+mod log;
+mod log_steps;
+mod nodes;
+mod payloads;
+
+use anyhow::{Result, bail};
+use sn_testing_tables::{Case, Report};
+use std::alloc::Global;
+
+const TABLES: [&str; 15] = [
+    "formats/superblock.txt",
+    "formats/root_body.txt",
+    "formats/places.txt",
+    "formats/snapshot_names.txt",
+    "formats/inode_record.txt",
+    "formats/indirect_block.txt",
+    "formats/pointers.txt",
+    "formats/acl_block.txt",
+    "formats/acl_parts.txt",
+    "formats/acl_entries.txt",
+    "formats/directory_block.txt",
+    "formats/directory_find.txt",
+    "formats/directory_steps.txt",
+    "formats/payloads.txt",
+    "formats/log.txt",
+];
+
+/// Compares the answers of all cases with their tables, with a line for each table. An error is a case, or a table, that can't
+/// be read, or a want of memory.
+pub fn run(report: &mut Report<'_>) -> Result<()> {
+    for table in TABLES {
+        report.table(table, |alloc, case| answer(table, alloc, case))?;
+    }
+    Ok(())
+}
+
+/// The answer to a case of a table.
+fn answer(table: &str, alloc: Global, case: Case<'_>) -> Result<String> {
+    match table {
+        "formats/superblock.txt" => layout::superblock(alloc, case),
+        "formats/root_body.txt" => layout::root_body(alloc, case),
+        "formats/places.txt" => layout::place(alloc, case),
+        "formats/snapshot_names.txt" => layout::snapshot_name(alloc, case),
+        "formats/payloads.txt" => payloads::payload(alloc, case),
+        "formats/log.txt" => log_steps::steps(alloc, case),
+        _ => node_answer(table, alloc, case),
+    }
+}
+
+/// The answer to a case of what a node is made of.
+fn node_answer(table: &str, alloc: Global, case: Case<'_>) -> Result<String> {
+    match table {
+        "formats/inode_record.txt" => nodes::record(alloc, case),
+        "formats/indirect_block.txt" => nodes::indirect_block(alloc, case),
+        "formats/pointers.txt" => nodes::pointer(alloc, case),
+        "formats/acl_block.txt" => acl_blocks::acl_block(alloc, case),
+        "formats/acl_parts.txt" => acl_blocks::parts(alloc, case),
+        "formats/acl_entries.txt" => acl_blocks::entries(alloc, case),
+        "formats/directory_block.txt" => directory::directory_block(alloc, case),
+        "formats/directory_find.txt" => directory::find(alloc, case),
+        "formats/directory_steps.txt" => directory::steps(alloc, case),
+        _ => bail!("no such table"),
+    }
+}

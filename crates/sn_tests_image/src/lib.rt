@@ -1,0 +1,24 @@
+//! Cases of whole disks: what a format leaves on them, byte by byte, and what a mount and a check find.
+//!
+//! The tables of the cases are in the data of `sn_tests_program`: their head lines say where the answers come from.
+//! `formatting` formats a device and looks at its bytes, `mounting` changes some of them and mounts it, `checking`
+//! checks it, and `faults` fails each call of the device in turn.
+//!
+//! No clause promises what comes out, since it is compared: `sn_tests_program` runs it.
+#![tactic(auto)]
+
+mod checking;
+mod faults;
+mod formatting;
+mod mounting;
+
+use anyhow::Result;
+use sn_testing_tables::Report;
+
+/// Compares what all cases come to with what is wanted. An error is a case, or a table, that can't be read, or a want of memory.
+pub fn run(report: &mut Report<'_>) -> Result<()> {
+    report.table("image/format.txt", formatting::bytes)?;
+    report.table("image/mounts.txt", mounting::found)?;
+    report.table("image/checks.txt", checking::verdict)?;
+    faults::run(report)
+}
