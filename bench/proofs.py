@@ -26,11 +26,17 @@ from gate import TICKS, TOP  # noqa: E402
 CHECKED = re.compile(r"^checked (.*), \d+ of \d+$")
 
 
-def rt_of(top):
-    """The command rt as a module, as .ci/rt has it."""
+def faster_rt(top):
+    """What .ci/rt has, as a module."""
     loader = importlib.machinery.SourceFileLoader("faster_rt", str(top / ".ci" / "rt"))
     faster = importlib.util.module_from_spec(importlib.util.spec_from_loader("faster_rt", loader))
     loader.exec_module(faster)
+    return faster
+
+
+def rt_of(top):
+    """The command rt as a module, as .ci/rt has it."""
+    faster = faster_rt(top)
     rt = faster.loaded(os.path.realpath(shutil.which("rt") or sys.exit("rt isn't on the PATH")))
     rt.rtlib.Crate.stamp = faster.summed_once(rt.rtlib.Crate.stamp)
     rt.rtlib.Crate.below = faster.gone_through_once(rt.rtlib.Crate.below)
