@@ -1,8 +1,8 @@
-//! The cases of crashes of a mounted file system, and of logs of any bytes that are mounted.
+//! The cases of crashes of a mounted file system, which `sn_tests_cuts` has.
 //!
-//! Both parts are crates of their own, which say what they compare: `sn_tests_cuts` and `sn_tests_mounts`. They read no tables.
-//! What is printed is compared with `stdout`. The argument is a folder. With a number and a count behind it, so many of the
-//! schedules of `sn_tests_cuts` from that number on are cut short wherever they can be.
+//! They are a program of their own for the time that they take. They read no tables. What is printed is compared with
+//! `stdout`. The argument is a folder. With a number and a count behind it, so many of the schedules of `sn_tests_cuts` from
+//! that number on are cut short wherever they can be.
 //!
 //! ```text
 //! rt run -- .
@@ -27,16 +27,11 @@ fn asked(rt: &HostRuntime) -> Result<Option<Range<u32>>> {
     Ok(Some(first..end))
 }
 
-fn run_all(report: &mut Report<'_>) -> Result<()> {
-    sn_tests_mounts::run(report)?;
-    sn_tests_cuts::run(report)
-}
-
 fn main(rt: HostRuntime) -> Result<()> {
     let mut report = Report::new(&rt)?;
     match asked(&rt)? {
         Some(numbers) => sn_tests_cuts::sweep(&mut report, numbers)?,
-        None => run_all(&mut report)?,
+        None => sn_tests_cuts::run(&mut report)?,
     }
     report.end()
 }
