@@ -167,10 +167,10 @@ each_refused "$program" check "$work/logged"
 judge=tested
 folder=$top/crates/sn_tests
 (cd "$folder" && "$top/.ci/rt" run -- data > "$work/log" 2>&1) || { tail -n 20 "$work/log"; exit 1; }
-for part in calls disk block formats memory trees builds; do
+for part in access calls disk block formats records memory trees changes builds; do
     # Some have tens of thousands of allocations, nearly all of them in devices and contents that are made anew.
     case $part in
-        disk | trees) step=7 words=("$folder/data" "$part") ;;
+        disk | trees | changes) step=7 words=("$folder/data" "$part") ;;
         builds) step=1 words=("$folder/data" "$part" 2) ;;
         *) step=1 words=("$folder/data" "$part") ;;
     esac

@@ -69,8 +69,7 @@ def table(names, asked):
     folder = work / "data"
     tables = folder / "trees"
     tables.mkdir(parents=True, exist_ok=True)
-    for name in ("plans.txt", "inodes.txt", "changes.txt"):
-        (tables / name).write_text("")
+    (tables / "inodes.txt").write_text("")
     (tables / "directories.txt").write_text(
         f"{','.join(names[i] for i in asked)} {' '.join(blocks)} => {len(names)}, not empty: {listed}; {found}\n")
     return folder

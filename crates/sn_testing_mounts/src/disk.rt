@@ -22,7 +22,8 @@ pub struct Disk {
 
 #[derive(Drop)]
 enum State {
-    Mounted(Mounted),
+    /// Boxed, so that the drop of a disk is a call of the drop of what is boxed, and not all of that.
+    Mounted(Box<Mounted>),
     Unmounted(MemDevice),
 }
 
@@ -63,7 +64,7 @@ impl Disk {
     fn take(&mut self) -> Result<MemDevice> {
         let none = State::Unmounted(MemDevice::new(self.alloc, 0)?);
         match mem::replace(&mut self.state, none) {
-            State::Mounted(mounted) => Ok(mounted.into_device()),
+            State::Mounted(mounted) => Ok(Box::into_inner(mounted).into_device()),
             State::Unmounted(device) => Ok(device),
         }
     }
@@ -72,7 +73,7 @@ impl Disk {
     pub fn mount(&mut self) -> Result<Option<MountFault>> {
         match Mounted::new(self.alloc, self.take()?) {
             Ok(mounted) => {
-                self.state = State::Mounted(mounted);
+                self.state = State::Mounted(Box::new(self.alloc, mounted)?);
                 Ok(None)
             }
             Err(unmounted) => {
@@ -236,6 +237,11 @@ impl Disk {
         Ok(told.as_str() == wanted)
     }
 
+    /// The line of the reply of session 0.
+    fn told_first(&mut self, call: Call) -> Result<String> {
+        self.told(0, &call)
+    }
+
     /// Logs the user 0 in as session 0.
     pub fn login(&mut self) -> Result<()> {
         self.ask("0 login 0 0 -")?;
@@ -244,36 +250,32 @@ impl Disk {
 
     /// The line of the reply of session 0 to a mkdir.
     pub fn mkdir(&mut self, path: &str, mode: u16) -> Result<String> {
-        let call = mkdir(self.alloc, path, mode)?;
-        self.told(0, &call)
+        self.told_first(mkdir(self.alloc, path, mode)?)
     }
 
     /// The line of the reply of session 0 to a stat.
     pub fn stat(&mut self, path: &str) -> Result<String> {
-        let call = stat(self.alloc, path)?;
-        self.told(0, &call)
+        self.told_first(stat(self.alloc, path)?)
     }
 
     /// The line of the reply of session 0 to a getacl.
     pub fn acl(&mut self, path: &str, kind: AclKind) -> Result<String> {
-        let call = getacl(self.alloc, path, kind)?;
-        self.told(0, &call)
+        self.told_first(getacl(self.alloc, path, kind)?)
     }
 
     /// The number of the node at a path, as session 0 is told it.
     pub fn number(&mut self, path: &str) -> Result<Option<u16>> {
-        let call = stat(self.alloc, path)?;
-        self.number_told(&call)
+        self.number_told(stat(self.alloc, path)?)
     }
 
-    fn number_told(&mut self, call: &Call) -> Result<Option<u16>> {
-        let reply = self.call(0, call)?;
+    fn number_told(&mut self, call: Call) -> Result<Option<u16>> {
+        let reply = self.call(0, &call)?;
         Ok(number_of(&reply))
     }
 
     /// The line of the reply of session 0 to a write of so many bytes, all of them this one.
     pub fn write_all(&mut self, fd: u32, byte: u8, count: usize) -> Result<String> {
         let bytes = FileData::new(Vec::from_elem(self.alloc, byte, count)?);
-        self.told(0, &Call::Write { fd, bytes })
+        self.told_first(Call::Write { fd, bytes })
     }
 }

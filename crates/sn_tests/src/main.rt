@@ -17,8 +17,9 @@ use sn_testing_tables::{Report, number_of};
 use std::env;
 
 /// The parts, in the order in which they run.
-const PARTS: [&str; 9] = [
-    "calls", "memory", "block", "files", "disk", "formats", "trees", "builds", "points",
+const PARTS: [&str; 12] = [
+    "access", "calls", "memory", "block", "files", "disk", "formats", "records", "trees",
+    "changes", "builds", "points",
 ];
 
 /// How many trees are built where nobody says it.
@@ -30,13 +31,16 @@ const POINTS: u32 = 100;
 /// Runs a part, which is the only one where its count is given.
 fn run(report: &mut Report<'_>, part: &str, count: Option<u32>) -> Result<()> {
     match part {
+        "access" => sn_tests_access::run(report),
         "calls" => sn_tests_calls::run(report),
         "memory" => sn_tests_memory::run(report),
         "block" => sn_tests_block::run(report),
         "files" => sn_tests_files::run(report),
         "disk" => sn_tests_disk::run(report),
         "formats" => sn_tests_formats::run(report),
+        "records" => sn_tests_records::run(report),
         "trees" => sn_tests_trees::run(report),
+        "changes" => sn_tests_changes::run(report),
         "builds" => sn_tests_builds::run(report, count.unwrap_or(TREES)),
         "points" => sn_tests_points::run(report, count.unwrap_or(POINTS)),
         _ => bail!("no such part: {part}"),

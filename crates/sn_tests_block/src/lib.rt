@@ -1,17 +1,12 @@
-//! Cases of the blocks of a device, and of a device over a file.
+//! Cases of the blocks of a device.
 //!
 //! The tables of the cases are in the data of `sn_tests`: their head lines say where the answers come from. `steps` has
-//! the calls of the tables over any device, and `memory` and `file` have the tables over each device. `calls` has those
-//! of a device alone, which `fake` makes over a file in memory whose calls fail, and `files` over files that are no
-//! images.
+//! the calls of the tables over any device, and `memory` and `file` have the tables over each device.
 //!
 //! No clause promises what comes out, since it is compared: `sn_tests` runs it.
 #![tactic(auto)]
 
-mod calls;
-mod fake;
 mod file;
-mod files;
 mod memory;
 mod steps;
 mod words;
@@ -23,7 +18,5 @@ use sn_testing_tables::Report;
 /// be read, one of the system that no answer tells, or a want of memory.
 pub fn run(report: &mut Report<'_>) -> Result<()> {
     memory::run(report)?;
-    file::run(report)?;
-    fake::run(report)?;
-    files::run(report)
+    file::run(report)
 }

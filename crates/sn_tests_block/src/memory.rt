@@ -1,11 +1,11 @@
 //! The table over the device in memory.
 
 use crate::steps::take_step;
-use crate::words::push_sector;
 use anyhow::{Result, bail, ensure};
 use sn_block::{Block, Blocks, ReadFault};
 use sn_device::{MemDevice, SECTOR_SIZE, Sector};
 use sn_testing_tables::{Case, Report, fill_of, number_of, push_number, push_word};
+use sn_tests_files::push_sector;
 use std::alloc::{AllocError, Global};
 
 /// Compares the answers of blocks over the device in memory, which fails and crashes as the steps say, with

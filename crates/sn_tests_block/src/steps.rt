@@ -1,10 +1,11 @@
 //! The steps that a table takes over any device.
 
-use crate::words::{push_answer, push_block, push_sectors, sector_of};
+use crate::words::{push_block, push_sectors};
 use anyhow::{Result, bail, ensure};
 use sn_block::{BLOCK_SIZE, Block, Blocks, ReadFault};
 use sn_device::{Device, SECTOR_SIZE};
 use sn_testing_tables::{number_of, pair_of, push_number, push_word};
+use sn_tests_files::{push_answer, sector_of};
 use std::alloc::Global;
 
 /// Takes a step, and appends its answer.

@@ -2,7 +2,6 @@
 ghost use Rattle.std.specs.Prelude.{◌≡◌, IfOk, length};
 ghost use Rattle.sn_layout.specs.RootBody.{IsRootBody};
 
-use crate::reading::{Image, read_image};
 use anyhow::{Context, Result, bail, ensure};
 use sn_block::{Blocks, ReadFault};
 use sn_cp_build::{Built, SnapshotBit, SnapshotEdit, build};
@@ -12,6 +11,7 @@ use sn_limits::Limits;
 use sn_map::Map;
 use sn_overlay::Overlay;
 use sn_testing_disks::{part, put};
+use sn_testing_images::{Image, read_image};
 use sn_tree::{NewBlock, PlanFault};
 use sn_tree_read::TreeFault;
 use std::alloc::{AllocError, Global};

@@ -2,8 +2,8 @@
 //!
 //! A course begins with the empty tree of a new disk. `sn_testing_trees` draws changes of the tree that was built last,
 //! as lists of nodes and names alone. `layering` has the overlay of all that differs, and of some that doesn't.
-//! `building` builds it by `sn_cp_build` and writes the new blocks, and `reading` reads the disk by docs/FORMAT.md,
-//! without the codecs. What is wanted of each build:
+//! `building` builds it by `sn_cp_build` and writes the new blocks, and `sn_testing_images` reads the disk by
+//! docs/FORMAT.md, without the codecs. What is wanted of each build:
 //! - the disk has the tree that was drawn, each file counts its names, and bit 0 of the map is set for exactly the
 //!   blocks that are reached, none of them twice; the bit of a snapshot that is made becomes what bit 0 is, that of one
 //!   that goes is cleared, and the other bits stay;
@@ -25,7 +25,6 @@
 mod building;
 mod layering;
 mod looking;
-mod reading;
 mod runs;
 mod seen;
 mod tallies;

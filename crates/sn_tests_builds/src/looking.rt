@@ -2,8 +2,8 @@
 
 use crate::building::{Answer, Edit};
 use crate::layering::Layer;
-use crate::reading::Image;
 use sn_cp_build::Built;
+use sn_testing_images::Image;
 use std::alloc::{AllocError, Global};
 
 /// How often each block is reached, if the disk has each of them.

@@ -4,7 +4,7 @@
 //! directories are those of `directories`; what is found behind it is compared with what the rules say of the calls
 //! that were answered. `schedules` cuts drawn lists of calls short, with steps of points between them.
 //!
-//! No clause promises what comes out, since it is compared: `sn_tests_program` runs it.
+//! No clause promises what comes out, since it is compared: `sn_tests_crashes` runs it.
 #![tactic(auto)]
 
 mod cuts;

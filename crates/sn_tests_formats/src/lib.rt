@@ -1,9 +1,8 @@
-//! Cases of what stands on a disk byte by byte: blocks and records whose bytes were laid out by hand, and a log.
+//! Cases of what stands on a disk byte by byte: blocks whose bytes were laid out by hand.
 //!
 //! The tables of the cases are in the data of `sn_tests`: their head lines say where the answers come from. There is a
-//! module for each subject: `layout`, `nodes`, `acl_blocks`, `directory` and `payloads`. `block` has the spelling of
-//! blocks in tables. `log_steps` has what is appended, replayed and cleared, by the calls of a log on a device in
-//! memory in `log`.
+//! module for each subject: `layout`, `nodes`, `acl_blocks` and `directory`. `block` has the spelling of blocks in
+//! tables.
 //!
 //! No clause promises what comes out, since it is compared: `sn_tests` runs it.
 #![tactic(auto)]
@@ -12,16 +11,13 @@ mod acl_blocks;
 mod block;
 mod directory;
 mod layout;
-mod log;
-mod log_steps;
 mod nodes;
-mod payloads;
 
 use anyhow::{Result, bail};
 use sn_testing_tables::{Case, Report};
 use std::alloc::Global;
 
-const TABLES: [&str; 15] = [
+const TABLES: [&str; 13] = [
     "formats/superblock.txt",
     "formats/root_body.txt",
     "formats/places.txt",
@@ -35,8 +31,6 @@ const TABLES: [&str; 15] = [
     "formats/directory_block.txt",
     "formats/directory_find.txt",
     "formats/directory_steps.txt",
-    "formats/payloads.txt",
-    "formats/log.txt",
 ];
 
 /// Compares the answers of all cases with their tables, with a line for each table. An error is a case, or a table, that can't
@@ -55,8 +49,6 @@ fn answer(table: &str, alloc: Global, case: Case<'_>) -> Result<String> {
         "formats/root_body.txt" => layout::root_body(alloc, case),
         "formats/places.txt" => layout::place(alloc, case),
         "formats/snapshot_names.txt" => layout::snapshot_name(alloc, case),
-        "formats/payloads.txt" => payloads::payload(alloc, case),
-        "formats/log.txt" => log_steps::steps(alloc, case),
         _ => node_answer(table, alloc, case),
     }
 }

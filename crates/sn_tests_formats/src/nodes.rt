@@ -49,7 +49,7 @@ fn push_inode(text: &mut String, inode: &Inode) -> Result<()> {
 }
 
 /// The word that the tables have for a kind: `file` or `directory`.
-pub fn kind_word(kind: Kind) -> &'static str {
+fn kind_word(kind: Kind) -> &'static str {
     match kind {
         Kind::File => "file",
         Kind::Directory => "directory",

@@ -9,7 +9,7 @@
 //! mount makes a root of a tree that has records; its own root is put back for the next half. `counts` tells how many
 //! halves came to each end, and that each end came up.
 //!
-//! No clause promises what comes out, since it is compared: `sn_tests_program` runs it.
+//! No clause promises what comes out, since it is compared: `sn_tests_logs` runs it.
 #![tactic(auto)]
 
 mod calls;

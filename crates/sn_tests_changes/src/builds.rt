@@ -1,11 +1,11 @@
 //! Builds of plans, and what comes of them on a disk in memory.
 
-use crate::image::{BLOCKS, FIRST};
 use anyhow::{Result, ensure};
 use sn_alloc::BlockAllocator;
 use sn_block::Blocks;
 use sn_device::MemDevice;
 use sn_map::Map;
+use sn_tests_trees::{BLOCKS, FIRST};
 use sn_tree::{Build, NewBlock};
 use std::alloc::Global;
 

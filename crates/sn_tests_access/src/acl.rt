@@ -10,13 +10,13 @@ use std::alloc::Global;
 /// tables, which are by hand from acl(5) and POSIX.1-2017. An error is a table that can't be read or is misspelt,
 /// output that can't be written, or a want of memory; a wrong answer is counted and printed.
 pub fn run(report: &mut Report<'_>) -> Result<()> {
-    report.table("calls/acl_check.txt", decision)?;
-    report.table("calls/acl_members.txt", membership)?;
-    report.table("calls/acl_texts.txt", reading)?;
-    report.table("calls/acl_entries.txt", building)?;
-    report.table("calls/acl_modes.txt", mode_answer)?;
-    report.table("calls/acl_inherit.txt", inheritance)?;
-    report.table("calls/acl_rights.txt", rights_answer)
+    report.table("access/acl_check.txt", decision)?;
+    report.table("access/acl_members.txt", membership)?;
+    report.table("access/acl_texts.txt", reading)?;
+    report.table("access/acl_entries.txt", building)?;
+    report.table("access/acl_modes.txt", mode_answer)?;
+    report.table("access/acl_inherit.txt", inheritance)?;
+    report.table("access/acl_rights.txt", rights_answer)
 }
 
 /// The caller whose user, group and groups stand at these places.

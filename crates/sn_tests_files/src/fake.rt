@@ -115,7 +115,7 @@ impl OpenFile for Fake<'_> {
 /// `calls.txt`, which follows from the rules at the head of sn_filedev. An error is a table that can't be read, a step
 /// that is none, output that can't be written, or a want of memory.
 pub fn run(report: &mut Report<'_>) -> Result<()> {
-    report.table("block/calls.txt", answers)
+    report.table("files/calls.txt", answers)
 }
 
 /// What a device over the file answers to calls, one after the other.

@@ -14,8 +14,8 @@ type Outcome = Result<Walked, Failure<WalkRefusal, AllocError>>;
 /// hand from POSIX.1-2017 and `docs/RULES.md`. An error is a table that can't be read, output that can't be written, or
 /// a want of memory.
 pub fn run(report: &mut Report<'_>) -> Result<()> {
-    report.table("calls/paths.txt", path)?;
-    report.table("calls/walks.txt", walked)
+    report.table("access/paths.txt", path)?;
+    report.table("access/walks.txt", walked)
 }
 
 /// A name, or only its length where it is long.

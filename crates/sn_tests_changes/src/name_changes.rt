@@ -1,7 +1,6 @@
 //! Directories that change, by a table.
 
 use crate::builds::{new_build, settled, taken_by};
-use crate::directories::{directory_of, name_of, push_name};
 use anyhow::{Result, bail, ensure};
 use sn_block::Blocks;
 use sn_device::MemDevice;
@@ -10,6 +9,7 @@ use sn_dir_change::{NameChange, are_changes, change};
 use sn_layout::BlockTree;
 use sn_layout_node::DirectoryBlock;
 use sn_testing_tables::{Case, pair_of};
+use sn_tests_trees::{directory_of, name_of, push_name};
 use sn_tree::{Build, PlanFault};
 use sn_tree_read::TreeFault;
 use std::alloc::Global;

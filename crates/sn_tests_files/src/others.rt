@@ -13,11 +13,11 @@ use std::{fs, io};
 const FILE: &str = "bytes.image";
 
 /// Compares the answers of devices over files that are no images, are not there or are on a full disk, with
-/// `files.txt`: what Linux gives for them. An error is one of the system that no answer tells, a call that is none, a
+/// `others.txt`: what Linux gives for them. An error is one of the system that no answer tells, a call that is none, a
 /// table that can't be read, or a want of memory.
 pub fn run(report: &mut Report<'_>) -> Result<()> {
     let rt = report.runtime();
-    report.table("block/files.txt", |alloc, case| answers(rt, alloc, case))
+    report.table("files/others.txt", |alloc, case| answers(rt, alloc, case))
 }
 
 fn answers(rt: &HostRuntime, alloc: Global, case: Case<'_>) -> Result<String> {

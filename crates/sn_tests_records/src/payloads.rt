@@ -1,8 +1,8 @@
 //! Payloads of log records.
 
-use crate::nodes::kind_word;
 use anyhow::{Result, bail, ensure};
 use sn_acl::Acl;
+use sn_limits::Kind;
 use sn_model::{Bytes, Change, Ownership};
 use sn_record::{Payload, decode, put_change};
 use sn_testing_tables::Case;
@@ -62,6 +62,13 @@ fn told(alloc: Global, change: &Change<'_>) -> Result<String> {
     Ok(text)
 }
 
+fn word_of(kind: Kind) -> &'static str {
+    match kind {
+        Kind::File => "file",
+        Kind::Directory => "directory",
+    }
+}
+
 fn push_change(text: &mut String, change: &Change<'_>) -> Result<()> {
     match change {
         Change::Make {
@@ -71,7 +78,7 @@ fn push_change(text: &mut String, change: &Change<'_>) -> Result<()> {
             kind,
             ownership,
         } => {
-            let kind = kind_word(*kind);
+            let kind = word_of(*kind);
             write!(text, "make {kind} {number} as ")?;
             push_name(text, name, " in ", *directory)?;
             text.push_str(", ")?;

@@ -1,8 +1,6 @@
 //! Each read of the device failing in turn, and too few blocks left.
 
 use crate::builds::{new_build, new_map};
-use crate::image::{BLOCKS, FIRST, Image};
-use crate::inodes::{ACLS, RECORDS, file};
 use crate::tree_changes::change_of;
 use anyhow::{Result, bail, ensure};
 use sn_block::{Blocks, ReadFault};
@@ -16,6 +14,7 @@ use sn_layout_acl::AclBlock;
 use sn_layout_node::{Content, Inode};
 use sn_limits::Limits;
 use sn_testing_tables::{Report, Tally};
+use sn_tests_trees::{ACLS, BLOCKS, FIRST, Image, RECORDS, file};
 use sn_tree::{Build, PlanFault};
 use sn_tree_read::{TreeFault, read};
 use std::alloc::Global;

@@ -1,7 +1,6 @@
 //! Plans of trees one after the other.
 
 use crate::builds::{new_build, new_map, settled, taken_by};
-use crate::image::new_blocks;
 use crate::tree_changes::change_of;
 use anyhow::Result;
 use sn_block::Blocks;
@@ -9,6 +8,7 @@ use sn_device::MemDevice;
 use sn_layout::{BlockTree, Pointers};
 use sn_map::Map;
 use sn_testing_tables::{Case, push_word};
+use sn_tests_trees::new_blocks;
 use sn_tree::{Build, plan_tree};
 use sn_tree_read::fetch_data;
 use std::alloc::Global;
