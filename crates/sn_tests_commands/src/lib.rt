@@ -1,10 +1,9 @@
 //! Cases of the program: `sn_program::program` on the examples of the repository, on rows of calls with their replies, on
-//! words of the command line, on outputs that take nothing, and on images that it makes, keeps and cuts short.
+//! words of the command line, and on images that it makes, checks and cuts short.
 //!
 //! The files of the cases are in the data of `sn_tests_program`, where `examples` is a copy of the repository's folder of that
-//! name. `examples`, `rows` and `words` have each folder's cases, `faults` the lines that tell a fault, `images` what a run
-//! leaves of a file, and `commands` the steps of `commands.txt`, and of the images with what a check tells of them. `ended` is
-//! a run that has ended.
+//! name. `examples`, `rows` and `words` have each folder's cases, and `commands` the steps of `commands.txt`, and of the images
+//! with what a check tells of them. `ended` is a run that has ended.
 //!
 //! No clause promises what comes out, since it is compared: `sn_tests_program` runs it.
 #![tactic(auto)]
@@ -12,13 +11,12 @@
 mod commands;
 mod ended;
 mod examples;
-mod faults;
 mod files;
-mod images;
 mod rows;
 mod words;
 
 use anyhow::{Result, ensure};
+pub use ended::{Ended, staying};
 use sn_testing_tables::Report;
 use std::io;
 
@@ -27,20 +25,13 @@ fn wrong_cases(rt: &HostRuntime) -> io::Result<u64> {
     let examples = examples::run_all(rt)?;
     let rows = rows::run_all(rt)?;
     let words = words::run_all(rt)?;
-    let faults = faults::run_all(rt)?;
-    Ok(
-        examples
-            .saturating_add(rows)
-            .saturating_add(words)
-            .saturating_add(faults),
-    )
+    Ok(examples.saturating_add(rows).saturating_add(words))
 }
 
 /// Prints what isn't as the files say, and how many cases each of them had. An error is a file that can't be read or made, a
 /// want of memory, or a wrong case of those that print themselves, behind all others.
 pub fn run(report: &mut Report<'_>) -> Result<()> {
     let wrong = wrong_cases(report.runtime())?;
-    images::run(report)?;
     commands::run(report, "commands.txt")?;
     commands::run(report, "examples/images.txt")?;
     ensure!(wrong == 0, "cases of the program were wrong");

@@ -1,8 +1,8 @@
-//! The cases of crashes of a mounted file system, which `sn_tests_cuts` has.
+//! The cases of crashes of a mounted file system, which `sn_tests_cuts` and `sn_tests_schedules` have.
 //!
 //! They are a program of their own for the time that they take. They read no tables. What is printed is compared with
-//! `stdout`. The argument is a folder. With a number and a count behind it, so many of the schedules of `sn_tests_cuts` from
-//! that number on are cut short wherever they can be.
+//! `stdout`. The argument is a folder. With a number and a count behind it, so many schedules from that number on are cut
+//! short wherever they can be.
 //!
 //! ```text
 //! rt run -- .
@@ -30,8 +30,11 @@ fn asked(rt: &HostRuntime) -> Result<Option<Range<u32>>> {
 fn main(rt: HostRuntime) -> Result<()> {
     let mut report = Report::new(&rt)?;
     match asked(&rt)? {
-        Some(numbers) => sn_tests_cuts::sweep(&mut report, numbers)?,
-        None => sn_tests_cuts::run(&mut report)?,
+        Some(numbers) => sn_tests_schedules::sweep(&mut report, numbers)?,
+        None => {
+            sn_tests_cuts::run(&mut report)?;
+            sn_tests_schedules::run(&mut report)?;
+        }
     }
     report.end()
 }

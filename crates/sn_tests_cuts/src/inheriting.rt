@@ -6,7 +6,6 @@
 use anyhow::Result;
 use sn_device::{Fill, SECTOR_SIZE, Sector};
 use sn_testing_mounts::Disk;
-use std::alloc::Global;
 
 /// The first place of the log of epoch 1.
 const GATE: u64 = 304;

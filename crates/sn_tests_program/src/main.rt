@@ -15,7 +15,7 @@ use sn_testing_tables::Report;
 use std::env;
 
 /// The parts, in the order in which they run.
-const PARTS: [&str; 5] = ["image", "fs", "live", "commands", "runs"];
+const PARTS: [&str; 6] = ["image", "fs", "live", "commands", "outputs", "runs"];
 
 fn run(report: &mut Report<'_>, part: &str) -> Result<()> {
     match part {
@@ -23,6 +23,7 @@ fn run(report: &mut Report<'_>, part: &str) -> Result<()> {
         "fs" => sn_tests_fs::run(report),
         "live" => sn_tests_live::run(report),
         "commands" => sn_tests_commands::run(report),
+        "outputs" => sn_tests_outputs::run(report),
         "runs" => sn_tests_runs::run(report),
         _ => bail!("no such part: {part}"),
     }

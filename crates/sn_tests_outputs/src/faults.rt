@@ -1,10 +1,10 @@
 //! How faults are told: the line of each, and outputs that take nothing.
 
-use crate::ended::staying;
 use sn_mkfs::MkfsFault;
 use sn_model::{Damage, MountFault};
 use sn_program::{ProgramFault, Which, program, tell};
 use sn_script::ScriptFault;
+use sn_tests_commands::staying;
 use std::io::{ErrorKind, Write};
 use std::{fs, io, str};
 

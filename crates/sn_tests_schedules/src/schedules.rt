@@ -535,7 +535,7 @@ fn images_of(alloc: Global) -> Result<Images> {
     })
 }
 
-/// The schedules of the gate.
+/// Compares what the schedules of the gate leave with what they may. A want of memory is an error.
 pub fn run(report: &mut Report<'_>) -> Result<()> {
     let images = images_of(report.alloc())?;
     let mut frozen = 0;
@@ -555,7 +555,7 @@ fn some(report: &Report<'_>, images: &Images, frozen: &mut u32) -> Result<Tally>
     Ok(tally)
 }
 
-/// Those of these numbers, by hand, cut short wherever they can be.
+/// The same of the schedules of these numbers, by hand, cut short wherever they can be.
 pub fn sweep(report: &mut Report<'_>, numbers: Range<u32>) -> Result<()> {
     let images = images_of(report.alloc())?;
     let tally = each(report, &images, numbers)?;

@@ -1,12 +1,12 @@
 //! Images that the program makes: the file has the bytes of a formatted device in memory, whatever it had before. One that
 //! is in use is left as it was, by each command that would change it, and is read by those that only read it.
 
-use crate::ended::Ended;
 use anyhow::Result;
 use sn_device::{MemDevice, SECTOR_SIZE};
 use sn_filedev::FileDevice;
 use sn_testing_mounts::least_device;
 use sn_testing_tables::{Report, Tally};
+use sn_tests_commands::Ended;
 use std::fs;
 
 const IMAGE: &str = "made.img";

@@ -1,4 +1,4 @@
-//! A tree that was read plainly, beside one that is disk.
+//! A tree that was read plainly, beside that of a mounted disk.
 
 use crate::lines::{access_line, default_line, status_line};
 use anyhow::Result;

@@ -1,0 +1,22 @@
+//! Cases of what the program leaves: the lines that tell a fault, outputs that take nothing or little, and files of images.
+//!
+//! `faults` has the lines and the outputs, and `images` what a run leaves of a file, also of one in use. A run that has ended is
+//! that of `sn_tests_commands`.
+//!
+//! No clause promises what comes out, since it is compared: `sn_tests_program` runs it.
+#![tactic(auto)]
+
+mod faults;
+mod images;
+
+use anyhow::{Result, ensure};
+use sn_testing_tables::Report;
+
+/// Prints what isn't as it has to be, and how many cases there were. An error is a file that can't be read or made, a want of
+/// memory, or a wrong case of the faults, behind all others.
+pub fn run(report: &mut Report<'_>) -> Result<()> {
+    let wrong = faults::run_all(report.runtime())?;
+    images::run(report)?;
+    ensure!(wrong == 0, "faults that are told otherwise");
+    Ok(())
+}
