@@ -1,22 +1,18 @@
-//! Cases of a disk's parts below its trees: the device in memory, the block map with its allocator, and the two slots
-//! of roots.
+//! Cases of a disk's parts below its trees: the device in memory, and the two slots of roots.
 //!
-//! The tables of the cases are in the data of `sn_tests`: their head lines say where the answers come from. `device`,
-//! `map` and `alloc` have a table each. Of the roots, `images` reads disks whose bytes were laid out by hand,
-//! `following` has the ages of the next root, and `faults` fails each call of the device, and then lets it crash;
-//! `roots` makes their disks. Two layers over any device stand here as examples, with their contracts: `journal`, of
+//! The tables of the cases are in the data of `sn_tests`: their head lines say where the answers come from. `device` has
+//! one. Of the roots, `images` reads disks whose bytes were laid out by hand, `following` has the ages of the next root,
+//! and `faults` fails each call of the device, and then lets it crash; `roots` makes their disks. Two layers over any device stand here as examples, with their contracts: `journal`, of
 //! two sectors, and `point`, a mount and a consistency point as far as roots go.
 //!
 //! No clause promises what comes out, since it is compared: `sn_tests` runs it.
 #![tactic(auto)]
 
-mod alloc;
 mod device;
 mod faults;
 mod following;
 mod images;
 mod journal;
-mod map;
 mod point;
 mod roots;
 
@@ -27,8 +23,6 @@ use sn_testing_tables::Report;
 /// be read, or a want of memory.
 pub fn run(report: &mut Report<'_>) -> Result<()> {
     device::run(report)?;
-    report.table("disk/map.txt", map::steps)?;
-    report.table("disk/allocator.txt", alloc::takes)?;
     report.table("disk/images.txt", images::found)?;
     report.table("disk/following.txt", following::following)?;
     faults::run(report)
