@@ -6,12 +6,15 @@
 The gate is `rt ci` at the top of the repository; what it prints goes to FILE, or else to standard error. Run it with
 nothing beside it. The figures come from looking at the gate's processes some times a second, so a crate's are a little
 less than the whole, whose processor time the system counts: what is left over stands in the line `other`.
-On a virtual machine whose host is busy the same check takes two to four times the processor time: the last line has the
-share of time that the host took away. Compare runs only where it is small.
+On a virtual machine whose host is busy the same check takes two to four times the processor time. The last two lines tell it:
+the share of time that the host took away, and how much longer than at its fastest the same loop took in the mean, which is timed
+now and then while the gate runs. Others on the host slow that down too, by its memory and caches, where no time is taken away.
+Compare runs only where both are small.
 The status is that of the gate.
 """
 
 import os
+import random
 import re
 import resource
 import subprocess
@@ -23,6 +26,8 @@ from pathlib import Path
 TOP = Path(__file__).resolve().parent.parent
 TICKS = os.sysconf("SC_CLK_TCK")
 PERIOD = 0.2
+# The loop that is timed goes through a list of so many places, so many steps, each this many seconds.
+PLACES, STEPS, PAUSE = 1_000_000, 200_000, 20
 KINDS = ("proof and build", "tests", "wrong bodies")
 
 
@@ -72,6 +77,31 @@ def ticks():
     return sum(words), words[7]
 
 
+class Loop:
+    """A way through a list that no cache of a core has room for, and how long it took each time."""
+
+    def __init__(self):
+        order = list(range(PLACES))
+        random.Random(1).shuffle(order)
+        self.following, self.at, self.times, self.due = [0] * PLACES, 0, [], 0
+        for place, other in zip(order, order[1:] + order[:1]):
+            self.following[place] = other
+
+    def turn(self):
+        """Takes the next steps, if they are due."""
+        if time.time() < self.due:
+            return
+        begun, at = time.thread_time(), self.at
+        for _ in range(STEPS):
+            at = self.following[at]
+        self.times.append(time.thread_time() - begun)
+        self.at, self.due = at, time.time() + PAUSE
+
+    def slowness(self):
+        """How many times as long as the fastest steps these took in the mean."""
+        return sum(self.times) / len(self.times) / min(self.times)
+
+
 def report(seen, wall):
     """Prints a line for each crate, dearest first, and the whole."""
     costs = defaultdict(lambda: defaultdict(float))
@@ -91,14 +121,16 @@ def report(seen, wall):
 def main():
     out = open(sys.argv[1], "w") if len(sys.argv) > 1 else sys.stderr
     before, stolen_before = ticks()
-    begun, seen = time.time(), {}
+    begun, seen, loop = time.time(), {}, Loop()
     gate = subprocess.Popen([str(TOP / ".ci" / "rt"), "ci"], cwd=TOP, stdout=out, stderr=subprocess.STDOUT)
     while gate.poll() is None:
         look(gate.pid, seen)
+        loop.turn()
         time.sleep(PERIOD)
     report(seen, time.time() - begun)
     after, stolen = ticks()
     print(f"{100 * (stolen - stolen_before) / max(after - before, 1):.0f}% of the time was taken away by the host")
+    print(f"the same loop took {loop.slowness():.2f} times as long in the mean as at its fastest")
     sys.exit(gate.returncode)
 
 

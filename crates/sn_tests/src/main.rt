@@ -17,8 +17,8 @@ use sn_testing_tables::{Report, number_of};
 use std::env;
 
 /// The parts, in the order in which they run.
-const PARTS: [&str; 12] = [
-    "access", "calls", "memory", "block", "files", "disk", "formats", "records", "trees",
+const PARTS: [&str; 13] = [
+    "access", "calls", "memory", "block", "files", "map", "disk", "formats", "records", "trees",
     "changes", "builds", "points",
 ];
 
@@ -36,6 +36,7 @@ fn run(report: &mut Report<'_>, part: &str, count: Option<u32>) -> Result<()> {
         "memory" => sn_tests_memory::run(report),
         "block" => sn_tests_block::run(report),
         "files" => sn_tests_files::run(report),
+        "map" => sn_tests_map::run(report),
         "disk" => sn_tests_disk::run(report),
         "formats" => sn_tests_formats::run(report),
         "records" => sn_tests_records::run(report),

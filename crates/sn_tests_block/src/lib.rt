@@ -1,15 +1,12 @@
-//! Cases of the blocks of a device, and of the block map with its allocator.
+//! Cases of the blocks of a device.
 //!
 //! The tables of the cases are in the data of `sn_tests`: their head lines say where the answers come from. `steps` has
-//! the calls of the tables over any device, and `memory` and `file` have the tables over each device; `map` and `alloc`
-//! have a table each.
+//! the calls of the tables over any device, and `memory` and `file` have the tables over each device.
 //!
 //! No clause promises what comes out, since it is compared: `sn_tests` runs it.
 #![tactic(auto)]
 
-mod alloc;
 mod file;
-mod map;
 mod memory;
 mod steps;
 mod words;
@@ -21,7 +18,5 @@ use sn_testing_tables::Report;
 /// be read, one of the system that no answer tells, or a want of memory.
 pub fn run(report: &mut Report<'_>) -> Result<()> {
     memory::run(report)?;
-    file::run(report)?;
-    report.table("block/map.txt", map::steps)?;
-    report.table("block/allocator.txt", alloc::takes)
+    file::run(report)
 }

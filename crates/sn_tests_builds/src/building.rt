@@ -5,12 +5,12 @@ ghost use Rattle.sn_layout.specs.RootBody.{IsRootBody};
 use anyhow::{Context, Result, bail, ensure};
 use sn_block::{Blocks, ReadFault};
 use sn_cp_build::{Built, SnapshotBit, SnapshotEdit, build};
-use sn_device::MemDevice;
+use sn_device::{Device, MemDevice};
 use sn_layout::{Area, BlockTree, Geometry, Pointers, RootBody, Snapshots};
 use sn_limits::Limits;
 use sn_map::Map;
 use sn_overlay::Overlay;
-use sn_testing_disks::{part, put};
+use sn_testing_disks::put;
 use sn_testing_images::{Image, read_image};
 use sn_tree::{NewBlock, PlanFault};
 use sn_tree_read::TreeFault;
@@ -118,16 +118,6 @@ fn first_pointer(first: u32) -> Pointers {
     Pointers::new(&pointers)
 }
 
-/// Whether a device has these bytes.
-fn has_bytes(device: &MemDevice, bytes: &[u8]) -> bool {
-    for (i, sector) in device.contents().iter().enumerate() {
-        if part(bytes, i.saturating_mul(512), 512) != sector.as_slice() {
-            return false;
-        }
-    }
-    true
-}
-
 impl Disk {
     /// Of so many blocks, with an empty tree.
     pub fn new(alloc: Global, blocks: u32) -> Result<Disk> {
@@ -182,8 +172,7 @@ impl Disk {
     ) -> Result<Answer> {
         let mut blocks = self.device(alloc, failing)?;
         let answer = self.build_on(alloc, &mut blocks, overlay, words);
-        let device = blocks.into_device();
-        ensure!(has_bytes(&device, self.bytes.as_slice()), "a build writes");
+        ensure!(blocks.into_device().status().writes == 0, "a build writes");
         answer
     }
 

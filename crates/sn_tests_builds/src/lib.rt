@@ -12,7 +12,7 @@
 //!   that, it is built again of as many; with one less than it took it is full;
 //! - on a disk that is too small for some of the trees, one that needs no more than is free is never refused; behind
 //!   one that is refused the next is built over the tree that stands;
-//! - each read of the device that fails is told, and the device is as it was.
+//! - each read of the device that fails is told, and none of these builds writes.
 //!
 //! A build that is refused memory is made again, of the same root and overlay: so where each allocation is refused in
 //! turn (`bench/refusals.sh`), the same has to be printed.

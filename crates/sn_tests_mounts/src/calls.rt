@@ -1,6 +1,6 @@
 //! Records that real calls leave.
 
-use crate::sectors::{EPOCH, half_of};
+use crate::sectors::{EPOCH, clear_half, half_of};
 use anyhow::Result;
 use rand_pcg::Pcg32;
 use sn_testing_mounts::Disk;
@@ -56,19 +56,16 @@ fn mkdir(alloc: Global, path: &str, mode: u32) -> Result<String> {
     Ok(format!(in alloc; "0 mkdir {path} {mode:04o}")?)
 }
 
-/// The payloads of a log of drawn calls. Some calls are refused, and leave none.
-pub fn payloads(alloc: Global, random: &mut Pcg32) -> Result<Vec<Vec<u8>>> {
-    let half = called_half(alloc, random)?;
+/// The payloads of a log of drawn calls on the empty tree of a disk's first root. They are too few to fill the log, so that they
+/// make no other root. Some calls are refused, and leave none.
+pub fn payloads(alloc: Global, disk: &mut Disk, random: &mut Pcg32) -> Result<Vec<Vec<u8>>> {
+    let half = called_half(alloc, disk, random)?;
     payloads_in(alloc, half.as_slice())
 }
 
 /// The half behind drawn calls.
-fn called_half(alloc: Global, random: &mut Pcg32) -> Result<Vec<u8>> {
-    let mut disk = Disk::large(alloc)?;
-    called_half_of(alloc, &mut disk, random)
-}
-
-fn called_half_of(alloc: Global, disk: &mut Disk, random: &mut Pcg32) -> Result<Vec<u8>> {
+fn called_half(alloc: Global, disk: &mut Disk, random: &mut Pcg32) -> Result<Vec<u8>> {
+    clear_half(disk)?;
     ask_some(alloc, disk, random)?;
     half_of(disk)
 }

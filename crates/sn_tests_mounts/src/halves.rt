@@ -1,4 +1,4 @@
-//! Ten thousand halves, one after the other on one device.
+//! Ten thousand halves, one after the other on one device, and on another one the calls whose records some of them begin with.
 
 use crate::calls;
 use crate::counts::Counts;
@@ -34,24 +34,33 @@ fn count_all(report: &Report<'_>, counts: &mut Counts) -> Result<()> {
 }
 
 fn take_turns(report: &Report<'_>, counts: &mut Counts, disk: &mut Disk) -> Result<()> {
+    let mut called = Disk::large(report.alloc())?;
     let mut random = Pcg32::new(1, 0);
     for turn in 0..HALVES / TURN {
-        take_turn(report, counts, disk, &mut random, turn * TURN)?;
+        let made = calls::payloads(report.alloc(), &mut called, &mut random)?;
+        take_turn(
+            report,
+            counts,
+            disk,
+            made.as_slice(),
+            &mut random,
+            turn * TURN,
+        )?;
     }
     Ok(())
 }
 
-/// The halves from one on that begin with the records of one list of calls.
+/// The halves from one on that may begin with the records of one list of calls.
 fn take_turn(
     report: &Report<'_>,
     counts: &mut Counts,
     disk: &mut Disk,
+    made: &[Vec<u8>],
     random: &mut Pcg32,
     first: u32,
 ) -> Result<()> {
-    let made = calls::payloads(report.alloc(), random)?;
     for half in first..first.saturating_add(TURN) {
-        draw_half(report.alloc(), disk, made.as_slice(), random)?;
+        draw_half(report.alloc(), disk, made, random)?;
         compare(report, counts, disk, half)?;
     }
     Ok(())

@@ -3,7 +3,7 @@
 use anyhow::{Result, ensure};
 use rand_core::Rng;
 use rand_pcg::Pcg32;
-use sn_device::{SECTOR_SIZE, Sector};
+use sn_device::{Fill, SECTOR_SIZE, Sector};
 use sn_testing_mounts::Disk;
 use sn_testing_payloads::{below, is_once_in};
 
@@ -34,6 +34,14 @@ pub fn half_of(disk: &Disk) -> Result<Vec<u8>> {
 pub fn put(disk: &mut Disk, place: u64, sector: &Sector) -> Result<()> {
     ensure!(place < PLACES, "no place {place}");
     disk.write(FIRST + place, sector)
+}
+
+/// Leaves no record in the half, so that a mount finds the tree of the root alone.
+pub fn clear_half(disk: &mut Disk) -> Result<()> {
+    for place in 0..PLACES {
+        put(disk, place, &[0; SECTOR_SIZE])?;
+    }
+    disk.crash(Fill::New)
 }
 
 /// Lets the first root count again, and its empty tree, which the mount that made the second one has left as it was.

@@ -1,4 +1,4 @@
-//! The cases of a mounted file system, of runs and of the program.
+//! The cases of a mounted file system and of the program.
 //!
 //! Each part is a crate `sn_tests_..` of its own, which says what it compares. One program runs them all, since two compilers
 //! build each program with all that it stands on. It runs in the folder `data/`, where `examples` is a copy of the repository's
@@ -6,7 +6,7 @@
 //!
 //! ```text
 //! rt run -- .
-//! rt run -- . runs
+//! rt run -- . live
 //! ```
 #![tactic(auto)]
 
@@ -15,7 +15,7 @@ use sn_testing_tables::Report;
 use std::env;
 
 /// The parts, in the order in which they run.
-const PARTS: [&str; 6] = ["image", "fs", "live", "commands", "outputs", "runs"];
+const PARTS: [&str; 5] = ["image", "fs", "live", "commands", "outputs"];
 
 fn run(report: &mut Report<'_>, part: &str) -> Result<()> {
     match part {
@@ -24,7 +24,6 @@ fn run(report: &mut Report<'_>, part: &str) -> Result<()> {
         "live" => sn_tests_live::run(report),
         "commands" => sn_tests_commands::run(report),
         "outputs" => sn_tests_outputs::run(report),
-        "runs" => sn_tests_runs::run(report),
         _ => bail!("no such part: {part}"),
     }
 }

@@ -1,11 +1,11 @@
 //! Cases of runs: `sn_run::run` on lists of events with restarts among them.
 //!
-//! The files of the cases are in the data of `sn_tests_program`. `runs.txt` is one run on a new disk, an event a line with its
+//! The files of the cases are in the data of `sn_tests_restarts`. `runs.txt` is one run on a new disk, an event a line with its
 //! reply (`events`). `frozen` has runs between which a snapshot is put on the disk (`frozen.txt`). `refused` makes a run with
 //! each call of the device refused in turn, and looks at what it answers from then on; `torn` cuts runs off behind each of
 //! their writes by crashes of many kinds, and looks at what they leave (`torn.txt`, and `points.txt` of consistency points).
 //!
-//! No clause promises what comes out, since it is compared: `sn_tests_program` runs it.
+//! No clause promises what comes out, since it is compared: `sn_tests_restarts` runs it.
 #![tactic(auto)]
 
 mod events;

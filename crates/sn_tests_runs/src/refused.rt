@@ -8,7 +8,7 @@ use anyhow::{Result, bail, ensure};
 use sn_device::{Device, MemDevice};
 use sn_model::{Call, End, Errno, Event, MountFault, Progress, Reply};
 use sn_run::Ran;
-use sn_testing_mounts::new_device;
+use sn_testing_mounts::least_device;
 use sn_testing_tables::{Report, Tally};
 use std::alloc::Global;
 
@@ -231,7 +231,7 @@ fn written(device: &MemDevice) -> u64 {
 /// What a run of the events tells of a refused call, the one of this number, and how many writes and syncs it made.
 fn refused_at(alloc: Global, events: &[Event], call: u64) -> Result<(Told, u64)> {
     ensure!(call > 0, "calls are counted from 1");
-    let mut device = new_device(alloc)?;
+    let mut device = least_device(alloc)?;
     device.fail_at(call);
     let Ran {
         replies,
