@@ -2,7 +2,7 @@
 //! [`sn_program::program`], which does the rest.
 #![tactic(auto)]
 
-use sn_program::{Person, ProgramFault, program, tell};
+use sn_program::{Person, ProgramFault, program, refuse};
 use std::env::Env;
 use std::process::ExitCode;
 use std::{env, io};
@@ -25,7 +25,7 @@ fn main(rt: HostRuntime) -> ExitCode {
     let mut person = Person::at(rt.stderr());
     let status = match words(&rt) {
         Ok(words) => program(&rt, words.as_slice(), &mut out, &mut err, &mut person),
-        Err(error) => tell(fault_of(error), &mut err),
+        Err(error) => refuse(fault_of(error), &mut err, &mut person),
     };
     ExitCode::from(status)
 }

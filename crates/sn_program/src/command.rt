@@ -21,7 +21,7 @@ use crate::copy::{CutShort, answer_cut};
 use crate::ending::Ending;
 use crate::fault::{ProgramFault, Which, on_file, tell};
 use crate::output::write_replies;
-use crate::person::{advise, explain};
+use crate::person::{advise, explain, show_commands};
 use crate::progress::Progress;
 use crate::run::{Answered, answer, outcome};
 use crate::script::read_events;
@@ -325,10 +325,21 @@ fn perform<
     }
 }
 
+/// Tells a fault of the words themselves: a person whose words are no command is shown the commands. Gives the exit status.
+pub fn refuse<E: Write, P: Write>(fault: ProgramFault, err: &mut E, person: &mut P) -> u8
+    ensures { result ≡ exit_of fault }
+{
+    let status = tell(fault, err);
+    if let ProgramFault::Usage = fault {
+        show_commands(person);
+    }
+    status
+}
+
 /// Does what the words ask for, and gives the exit status: 0 where it was done, 3 where an image was checked and is damaged,
 /// 2 for words that are no command, else 1. A fault is told by a line on standard error, also that of a run which was cut
 /// short and whose remains were saved, where the status is 0. `person` is told which file failed and why, what a damage
-/// means, and how far a long run has come.
+/// means, how far a long run has come, and which commands there are where the words are none.
 pub fn program<
     F: FileExt + OpenFile + LockFile + Read + Drop,
     R: Files<File = F> + AllocGlobal + Clock,
@@ -348,6 +359,6 @@ pub fn program<
 {
     match parse(rt.alloc(), words) {
         Ok(task) => perform(rt, task, out, err, person),
-        Err(fault) => tell(ProgramFault::from(fault), err),
+        Err(fault) => refuse(ProgramFault::from(fault), err, person),
     }
 }

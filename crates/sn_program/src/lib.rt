@@ -31,7 +31,7 @@ mod script;
 mod watched;
 
 pub use checking::check_on;
-pub use command::program;
+pub use command::{program, refuse};
 pub use copy::{CutShort, answer_cut};
 pub use ending::Ending;
 pub use fault::{ProgramFault, Which, tell};

@@ -83,3 +83,20 @@ pub(crate) fn advise<P: Write>(damage: Damage, block: u32, task: Task<'_>, perso
         meaning(damage)
     );
 }
+
+/// The commands, a line each, and where more is told.
+const COMMANDS: [&str; 5] = [
+    "snapfs mkfs IMAGE BLOCKS: formats IMAGE with 256 to 1048576 blocks of 4096 bytes, over what it has",
+    "snapfs run IMAGE SCRIPT: mounts IMAGE and makes the calls of SCRIPT, with a reply for each line",
+    "snapfs check IMAGE: tells whether all of IMAGE is sound, or its first fault, and only reads",
+    "snapfs stop-at K FILL IMAGE SCRIPT OUT: runs SCRIPT on a copy that crashes after K writes, and saves it to OUT; \
+     FILL is old, new, zero, one or junk",
+    "README.md tells more, docs/SCRIPT.md has the calls, and docs/FAULTS.md what to do about a fault",
+];
+
+/// Shows the commands to a person whose words are none of them.
+pub(crate) fn show_commands<P: Write>(person: &mut P) {
+    for line in &COMMANDS {
+        let _ = writeln!(person, "{line}");
+    }
+}

@@ -4,7 +4,8 @@
 //! write: those of standard output, of standard error, and those that a person is left with. Or it makes a file:
 //! `NAME << LINE|LINE..` a script of these lines, of which one may end in `HEX*COUNT` for so many such bytes, `NAME from OTHER
 //! LENGTH` the front of another file, `NAME with OTHER COUNT` another file and so many zeros behind it, `NAME set OFFSET BYTE`
-//! one byte of it anew, `NAME put OFFSET HEX` several. `examples/images.txt` has such lines too, for a gallery of images.
+//! one byte of it anew, `NAME put OFFSET HEX` several. `examples/images.txt` and `examples/crashes.txt` have such lines too, for a
+//! gallery of images and for what crashes leave.
 
 use crate::ended::{Ended, staying};
 use anyhow::{Context, Result, bail};

@@ -2,8 +2,8 @@
 //! words of the command line, and on images that it makes, checks and cuts short.
 //!
 //! The files of the cases are in the data of `sn_tests_program`, where `examples` is a copy of the repository's folder of that
-//! name. `examples`, `rows` and `words` have each folder's cases, and `commands` the steps of `commands.txt`, and of the images
-//! with what a check tells of them. `ended` is a run that has ended.
+//! name. `examples`, `rows` and `words` have each folder's cases, and `commands` the steps of `commands.txt`, of the images
+//! with what a check tells of them, and of what crashes leave. `ended` is a run that has ended.
 //!
 //! No clause promises what comes out, since it is compared: `sn_tests_program` runs it.
 #![tactic(auto)]
@@ -34,6 +34,7 @@ pub fn run(report: &mut Report<'_>) -> Result<()> {
     let wrong = wrong_cases(report.runtime())?;
     commands::run(report, "commands.txt")?;
     commands::run(report, "examples/images.txt")?;
+    commands::run(report, "examples/crashes.txt")?;
     ensure!(wrong == 0, "cases of the program were wrong");
     Ok(())
 }
