@@ -10,7 +10,7 @@ top=$(cd "$(dirname "$0")/.." && pwd)
 program=$top/crates/sn_bin/out/sn_bin
 work=$(mktemp -d)
 trap 'rm -rf "$work"' EXIT
-"$top/snapfs" mkfs "$work/image" 4096 > /dev/null
+"$top/snapfs" --build
 
 small='u::rwx,g::---,o::rwx'
 large=$(awk 'BEGIN { printf "u::rwx,g::---"; for (i = 1; i <= 32; i++) printf ",g:%d:rwx", 1000 + i; print ",m::rwx,o::---" }')

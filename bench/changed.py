@@ -125,7 +125,7 @@ def main(words):
     scripts = [path.read_bytes() for path in sorted((TOP / "examples").glob("*.snap"))]
     ended, bad = {}, 0
     with tempfile.TemporaryDirectory() as name:
-        subprocess.run([TOP / "snapfs", "mkfs", f"{name}/image", "256"], stdout=subprocess.DEVNULL, check=True)
+        subprocess.run([TOP / "snapfs", "--build"], check=True)
         case = Case(Path(name), scripts)
         for number in range(count):
             drawn = random.Random(seed + number)

@@ -20,7 +20,7 @@ for tool in mkfs.ext4 e2fsck; do
 done
 work=$(mktemp -d)
 trap 'rm -rf "$work"' EXIT
-if [ $# -eq 0 ]; then "$top/snapfs" mkfs "$work/built" 256 > /dev/null; fi
+if [ $# -eq 0 ]; then "$top/snapfs" --build; fi
 
 python3 - "$top/bench" "$work" "$blocks" <<'P'
 import sys

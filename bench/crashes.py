@@ -359,7 +359,7 @@ def main():
     words = asked()
     with tempfile.TemporaryDirectory() as folder:
         if words.snapfs is None:
-            subprocess.run([TOP / "snapfs", "mkfs", f"{folder}/image", "256"], stdout=subprocess.DEVNULL, check=True)
+            subprocess.run([TOP / "snapfs", "--build"], check=True)
         words.snapfs, words.refuse = (words.snapfs or BUILT).resolve(), f"{folder}/refuse.so"
         (Path(folder) / "refuse.c").write_text(REFUSE)
         subprocess.run(["gcc", "-O1", "-shared", "-fPIC", "-w", "-o", words.refuse, f"{folder}/refuse.c", "-ldl"], check=True)

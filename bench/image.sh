@@ -17,7 +17,8 @@ top=$(cd "$(dirname "$0")/.." && pwd)
 program=$top/crates/sn_bin/out/sn_bin
 work=$(mktemp -d -p "${1:-${TMPDIR:-/tmp}}")
 trap 'rm -rf "$work"' EXIT
-"$top/snapfs" mkfs "$work/fresh" 32768 > /dev/null
+"$top/snapfs" --build
+"$program" mkfs "$work/fresh" 32768 > /dev/null
 
 # scripts KIND COUNT: the scripts of so many objects in all; how many there are
 cat > "$work/scripts.py" <<'P'

@@ -334,11 +334,11 @@ def tell_all(count, *words):
     return differing == 0
 
 
-def program_at(path, folder):
-    """The program of a path, or the one that the wrapper builds, which is called without it from then on."""
+def program_at(path):
+    """The program of a path, or the one that the wrapper builds."""
     if path is not None:
         return Path(path).resolve()
-    subprocess.run([TOP / "snapfs", "mkfs", Path(folder) / "built", "256"], check=True, stdout=subprocess.DEVNULL)
+    subprocess.run([TOP / "snapfs", "--build"], check=True)
     return BUILT
 
 
@@ -350,7 +350,7 @@ def main():
     parser.add_argument("--save", nargs=2, metavar=("NUMBER", "FILE"))
     words = parser.parse_args()
     with tempfile.TemporaryDirectory() as folder:
-        program = program_at(words.snapfs, folder)
+        program = program_at(words.snapfs)
         images = worked_bytes(Program(program, Path(folder))) | made_bytes()
         bases = [Base(name, image) for name, image in images.items()]
         if words.save:

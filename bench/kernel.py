@@ -680,9 +680,8 @@ def compare(name, lines):
 
 
 def build():
-    """Builds the program where it isn't up to date: the wrapper does, whatever the words are."""
-    with tempfile.TemporaryDirectory() as folder:
-        subprocess.run([TOP / "snapfs", "mkfs", f"{folder}/image", "256"], stdout=subprocess.DEVNULL, check=True)
+    """Builds the program where it isn't up to date."""
+    subprocess.run([TOP / "snapfs", "--build"], check=True)
 
 
 def main(words):

@@ -65,7 +65,7 @@ def main():
     names = [f"{number:05}".ljust(length, "n") for number in range(count)]
     with tempfile.TemporaryDirectory() as work:
         image = Path(work) / "image"
-        subprocess.run([TOP / "snapfs", "mkfs", Path(work) / "empty", "256"], check=True, stdout=subprocess.DEVNULL)
+        subprocess.run([TOP / "snapfs", "--build"], check=True)
         write_image(image, tree_of(names), 32768)
         login = ["0 login 0 0 -"]
         last = f"0 stat /d/{names[-1]}"

@@ -65,7 +65,8 @@ def main():
     files, size, blocks = [int(word) for word in sys.argv[1:]] + [5000, 3000, 16384][len(sys.argv) - 1 :]
     with tempfile.TemporaryDirectory() as work:
         work = Path(work)
-        subprocess.run([TOP / "snapfs", "mkfs", work / "empty", str(blocks)], check=True, stdout=subprocess.DEVNULL)
+        subprocess.run([TOP / "snapfs", "--build"], check=True)
+        subprocess.run([PROGRAM, "mkfs", work / "empty", str(blocks)], check=True, stdout=subprocess.DEVNULL)
         tree, script, wanted = tree_of(files, size)
         write_image(work / "image", tree, blocks)
         (work / "none").write_text("")

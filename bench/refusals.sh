@@ -20,8 +20,9 @@ set -eu
 top=$(cd "$(dirname "$0")/.." && pwd)
 work=$(mktemp -d)
 trap 'rm -rf "$work"' EXIT
-"$top/snapfs" mkfs "$work/fresh" 256 > /dev/null
+"$top/snapfs" --build
 program=$top/crates/sn_bin/out/sn_bin
+"$program" mkfs "$work/fresh" 256 > /dev/null
 
 cat > "$work/refuse.c" <<'C'
 #define _GNU_SOURCE

@@ -11,7 +11,8 @@ program=$top/crates/sn_bin/out/sn_bin
 work=$(mktemp -d)
 trap 'rm -rf "$work"' EXIT
 : > "$work/nothing"
-"$top/snapfs" mkfs "$work/image" 4096 > /dev/null
+"$top/snapfs" --build
+"$program" mkfs "$work/image" 4096 > /dev/null
 
 mkdirs() {
     awk -v count="$1" 'BEGIN { print "0 login 0 0 -"; for (i = 0; i < count; i++) printf "0 mkdir /d%05d 0755\n", i }'
@@ -53,5 +54,5 @@ for script in mkdirs read_alone nobody_logged_in statuses one_line; do
         'BEGIN { printf "%-18s %10d %9.1f %8.1f %10d %10.1f\n", name, bytes, micros / 1000, micros / lines, peak, peak * 1024 / bytes }'
 done
 direct=$(least "$program" run "$work/image" "$work/nothing")
-wrapped=$(least "$top/snapfs" run "$work/image" "$work/nothing")
+wrapped=$(SNAPFS_BUILT=1 least "$top/snapfs" run "$work/image" "$work/nothing")
 awk -v d="$direct" -v w="$wrapped" 'BEGIN { printf "the wrapper adds %.1f ms\n", (w - d) / 1000 }'

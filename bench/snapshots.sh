@@ -19,7 +19,7 @@ place=/tmp
 if [ -w /dev/shm ]; then place=/dev/shm; fi
 work=$(mktemp -d -p "$place")
 trap 'rm -rf "$work"' EXIT
-if [ $# -eq 0 ]; then "$top/snapfs" mkfs "$work/built" 256 > /dev/null; rm "$work/built"; fi
+if [ $# -eq 0 ]; then "$top/snapfs" --build; fi
 
 python3 - "$top/bench" "$work" <<'P'
 import sys
