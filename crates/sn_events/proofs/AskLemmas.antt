@@ -34,25 +34,20 @@ use Rattle.sn_model.proofs.DroppedLemmas.{all_held, dropped_same}
 use Rattle.sn_model.proofs.OutcomeLemmas.{IsAlone, IsDecided, is_asked}
 use Rattle.sn_model.proofs.PointedLemmas.{pointed_world}
 use Rattle.sn_model.proofs.SnapshotLemmas.{create_is, delete_is}
-use Rattle.sn_overlay.specs.Needs.{nameless_in}
-use Rattle.sn_room.specs.Rooms.{dropping}
-use Rattle.sn_core.specs.Numbering.{Numbers}
 use Rattle.sn_core.specs.Served.{Chooses}
-use Rattle.sn_core.proofs.NumberLemmas.{same_numbers}
 use Rattle.sn_block.proofs.CountLemmas.{later-is}
 use Rattle.sn_device.specs.declared.status.Status.{Status}
-use Rattle.sn_opening.specs.Worlds.{FrozenTrees}
 use Rattle.sn_held.specs.Held.{Held}
 use Rattle.sn_held.proofs.EventLemmas.{runs_show}
 use Rattle.sn_cp_progress.specs.Meaning.{RunsWith}
 use Rattle.sn_cp_whole.specs.Making.{CanBeAsked}
 use Rattle.sn_cp_whole.specs.declared.fault.PointFault.{PointFault}
-use Rattle.sn_events.specs.Answers.{Answers, AnswersFrom, AsksFirst, HasMadePoint, HasNoChange, SinceIn}
+use Rattle.sn_events.specs.Answers.{Answers, AnswersFrom, AsksFirst, HasMadePoint, HasNoChange}
 use Rattle.sn_events.specs.Pointing.{CanPoint, Finishes, IsPointed, Points, errno_of_point, stops_for}
-use Rattle.sn_events.proofs.CallLemmas.{nothing_dropped, stays_since}
 use Rattle.sn_events.proofs.DecisionLemmas.{has_no_change}
 use Rattle.sn_events.proofs.FinishLemmas.{behind_finish, cut_finish, is_fin}
-use Rattle.sn_events.proofs.PointLemmas.{PointEvent, in_any_world, made_point, refused_costs, running_between, unmade_in_call, unpointed_answers}
+use Rattle.sn_events.proofs.PointLemmas.{PointEvent, in_any_world, made_point, running_between, unmade_in_call, unpointed_answers, unchanged_call}
+use Rattle.sn_events.proofs.CallLemmas.{drops_none, carries_none}
 
 -- a call whose tests pass may take memory, and what it asks for can be made of the snapshots
 abbrev CanAsk : World → Call → Outcome → Type 0
@@ -157,31 +152,6 @@ no_change w kept session c asks change is =
     let none = nothing w session c asks is.outcome is.decided in
     has_no_change w kept session c is.outcome (record { change = None; caller = is.outcome.caller; lost = None }) is.decided (subst (λ (p : Pending). Chooses w.live kept p is.outcome.caller (record { change = None; caller = is.outcome.caller; lost = None })) (sym none.0) refl) refl change is
 
--- ---- numbers, where only frozen trees change
-
-with_frozen : (session : ℕ) (c : Call) (w : World) (frozen : FrozenTrees) (kept : ℕ → Bool) → Numbers (event.Call session c) w kept (record w { frozen = frozen }) kept
-with_frozen session c w frozen kept =
-    let same = same_numbers session c w w kept kept refl refl in
-    record {
-      next = λ n g. same.next n (record { unused = g.unused; used = g.used });
-      keeps = record {
-        goes_on = λ none n. same.keeps.goes_on (λ given g. none given (record { unused = g.unused; used = g.used })) n;
-        begins_anew = λ given g back n. same.keeps.begins_anew given (record { unused = g.unused; used = g.used }) back n;
-      };
-    }
-
-numbers_pointed : (session : ℕ) (c : Call) (w : World) (p : AskedPoint) (kept : ℕ → Bool) → Numbers (event.Call session c) w kept (pointed p w) kept
-numbers_pointed session c w Unasked kept = same_numbers session c w w kept kept refl refl
-numbers_pointed session c w Plain kept = same_numbers session c w w kept kept refl refl
-numbers_pointed session c w (Freezes name) kept = with_frozen session c w (map.insert w.frozen name w.live) kept
-numbers_pointed session c w (Thaws name) kept = with_frozen session c w (map.remove w.frozen name) kept
-
-since_pointed : (session : ℕ) (c : Call) (w : World) (p : AskedPoint) (since : ℕ → Bool) → SinceIn (event.Call session c) None (Running w) since (Running (pointed p w)) since
-since_pointed session c w Unasked since = stays_since session c None (Running w) since
-since_pointed session c w Plain since = stays_since session c None (Running w) since
-since_pointed session c w (Freezes name) since = stays_since session c None (Running w) since
-since_pointed session c w (Thaws name) since = stays_since session c None (Running w) since
-
 -- ---- what is answered
 
 -- it is made, and the call is answered
@@ -191,21 +161,14 @@ asked_answers old new session c asked whole p = record {
   fin = old;
   finish = inl refl;
   mid = new;
-  point = inr made;
+  point = inr (tt, made);
   may = ap (λ (s : Status). s.failures) p.costs;
   next = Running after;
   step = record { next = after; becomes = becomes old.world session c asked.asks asked.outcome asked.decided whole; runs = refl };
-  means = (refl, running_between new after p.point p.runs);
+  means = (refl, running_between new after p.fresh.between p.runs);
   lasts = record { moments = p.moments; answered = runs_show new after p.runs.runs };
-  writes = inr (inr asked, p.touched);
-  begins = tt;
-  numbers = numbers_pointed session c old.world asked.outcome.point new.kept;
-  since = since_pointed session c old.world asked.outcome.point new.kept_since;
-  room = inl (none, nothing_left);
   later = later-is _ _ old.status new.status p.costs;
-  costs = (λ _. made, inl (none, refl));
-  steps = tt;
-  works = tt;
+  leaves = (λ _. (made, refl), inl (record { none = none; drops = drops_none new; carries = carries_none new }));
 }
   where
     after : World
@@ -217,9 +180,6 @@ asked_answers old new session c asked whole p = record {
     none : HasNoChange new.world new.kept session c
     none = no_change new.world new.kept session c asked.asks
 
-    nothing_left : new.room ≡ dropping (nameless_in new.world.live - nameless_in after.live) new.room
-    nothing_left = subst (λ (w : World). new.room ≡ dropping (nameless_in new.world.live - nameless_in w.live) new.room) p.world (nothing_dropped (nameless_in new.world.live) new.room)
-
 -- it isn't made
 asked_point : (old : Held) (session : ℕ) (c : Call) → IsWorld version_1 old.world → AsksFirst old session c → PointEvent (event.Call session c) old old.world
 asked_point old session c whole asked = record {
@@ -229,17 +189,8 @@ asked_point old session c whole asked = record {
   age = ((asked.outcome, asked.decided, inr asked.asks), record { told = refl; same = refl });
   after = settle after;
   cut = record { outcome = asked.outcome; decided = asked.decided; writes = inr asked.asks; next = after; comes = comes_to old.world session c asked.asks asked.outcome asked.decided whole; stops = record { told = refl; left = refl } };
-  writes = λ d touched. inr (inr asked, touched);
-  begins = λ m s d. tt;
-  numbers = λ m. same_numbers session c old.world old.world old.kept old.kept refl refl;
-  since = λ m n. refl;
-  room = λ m. refl;
-  any_room = λ before after d room. tt;
-  steps = λ m new. tt;
-  works = λ m new. tt;
-  costs_none = refused_costs old session c;
-  costs_read = λ new costs. costs;
-  costs_cut = λ new cut. inr cut;
+  unchanged = unchanged_call old session c;
+  cut_off = λ new cut. inr cut;
 }
   where
     after : World
@@ -269,7 +220,7 @@ asked_behind old fin new session c asked whole finishes points =
     in_any_world (event.Call session c) old new asked.outcome.told false (λ r.
     let f = is_fin old fin (finishes r) r in
     let still = asks_still old fin session c f.world asked in
-    behind_finish (event.Call session c) old fin new f (inr asked) asked.outcome.told false tt tt
+    behind_finish (event.Call session c) old fin new f tt (inr asked) asked.outcome.told false
     (asked_answers fin new session c still (subst (IsWorld version_1) (sym f.world) whole) (points f.ready (can_be_asked fin session c still))))
 
 pub asked_unpointed : (old fin new : Held) (session : ℕ) (c : Call) (fault : PointFault) (asked : AsksFirst old session c) → IsWorld version_1 old.world → Finishes (Ok tt) old fin → Points (Err fault) asked.outcome.point fin new → Answers (event.Call session c) (refused (errno_of_point fault)) old false new (stops_for fault)
@@ -278,7 +229,7 @@ asked_unpointed old fin new session c fault asked whole finishes points =
     in_any_world (event.Call session c) old new (refused (errno_of_point fault)) (stops_for fault) (λ r.
     let f = is_fin old fin (finishes r) r in
     let still = asks_still old fin session c f.world asked in
-    behind_finish (event.Call session c) old fin new f (inr asked) (refused (errno_of_point fault)) (stops_for fault) tt tt
+    behind_finish (event.Call session c) old fin new f tt (inr asked) (refused (errno_of_point fault)) (stops_for fault)
     (unpointed_answers (event.Call session c) fin (asked_point fin session c (subst (IsWorld version_1) (sym f.world) whole) still) f.between f.ready asked.outcome.point (λ d either. either) fault new
     (unmade_in_call fault session c asked.outcome.point fin new (points f.ready (can_be_asked fin session c still)))))
 

@@ -33,10 +33,10 @@ use Rattle.sn_core.specs.Served.{Chooses}
 use Rattle.sn_live_world.specs.declared.fault.CallFault.{CallFault}
 use Rattle.sn_live_world.specs.declared.fault.CallFault.TheVariants as lack
 use Rattle.sn_core.specs.Numbering.{gives_kept, has_closed}
-use Rattle.sn_numbers.specs.Numbers.{since_after}
-use Rattle.sn_core.proofs.NumberLemmas.{and_not_false, kept_by, same_numbers}
+use Rattle.sn_numbers.specs.Numbers.{since_after, kept_after}
+use Rattle.sn_core.proofs.NumberLemmas.{and_not_false}
 use Rattle.sn_core.proofs.AskedLemmas.{chosen_stays}
-use Rattle.sn_core.proofs.StepLemmas.{MadeBy, chosen_becomes, chosen_closed, chosen_served, chosen_whole, change_takes, opening_takes, served_whole}
+use Rattle.sn_core.proofs.StepLemmas.{MadeBy, chosen_becomes, chosen_whole, change_takes, opening_takes, served_whole}
 use Rattle.sn_block.proofs.CountLemmas.{later-is, later-same}
 use Rattle.sn_device.specs.declared.status.Status.{Status}
 use Rattle.sn_changed.specs.Changed.{HasChanged}
@@ -45,8 +45,6 @@ use Rattle.sn_changed.proofs.DroppedLemmas.{callers_drop}
 use Rattle.sn_device.specs.Sectors.{AreSectors}
 use Rattle.sn_device.specs.Disk.{Disk, IsSynced, reads}
 use Rattle.sn_device.specs.Crash.{Touches}
-use Rattle.sn_device.proofs.CrashLemmas.{Touches-start}
-use Rattle.sn_block.specs.Effects.{Nowhere}
 use Rattle.sn_ondisk.specs.LogHalf.{InHalf}
 use Rattle.sn_log.specs.Positions.{base_at, behind}
 use Rattle.sn_held.specs.Events.{IsOfTree, LeavesEither, LeavesMore}
@@ -54,11 +52,11 @@ use Rattle.sn_held.specs.Held.{CarriesOn, Going, Held, Kept}
 use Rattle.sn_cp_progress.specs.Meaning.{HasRoomWith, Means, RunsWith}
 use Rattle.sn_cp_progress.proofs.MeaningLemmas.{appends_with, counted_with, room_with, root_with, runs_with, stays_lasts}
 use Rattle.sn_sound.specs.Logs.{HasAgeLeft}
-use Rattle.sn_examine.specs.Failing.{CostsAtMost, HasFailed}
+use Rattle.sn_examine.specs.Failing.{HasFailed}
 use Rattle.sn_block.specs.Counts.{FailsRead, IsLater}
 use Rattle.sn_model.specs.Calls.{ready}
 use Rattle.sn_held.proofs.EventLemmas.{left_of_tree, runs_lasts, stops_between, stops_lasts}
-use Rattle.sn_events.specs.Answers.{Answers, AsksFirst, Costs, HasAll, IsChangeOf, Lacks, LacksFirst, MayMeet, NumbersIn, RoomIn, SinceIn, Writes, fits_with, is_fitting, writes_of}
+use Rattle.sn_events.specs.Answers.{Answers, AsksFirst, HasAll, IsChangeOf, Lacks, LacksFirst, MayMeet, fits_with, is_fitting, writes_of, HasDropped, Leaves, with_record, CarriesCharge}
 use Rattle.sn_events.specs.Changing.{FailsChange, IsLogged, errno_of, stops}
 use Rattle.sn_events.specs.Mounted.{RunsNow}
 use Rattle.sn_events.specs.Serving.{DropsFiles, IsUndecided, Serves, ServesFrom, ServesTo, Turns, reply_to}
@@ -68,12 +66,7 @@ use Rattle.sn_changed.proofs.DecidedLemmas.{logged_keep_nameless}
 use Rattle.sn_events.proofs.ReadLemmas.{fails_read}
 use Rattle.sn_events.proofs.DecisionLemmas.{CanBeMade, can_be_made, charge_of_change, is_charged, is_logged, refused_none}
 
--- no node is new
-stays_numbers : (session : ℕ) (c : Call) (met : Option Mishap) (s : State) (kept : ℕ → Bool) → NumbersIn (event.Call session c) met s kept s kept
-stays_numbers session c met (Running w) kept = same_numbers session c w w kept kept refl refl
-stays_numbers session c met (Stopped before after) kept = tt
-
--- and none has gone
+-- no file has gone
 has_not_closed : (w : World) (n : ℕ) → has_closed w w n ≡ false
 has_not_closed w n = told (is_held w n) (map.get w.live.nodes n)
   where
@@ -82,22 +75,29 @@ has_not_closed w n = told (is_held w n) (map.get w.live.nodes n)
     told true (Some x) = refl
     told false o = refl
 
-pub stays_since : (session : ℕ) (c : Call) (met : Option Mishap) (s : State) (since : ℕ → Bool) → SinceIn (event.Call session c) met s since s since
-stays_since session c None (Running w) since = λ n. sym (ap (λ (b : Bool). b || since n) (has_not_closed w n))
-stays_since session c (Some m) (Running w) since = λ n. refl
-stays_since session c met (Stopped before after) since = tt
-
--- nothing is written
-writes_nothing : (h : Held) (s : State) (session : ℕ) (c : Call) → Writes s h h (event.Call session c) h.disk
-writes_nothing h (Running w) session c = inl (Touches-start (InHalf (base_at h.at)) h.disk)
-writes_nothing h (Stopped before after) session c = Touches-start Nowhere h.disk
-
 -- no file is dropped
 pub nothing_dropped : (n : ℕ) (room : RoomCounts) → room ≡ dropping (n - n) room
 nothing_dropped n room = λ i. record room { dropped = same room.dropped i; dropped_since = same room.dropped_since i }
   where
     same : (k : ℕ) → k ≡ k + (n - n)
     same k = omega arith
+
+pub drops_none : (h : Held) → HasDropped (nameless_in h.world.live) h h
+drops_none h = record {
+  kept = λ n. sym (ap (λ (b : Bool). b || h.kept n) (has_not_closed h.world n));
+  since = λ n. sym (ap (λ (b : Bool). b || h.kept_since n) (has_not_closed h.world n));
+  is = λ i. record h { kept = h.kept; kept_since = h.kept_since; room = nothing_dropped (nameless_in h.world.live) h.room i; base = h.base };
+}
+
+-- with nothing more of what changed
+same_figure : (figure : ℕ) → figure + 0 ≡ figure
+same_figure figure = omega arith
+
+pub carries_same : (k next : Kept) (before after : Tree) → ((figure : ℕ) → CarriesOn k before figure next after figure) → (figure : ℕ) → CarriesOn k before figure next after (figure + 0)
+carries_same k next before after on figure = subst (λ (n : ℕ). CarriesOn k before figure next after n) (sym (same_figure figure)) (on figure)
+
+pub carries_none : (h : Held) → CarriesCharge 0 h h
+carries_none h = carries_same h.base h.base h.world.live h.world.live (λ figure. record { slot = refl; root = refl; words = refl; changed = λ root changed. changed })
 
 -- and none is counted
 pub none_dropped : (count : ℕ) (room : RoomCounts) → count ≡ 0 → dropping count room ≡ room
@@ -107,9 +107,9 @@ none_dropped count room none = λ i. record room { dropped = same room.dropped i
     same k = omega (arith, none)
 
 -- an event that a state answers with a refusal, and that changes nothing
-kept : (h : Held) (has_stopped : Bool) (s : State) (session : ℕ) (c : Call) (met : Option Mishap) (reply : Reply) → ServesTo met h session c h.status → Means h has_stopped s → MayMeet h h (event.Call session c) met h.status → Costs s h h (event.Call session c) met h.status
-    → RoomIn (event.Call session c) h h.disk met s h.room → EventStep version_1 s (event.Call session c) met reply s → ServesFrom s session c reply h h has_stopped
-kept h has_stopped s session c met reply to m may costs room step = record {
+kept : (h : Held) (has_stopped : Bool) (s : State) (session : ℕ) (c : Call) (met : Option Mishap) (reply : Reply) → ServesTo met h session c h → Means h has_stopped s → MayMeet h h (event.Call session c) met h.status → Leaves s (event.Call session c) met reply s h h h
+    → EventStep version_1 s (event.Call session c) met reply s → ServesFrom s session c reply h h has_stopped
+kept h has_stopped s session c met reply to m may leaves step = record {
   answers = record {
     met = met;
     fin = h;
@@ -121,25 +121,17 @@ kept h has_stopped s session c met reply to m may costs room step = record {
     step = step;
     means = m;
     lasts = stays_lasts h has_stopped s m;
-    writes = writes_nothing h s session c;
-    begins = tt;
-    numbers = stays_numbers session c met s h.kept;
-    since = stays_since session c met s h.kept_since;
-    room = room;
     later = later-same h.status h.status refl;
-    costs = costs;
-    steps = tt;
-    works = tt;
+    leaves = leaves;
   };
   at_once = (refl, refl);
-  wrote = Touches-start (InHalf (base_at h.at)) h.disk;
   met = to;
 }
 
 -- one that has stopped
 pub stopped_answers : (h : Held) (session : ℕ) (c : Call) → Answers (event.Call session c) (refused Estopped) h true h true
 stopped_answers h session c (Running w) m = absurd (true≢false m.0)
-stopped_answers h session c (Stopped before after) m = (kept h true (Stopped before after) session c None (refused Estopped) tt m refl refl tt (refl, refl)).answers
+stopped_answers h session c (Stopped before after) m = (kept h true (Stopped before after) session c None (refused Estopped) tt m refl refl (refl, refl)).answers
 
 -- ---- of one that runs, in the world that it holds
 
@@ -164,7 +156,17 @@ cannot_ask h session c refusal asks none = absurd (never (asks.decided) none)
 pub asks_nothing : {A : Type 0} (h : Held) (session : ℕ) (c : Call) → asks_for_point c ≡ false → AsksFirst h session c → A
 asks_nothing h session c alone asks = absurd (true≢false (sym asks.asks ∙ alone))
 
--- a change that gives out no number that is kept back leaves those that are so since the point in progress began
+-- a change that gives out no number that is kept back leaves those that are so
+kept_stays : (change : Change) (kept : ℕ → Bool) → gives_kept change kept ≡ false → (n : ℕ) → kept_after change kept n ≡ kept n
+kept_stays (Make directory name number kind own) back none n = and_not_false (back n) (back number) none
+kept_stays (AddLink directory name number) back none n = refl
+kept_stays (Remove directory name) back none n = refl
+kept_stays (Rename old_directory old_name new_directory new_name) back none n = refl
+kept_stays (WriteBytes number offset bytes) back none n = refl
+kept_stays (SetSize number size) back none n = refl
+kept_stays (SetAttributes number own) back none n = refl
+
+-- and those that are so since the point in progress began
 since_stays : (change : Change) (kept since : ℕ → Bool) → gives_kept change kept ≡ false → (n : ℕ) → since_after change kept since n ≡ since n
 since_stays (Make directory name number kind own) back since none n = and_not_false (since n) (back number) none
 since_stays (AddLink directory name number) back since none n = refl
@@ -189,22 +191,14 @@ read_fails h new session c is fails takes r = subst (λ (x : Held). ServesFrom (
     step = (takes, record { told = refl; same = refl });
     means = (refl, counted_with h.point h h.world new.status r);
     lasts = stays_lasts h false (Running h.world) (refl, r);
-    writes = writes_nothing h (Running h.world) session c;
-    begins = tt;
-    numbers = stays_numbers session c (Some Read) (Running h.world) h.kept;
-    since = stays_since session c (Some Read) (Running h.world) h.kept_since;
-    room = refl;
     later = count.1;
-    costs = count.2;
-    steps = tt;
-    works = tt;
+    leaves = (refl, fails);
   };
   at_once = (refl, refl);
-  wrote = Touches-start (InHalf (base_at h.at)) h.disk;
   met = fails;
 })
   where
-    count : HasFailed h.status new.status × IsLater h.status new.status × CostsAtMost 0 0 h.status new.status
+    count : HasFailed h.status new.status × IsLater h.status new.status
     count = fails_read h.status new.status fails
 
 -- the call has no outcome
@@ -213,15 +207,15 @@ undecided_serves h new session c e none = in_world h new false session c (reply_
   where
     told : RunsWith h.point h h.world → (e : CallFault) → IsUndecided e h session c new → ServesFrom (Running h.world) session c (reply_to e) h new false
     told r (lack.Refused refusal) (none, same) = subst (λ (x : Held). ServesFrom (Running h.world) session c (answer.Refused refusal) h x false) (sym same)
-        (kept h false (Running h.world) session c None (answer.Refused refusal) tt (refl, r) refl (λ asks. cannot_ask h session c refusal asks none, inl (refused_none h.world h.kept session c refusal none, refl)) (inl (refused_none h.world h.kept session c refusal none, nothing_dropped (nameless_in h.world.live) h.room))
+        (kept h false (Running h.world) session c None (answer.Refused refusal) tt (refl, r) refl (λ asks. cannot_ask h session c refusal asks none, inl (record { none = refused_none h.world h.kept session c refusal none; drops = drops_none h; carries = carries_none h }))
         (record { next = h.world; becomes = subst (λ (d : Result Outcome Refusal). Becomes version_1 h.world session d (answer.Refused refusal) h.world) (sym none) (refl, refl); runs = refl }))
     told r lack.Memory (takes, same) = subst (λ (x : Held). ServesFrom (Running h.world) session c (refused Enomem) h x false) (sym same)
-        (kept h false (Running h.world) session c (Some Memory) (refused Enomem) tt (refl, r) refl refl refl (takes, record { told = refl; same = refl }))
+        (kept h false (Running h.world) session c (Some Memory) (refused Enomem) tt (refl, r) refl refl (takes, record { told = refl; same = refl }))
     told r lack.Read (takes, same, fails) = read_fails h new session c same fails takes r
 
 -- there is no memory for what is to be opened
 pub unprepared_serves : (h : Held) (session : ℕ) (c : Call) (o : Outcome) → decision version_1 h.world session c ≡ Ok o → is_opening o.caller ≡ true → Serves (Some (refused Enomem)) h session c h false
-unprepared_serves h session c o decided opens = in_world h h false session c (refused Enomem) (λ r. kept h false (Running h.world) session c (Some Memory) (refused Enomem) tt (refl, r) refl refl refl (opening_takes h.world session c o decided opens, record { told = refl; same = refl }))
+unprepared_serves h session c o decided opens = in_world h h false session c (refused Enomem) (λ r. kept h false (Running h.world) session c (Some Memory) (refused Enomem) tt (refl, r) refl refl (opening_takes h.world session c o decided opens, record { told = refl; same = refl }))
 
 pub figures : AreCharged version_1
 figures = record { inodes = omega arith; blocks = refl }
@@ -296,7 +290,7 @@ module _ (old : Held) (session : ℕ) (c : Call) (o : Outcome) (picked : Chosen)
     where
       told : (f : ChangeFault) → RunsWith old.point old old.world → FailsChange f change old new → ServesFrom (Running old.world) session c (refused (errno_of f)) old new (stops f)
       told fault.Memory r fails = subst (λ (x : Held). ServesFrom (Running old.world) session c (refused Enomem) old x false) (sym fails)
-          (kept old false (Running old.world) session c (Some Memory) (refused Enomem) tt (refl, r) refl refl refl (change_takes old.world old.kept session c o picked change decided chosen some, record { told = refl; same = refl }))
+          (kept old false (Running old.world) session c (Some Memory) (refused Enomem) tt (refl, r) refl refl (change_takes old.world old.kept session c o picked change decided chosen some, record { told = refl; same = refl }))
       told fault.Read r fails = read_fails old new session c fails.0 fails.1 (change_takes old.world old.kept session c o picked change decided chosen some) r
       told fault.Device r fails =
           let tree = fails.tree in
@@ -323,19 +317,11 @@ module _ (old : Held) (session : ℕ) (c : Call) (o : Outcome) (picked : Chosen)
               };
               means = (refl, between);
               lasts = stops_lasts old new old.world next change tree runs can.spelled fails.applied (of_tree tree) whole.live.hierarchy (has_room all.fits) aged (fails.touched) (fails.moments);
-              writes = inl (fails.touched);
-              begins = tt;
-              numbers = tt;
-              since = tt;
-              room = tt;
               later = fails.later;
-              costs = inl (record { change = change; is = is_change; all = all; costs = fails.costs });
-              steps = tt;
-              works = tt;
+              leaves = inl (record { change = change; is = is_change; all = all; touched = fails.touched; costs = fails.costs });
             };
             at_once = (refl, refl);
-            wrote = fails.touched;
-            met = record { change = change; is = is_change; all = all; costs = fails.costs };
+            met = record { change = change; is = is_change; all = all; touched = fails.touched; costs = fails.costs };
           }
 
   -- it is made and logged, and what becomes of the caller is set
@@ -370,17 +356,31 @@ module _ (old : Held) (session : ℕ) (c : Call) (o : Outcome) (picked : Chosen)
     whole_next : IsWorld version_1 next
     whole_next = served_whole old.world next session c o.told (becomes tree logged.made.applied) numbers whole
 
-    by_mid : (n : ℕ) → mid.kept n ≡ kept_by picked.change old.kept n
-    by_mid n = logged.kept n ∙ ap (λ (x : Option Change). kept_by x old.kept n) (sym some)
+    -- with the change alone
+    abbrev recorded : Held
+    recorded = with_record old change o.charge tree new.disk
 
-    by_last : (n : ℕ) → new.kept n ≡ (has_closed (with_live old.world tree) next n || mid.kept n)
-    by_last n = turned.kept n ∙ ap (λ (w : World). has_closed w (dropped (with_caller w session picked.caller)) n || mid.kept n) logged.made.world
+    by_last : (n : ℕ) → new.kept n ≡ (has_closed recorded.world new.world n || old.kept n)
+    by_last n =
+        turned.kept n ∙ ap (λ (w : World). has_closed w (dropped (with_caller w session picked.caller)) n || mid.kept n) logged.made.world
+        ∙ ap (λ (b : Bool). has_closed recorded.world next n || b) (logged.kept n ∙ kept_stays change old.kept all.number n)
+        ∙ ap (λ (w : World). has_closed recorded.world w n || old.kept n) (sym world_is)
 
-    since_last : (n : ℕ) → new.kept_since n ≡ (has_closed old.world next n || old.kept_since n)
+    since_last : (n : ℕ) → new.kept_since n ≡ (has_closed recorded.world new.world n || old.kept_since n)
     since_last n =
         turned.since n ∙ ap (λ (w : World). has_closed w (dropped (with_caller w session picked.caller)) n || mid.kept_since n) logged.made.world
-        ∙ ap (λ (b : Bool). b || mid.kept_since n) (chosen_closed old.world old.kept session c o picked tree numbers whole decided chosen (by_change tree logged.made.applied) n)
-        ∙ ap (λ (b : Bool). has_closed old.world next n || b) (logged.since n ∙ since_stays change old.kept old.kept_since all.number n)
+        ∙ ap (λ (b : Bool). has_closed recorded.world next n || b) (logged.since n ∙ since_stays change old.kept old.kept_since all.number n)
+        ∙ ap (λ (w : World). has_closed recorded.world w n || old.kept_since n) (sym world_is)
+
+    room_dropped : new.room ≡ dropping (0 - nameless_in new.world.live) (logs o.charge old.room)
+    room_dropped = ap (λ (x : Held). x.room) turned.is ∙ ap (dropping (0 - nameless_in new.world.live)) logged.charged
+
+    has_dropped : HasDropped 0 recorded new
+    has_dropped = record {
+      kept = by_last;
+      since = since_last;
+      is = λ i. record { world = new.world; kept = new.kept; kept_since = new.kept_since; room = room_dropped i; at = at_is i; base = new.base; point = point_is i; disk = new.disk; status = (status_is ∙ logged.costs) i };
+    }
 
     hierarchy : IsHierarchy tree
     hierarchy = (chosen_whole old.world old.kept session c o picked tree numbers whole decided chosen (by_change tree logged.made.applied)).hierarchy
@@ -400,6 +400,11 @@ module _ (old : Held) (session : ℕ) (c : Call) (o : Outcome) (picked : Chosen)
               (subst (λ (k : Kept). HasChanged version_1 k.changed root tree (figure + charge_for version_1 old.world.live change)) (sym logged.base)
               (merges version_1 old.base.changed root old.world.live tree figure change figures whole.live.hierarchy changed logged.made.applied));
         }
+
+    carries : CarriesCharge o.charge old new
+    carries figure =
+        subst (λ (n : ℕ). CarriesOn old.base old.world.live figure new.base new.world.live (figure + n)) (sym charge_is)
+        (subst (λ (w : World). CarriesOn old.base old.world.live figure new.base w.live (figure + charge_for version_1 old.world.live change)) (sym world_is) (carried figure))
 
     touched : Touches (InHalf (base_at old.at)) old.disk new.disk
     touched = subst (Touches (InHalf (base_at old.at)) old.disk) (sym disk_is) logged.touched
@@ -429,7 +434,6 @@ module _ (old : Held) (session : ℕ) (c : Call) (o : Outcome) (picked : Chosen)
             let of = of_tree tree in
             let moments = subst (LeavesEither old.at change old.disk) (sym disk_is) (logged.moments) in
             let on = made_runs r in
-            let served = chosen_served old.world old.kept session c o picked tree numbers whole decided chosen (by_change tree logged.made.applied) mid.kept new.kept by_mid by_last (stays tree) in
             record {
               answers = record {
                 met = None;
@@ -439,20 +443,15 @@ module _ (old : Held) (session : ℕ) (c : Call) (o : Outcome) (picked : Chosen)
                 point = inl refl;
                 may = ap (λ (s : Status). s.failures) (status_is ∙ logged.costs);
                 next = Running next;
-                step = record { next = next; becomes = served.0; runs = refl };
+                step = record { next = next; becomes = becomes tree logged.made.applied; runs = refl };
                 means = (refl, on);
                 lasts = runs_lasts old new old.world next change tree runs can.spelled logged.made.applied of whole.live.hierarchy (has_room all.fits) aged touched moments (runs_with new next new.point on);
-                writes = inl touched;
-                begins = tt;
-                numbers = served.1;
-                since = since_last;
-                room = inr (record { change = change; is = is_change; charged = room_is ∙ ap (λ (k : ℕ). logs k old.room) (sym charge_is) });
                 later = later-is (writes_of change) 2 old.status new.status (status_is ∙ logged.costs);
-                costs = (asks_nothing old session c alone, inr (record { change = change; is = is_change; all = all; costs = status_is ∙ logged.costs }));
-                steps = tt;
-                works = tt;
+                leaves = (
+                  asks_nothing old session c alone,
+                  inr (record { change = change; is = is_change; all = all; tree = tree; applied = logged.made.applied; world = world_is; touched = touched; drops = has_dropped; carries = carries }),
+                );
               };
               at_once = (refl, refl);
-              wrote = touched;
               met = tt;
             }

@@ -5,7 +5,7 @@ use Rattle.sn_model.specs.declared.call.Call.{Call}
 use Rattle.sn_model.specs.declared.call.Event.{Event}
 use Rattle.sn_model.specs.declared.call.Event.TheVariants as event
 use Rattle.sn_model.specs.declared.reply.Reply.{Reply}
-use Rattle.sn_model.specs.Machine.{Running, refused}
+use Rattle.sn_model.specs.Machine.{Running, refused, State}
 use Rattle.sn_model.specs.Settling.{settle}
 use Rattle.sn_model.specs.World.{World}
 use Rattle.sn_model.specs.Worlds.{IsWorld}
@@ -20,7 +20,7 @@ use Rattle.sn_held.specs.Moments.{ShowsState}
 use Rattle.sn_held.proofs.EventLemmas.{runs_show}
 use Rattle.sn_cp_progress.specs.Meaning.{RunsWith}
 use Rattle.sn_cp_whole.specs.declared.fault.PointFault.{PointFault}
-use Rattle.sn_events.specs.Answers.{Answers, AnswersFrom, IsBehindFinish, NeedsPoint, StepsIn, Works}
+use Rattle.sn_events.specs.Answers.{Answers, AnswersFrom, IsBehindFinish, NeedsPoint, MayPoint}
 use Rattle.sn_events.specs.Pointing.{Finishes, FinishesSo, errno_of_point, stops_for}
 use Rattle.sn_events.specs.Serving.{Serves}
 use Rattle.sn_events.specs.Unmounting.{IsRefusedFor}
@@ -32,7 +32,7 @@ pub record IsFin (old fin : Held) : Type 0 where
   pub world : fin.world ≡ old.world
   pub between : fin.point ≡ None
   pub moments : LeavesOnly old.disk fin.disk (λ c. IsImage c (settle old.world))
-  pub finish : (e : Event) → NeedsPoint old e → IsBehindFinish e old fin
+  pub finish : (s : State) (e : Event) → MayPoint s e → NeedsPoint old e → IsBehindFinish s e old fin
   pub later : IsLater old.status fin.status
   pub failures : fin.status.failures ≡ old.status.failures
 
@@ -45,7 +45,7 @@ is_fin old fin so runs = told old.point refl so runs
       world = refl;
       between = between;
       moments = LeavesOnly-start old.disk (λ c. IsImage c (settle old.world)) (runs_show old old.world ready.runs);
-      finish = λ e needed. inl refl;
+      finish = λ s e may needed. inl refl;
       later = later-same old.status old.status refl;
       failures = refl;
     })
@@ -54,7 +54,7 @@ is_fin old fin so runs = told old.point refl so runs
       world = f.world;
       between = f.point;
       moments = done.moments;
-      finish = λ e needed. inr (needed, f);
+      finish = λ s e may needed. inr (may, needed, f);
       later = later-is _ _ old.status fin.status f.costs;
       failures = ap (λ (s : Status). s.failures) f.costs;
     }
@@ -67,17 +67,17 @@ pub none_finishes : (old new : Held) → old.point ≡ None → new ≡ old → 
 none_finishes old new between same r = subst (λ (p : Option Going). FinishesSo (Ok (tt {0})) p old new) (sym between) same
 
 -- what is finished behind it is so at once
-pub one_finish : (e : Event) (old fin last : Held) → IsFin old fin → NeedsPoint old e → IsBehindFinish e fin last → IsBehindFinish e old last
-one_finish e old fin last f needed (inl same) = subst (λ (h : Held). IsBehindFinish e old h) (sym same) (f.finish e needed)
-one_finish e old fin last f needed (inr again) = none_is_none fin.point again.1.going f.between again.1.is
+pub one_finish : (s : State) (e : Event) (old fin last : Held) → IsFin old fin → MayPoint s e → NeedsPoint old e → IsBehindFinish s e fin last → IsBehindFinish s e old last
+one_finish s e old fin last f may needed (inl same) = subst (λ (h : Held). IsBehindFinish s e old h) (sym same) (f.finish s e may needed)
+one_finish s e old fin last f may needed (inr again) = none_is_none fin.point again.2.going f.between again.2.is
 
 -- what is answered behind it
-module _ (e : Event) (old fin new : Held) (f : IsFin old fin) (needed : NeedsPoint old e) where
-  pub behind_finish : (reply : Reply) (has_stopped : Bool) → StepsIn e (Running fin.world) reply old new → Works e reply old.status new.status → AnswersFrom (Running fin.world) e reply fin new has_stopped → AnswersFrom (Running old.world) e reply old new has_stopped
-  behind_finish reply has_stopped steps works a = subst (λ (w : World). AnswersFrom (Running w) e reply old new has_stopped) f.world (record {
+module _ (e : Event) (old fin new : Held) (f : IsFin old fin) (may_point : MayPoint (Running fin.world) e) (needed : NeedsPoint old e) where
+  pub behind_finish : (reply : Reply) (has_stopped : Bool) → AnswersFrom (Running fin.world) e reply fin new has_stopped → AnswersFrom (Running old.world) e reply old new has_stopped
+  behind_finish reply has_stopped a = subst (λ (w : World). AnswersFrom (Running w) e reply old new has_stopped) f.world (record {
     met = a.met;
     fin = a.fin;
-    finish = one_finish e old fin a.fin f needed a.finish;
+    finish = one_finish (Running fin.world) e old fin a.fin f may_point needed a.finish;
     mid = a.mid;
     point = a.point;
     may = a.may;
@@ -90,21 +90,14 @@ module _ (e : Event) (old fin new : Held) (f : IsFin old fin) (needed : NeedsPoi
           (λ d im. inl (subst (λ (w : World). IsImage d (settle w)) (sym f.world) im)) f.moments) a.lasts.moments;
       answered = a.lasts.answered;
     };
-    writes = a.writes;
-    begins = a.begins;
-    numbers = a.numbers;
-    since = a.since;
-    room = a.room;
     later = later-join old.status fin.status new.status f.later a.later;
-    costs = a.costs;
-    steps = steps;
-    works = works;
+    leaves = a.leaves;
   })
 
   -- from each state that is meant
-  pub answers_behind : (reply : Reply) (has_stopped : Bool) → StepsIn e (Running fin.world) reply old new → Works e reply old.status new.status → Answers e reply fin false new has_stopped → AnswersFrom (Running old.world) e reply old new has_stopped
-  answers_behind reply has_stopped steps works answers =
-      behind_finish reply has_stopped steps works (answers (Running fin.world) (refl, running_between fin fin.world f.between f.ready))
+  pub answers_behind : (reply : Reply) (has_stopped : Bool) → Answers e reply fin false new has_stopped → AnswersFrom (Running old.world) e reply old new has_stopped
+  answers_behind reply has_stopped answers =
+      behind_finish reply has_stopped (answers (Running fin.world) (refl, running_between fin fin.world f.between f.ready))
 
 -- it was cut off
 pub cut_finish : (e : Event) (old : Held) (x : PointEvent e old old.world) (new : Held) (fault : PointFault) → FinishesSo (Err fault) old.point old new → AnswersFrom (Running old.world) e (refused (errno_of_point fault)) old new (stops_for fault)
@@ -113,7 +106,7 @@ cut_finish e old x new fault so = told old.point so
     told : (at : Option Going) → FinishesSo (Err fault) at old new → AnswersFrom (Running old.world) e (refused (errno_of_point fault)) old new (stops_for fault)
     told None never = absurd never
     told (Some going) (is, cut) = subst (λ (f : PointFault). AnswersFrom (Running old.world) e (refused (errno_of_point f)) old new (stops_for f)) (sym is)
-        (is_cut e old x new cut.touched (LeavesOnly-weaker old.disk new.disk (λ d. IsImage d (settle old.world)) (λ d. IsImage d (settle old.world) ⊎ IsImage d x.after) (λ d im. inl im) cut.moments) cut.failed cut.later (inr (record { needed = x.needed; going = cut.going; is = cut.is; costs = cut.costs })))
+        (is_cut e old x new (LeavesOnly-weaker old.disk new.disk (λ d. IsImage d (settle old.world)) (λ d. IsImage d (settle old.world) ⊎ IsImage d x.after) (λ d im. inl im) cut.moments) cut.failed cut.later (inr (record { needed = x.needed; touched = cut.touched; going = cut.going; is = cut.is; costs = cut.costs })))
 
 -- ---- a call that lacked something
 
@@ -121,7 +114,7 @@ pub call_after_finish : (old asked fin new : Held) (session : ℕ) (c : Call) (r
 call_after_finish old asked fin new session c reply has_stopped lacks finishes answers =
     in_any_world (event.Call session c) old new reply has_stopped (λ r.
     let f = is_fin old fin (subst (λ (h : Held). Finishes (Ok (tt {0})) h fin) lacks.1 finishes r) r in
-    answers_behind (event.Call session c) old fin new f (inl lacks.0) reply has_stopped tt tt answers)
+    answers_behind (event.Call session c) old fin new f tt (inl lacks.0) reply has_stopped answers)
 
 pub call_cut : (old asked new : Held) (session : ℕ) (c : Call) (fault : PointFault) → IsWorld version_1 old.world → Serves None old session c asked false → Finishes (Err fault) asked new → Answers (event.Call session c) (refused (errno_of_point fault)) old false new (stops_for fault)
 call_cut old asked new session c fault whole lacks finishes =
@@ -137,5 +130,5 @@ restart_refused old new fault refuses = in_any_world event.Restart old new (refu
     told r (inl cut) = cut_finish event.Restart old (unmount_point old) new fault cut
     told r (inr (fin, so, unpointed)) =
         let f = is_fin old fin so r in
-        behind_finish event.Restart old fin new f tt (refused (errno_of_point fault)) (stops_for fault) tt tt
+        behind_finish event.Restart old fin new f tt tt (refused (errno_of_point fault)) (stops_for fault)
         (unpointed_restart fin new fault f.between f.ready unpointed)

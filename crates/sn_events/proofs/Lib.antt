@@ -14,3 +14,5 @@ pub mod BeginLemmas
 pub mod AskLemmas
 pub mod MountLemmas
 pub mod UnmountLemmas
+pub mod DurableLemmas
+pub mod CountedLemmas

@@ -1,5 +1,5 @@
 -- A mount, from what recovery makes of a disk.
-use Rattle.std.proofs.Common.{◌≡◌, inl, ℕ, false, Option, None, refl, sym, subst}
+use Rattle.std.proofs.Common.{◌≡◌, inl, ℕ, false, Option, refl, sym, subst}
 use Rattle.sn_device.specs.Disk.{Disk, reads}
 use Rattle.sn_device.proofs.CrashLemmas.{Touches-start}
 use Rattle.sn_block.specs.Effects.{Nowhere}
@@ -11,19 +11,17 @@ use Rattle.sn_events.proofs.PointLemmas.{running_between}
 use Rattle.sn_mount.specs.Recovering.{IsRecovered, KeepsTheWorld, OfImage, WritesAtFault, KeepsTheRoot}
 use Rattle.sn_examine.specs.Laws.{IsSomeClean}
 use Rattle.sn_check.specs.Verdicts.{IsCause}
-use Rattle.sn_events.specs.Mounting.{IsLeft, Mounts}
+use Rattle.sn_events.specs.Mounting.{IsLeft, Mounts, IsFresh}
 
-pub mounts : (sectors : ℕ) (old : Disk) (h : Held) → KeepsTheRoot sectors old h.disk × OfImage old (IsRecovered h.at h.world h.room h.base old h.disk) → IsSomeClean sectors (reads old) → ((number : ℕ) → h.kept number ≡ false) → ((number : ℕ) → h.kept_since number ≡ false) → h.point ≡ None → Mounts sectors old h false
-mounts sectors old h r clean none none_since between = record {
+pub mounts : (sectors : ℕ) (old : Disk) (h : Held) → KeepsTheRoot sectors old h.disk × OfImage old (IsRecovered h.at h.world h.room h.base old h.disk) → IsSomeClean sectors (reads old) → IsFresh h → Mounts sectors old h false
+mounts sectors old h r clean fresh = record {
   running = refl;
-  none_kept = none;
-  none_since = none_since;
-  between = between;
+  fresh = fresh;
   clean = clean;
   touched = r.0;
   runs = λ world image. let is = r.1 world image in record {
     room = is.room_is;
-    means = (refl, running_between h world between (subst (λ (w : World). RunsReady (record h { world = w }) world h.base) (sym is.is) (subst (λ (p : Option Going). RunsReady (record h { world = world; point = p }) world h.base) (sym between) (is.runs h.kept h.kept_since h.status))));
+    means = (refl, running_between h world fresh.between (subst (λ (w : World). RunsReady (record h { world = w }) world h.base) (sym is.is) (subst (λ (p : Option Going). RunsReady (record h { world = world; point = p }) world h.base) (sym fresh.between) (is.runs h.kept h.kept_since h.status))));
     leaves = is.leaves;
   };
 }

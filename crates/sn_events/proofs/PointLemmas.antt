@@ -9,33 +9,27 @@ use Rattle.sn_model.specs.declared.call.Event.TheVariants as event
 use Rattle.sn_model.specs.declared.change.Change.{Change}
 use Rattle.sn_model.specs.declared.change.Change.TheVariants.{Make, AddLink, Remove, Rename, Write as WriteBytes, SetSize, SetAttributes}
 use Rattle.sn_model.specs.declared.outcome.Outcome.{Outcome}
-use Rattle.sn_model.specs.declared.reply.Errno.{Errno}
 use Rattle.sn_model.specs.declared.reply.Errno.TheVariants.{Eio, Elimit, Enomem, Enospc}
-use Rattle.sn_model.specs.declared.reply.Progress.TheVariants as progress
 use Rattle.sn_model.specs.declared.reply.Reply.{Reply}
-use Rattle.sn_model.specs.declared.reply.Reply.TheVariants as answer
 use Rattle.sn_model.specs.Calls.{ready}
-use Rattle.sn_model.specs.Machine.{State, Running, Stopped, Mishap, Memory, Read, Write, Space, Age, EventStep, IsCharged, errno_of, refused}
+use Rattle.sn_model.specs.Machine.{Running, Stopped, Mishap, Memory, Read, Write, Space, Age, EventStep, IsCharged, errno_of, refused}
 use Rattle.sn_model.specs.declared.outcome.AskedPoint.{AskedPoint}
 use Rattle.sn_model.specs.declared.outcome.AskedPoint.TheVariants.{Plain}
 use Rattle.sn_model.specs.Settling.{settle}
-use Rattle.sn_model.specs.Steps.{TakesMemory, pointed}
+use Rattle.sn_model.specs.Steps.{TakesMemory, pointed, decision}
 use Rattle.sn_model.specs.World.{World}
 use Rattle.sn_model.specs.Worlds.{IsCall, IsWorld}
 use Rattle.sn_block.specs.Counts.{FailsRead, IsLater}
 use Rattle.sn_block.proofs.CountLemmas.{later-is, later-join, later-same}
 use Rattle.sn_core.specs.Numbering.{gives_kept}
-use Rattle.sn_core.proofs.NumberLemmas.{same_numbers}
 use Rattle.sn_core.proofs.StepLemmas.{change_takes}
 use Rattle.sn_device.specs.declared.status.Status.{Status}
 use Rattle.sn_device.specs.Disk.{Disk}
 use Rattle.sn_device.specs.Sectors.{Contents}
 use Rattle.sn_device.specs.Crash.{LeavesOnly, Touches}
-use Rattle.sn_device.proofs.CrashLemmas.{LeavesOnly-join, LeavesOnly-now, LeavesOnly-weaker, Touches-join, Touches-start, Touches-within}
+use Rattle.sn_device.proofs.CrashLemmas.{LeavesOnly-join, LeavesOnly-now, LeavesOnly-weaker}
 use Rattle.sn_record.specs.Payload.{IsSpelled, PayloadsFit}
-use Rattle.sn_ondisk.specs.LogHalf.{InHalf}
-use Rattle.sn_log.specs.Positions.{HasRoom, LogPosition, base_at, first_of}
-use Rattle.sn_room.specs.Rooms.{RoomCounts}
+use Rattle.sn_log.specs.Positions.{HasRoom, LogPosition, first_of}
 use Rattle.sn_held.specs.Held.{Going, Held, Kept, RunsReady}
 use Rattle.sn_cp_progress.specs.Meaning.{EitherImage, RunsWith}
 use Rattle.sn_cp_progress.proofs.MeaningLemmas.{runs_with, stays_lasts}
@@ -47,9 +41,8 @@ use Rattle.sn_overlay.specs.Needs.{need}
 use Rattle.sn_cp_whole.specs.Making.{HasCauseFor, MakesPoint, most_syncs, most_writes}
 use Rattle.sn_cp_whole.specs.declared.fault.PointFault.{PointFault}
 use Rattle.sn_cp_whole.specs.declared.fault.PointFault.TheVariants as point
-use Rattle.sn_cp_whole.proofs.RecoverLemmas.{half_apart}
 use Rattle.sn_examine.specs.Failing.{CostsAtMost, HasFailed, HasNotFailed}
-use Rattle.sn_events.specs.Answers.{Answers, AnswersFrom, Begins, BuildsOf, Costs, CostsCall, DoesNotFit, HasMadePoint, IsBesideRoot, IsChangeOf, IsLastRoot, Lacks, LacksFirst, MayMeet, HasNoChange, IsCutAtPoint, IsRecorded, NeedsPoint, NumbersIn, RoomIn, RoomOfCall, SinceIn, StepsIn, Works, Writes, asked_in, is_fitting, world_behind}
+use Rattle.sn_events.specs.Answers.{Answers, AnswersFrom, BuildsOf, DoesNotFit, HasMadePoint, IsBesideRoot, IsChangeOf, IsLastRoot, Lacks, LacksFirst, MayMeet, IsCutAtPoint, NeedsPoint, asked_in, is_fitting, world_behind, AsksFirst, HasLogged, HasTold, IsUnchanged, Leaves, LeavesCall, LeavesRestart}
 use Rattle.sn_events.specs.Pointing.{IsPointed, IsUnpointed, Points, errno_of_point, stops_for}
 use Rattle.sn_events.specs.Serving.{Serves, ServesFrom, ServesTo}
 use Rattle.sn_events.proofs.CallLemmas.{comes, next_with}
@@ -87,14 +80,9 @@ pub made_point : (e : Event) (old mid : Held) (needed : NeedsPoint old e) → Is
 made_point e old mid needed p = record {
   needed = needed;
   between = p.between;
-  point = p.point;
   world = p.world;
-  none_kept = p.none_kept;
-  none_since = p.none_since;
+  fresh = p.fresh;
   log = p.log;
-  room = p.room;
-  changed = p.changed;
-  age = p.age;
   touched = p.touched;
   built = p.built;
   builds = p.builds;
@@ -130,7 +118,7 @@ module _ (old mid new : Held) (session : ℕ) (c : Call) (needed : LacksFirst ol
   later : IsLater old.status mid.status
   later = later-is _ _ old.status mid.status p.costs
 
-  may_meet : (at : Held) (met : Option Mishap) → ServesTo met mid session c new.status → MayMeet mid at e met new.status → MayMeet old mid e met new.status
+  may_meet : (at : Held) (met : Option Mishap) → ServesTo met mid session c new → MayMeet mid at e met new.status → MayMeet old mid e met new.status
   may_meet at None to may = none_failed old.status mid.status new.status no_failures may
   may_meet at (Some Memory) to may = none_failed old.status mid.status new.status no_failures may
   may_meet at (Some Read) to may = some_failed old.status mid.status new.status no_failures may
@@ -138,24 +126,17 @@ module _ (old mid new : Held) (session : ℕ) (c : Call) (needed : LacksFirst ol
   may_meet at (Some Space) to may = absurd to
   may_meet at (Some Age) to may = absurd to
 
-  costs_call : (at : Held) (met : Option Mishap) → at ≡ mid → ServesTo met mid session c new.status → CostsCall mid at session c met new.status → CostsCall old mid session c met new.status
-  costs_call at None same to costs = (λ _. made, subst (λ (x : Held). (HasNoChange x.world x.kept session c × (new.status ≡ x.status)) ⊎ IsRecorded x session c new.status) same costs.1)
-  costs_call at (Some Memory) same to costs = costs ∙ ap (λ (x : Held). x.status) same
-  costs_call at (Some Read) same to costs = subst (λ (x : Held). CostsAtMost 0 0 x.status new.status) same costs
-  costs_call at (Some Write) same to costs = inl to
-  costs_call at (Some Space) same to costs = absurd to
-  costs_call at (Some Age) same to costs = absurd to
+  -- the point changes nothing of what is asked for
+  asks_there : (at : Held) → at ≡ mid → AsksFirst old session c → AsksFirst at session c
+  asks_there at same asked = record { asks = asked.asks; outcome = asked.outcome; decided = subst (λ (w : World). decision version_1 w session c ≡ Ok asked.outcome) (sym (ap (λ (x : Held). x.world) same ∙ p.world)) asked.decided }
 
-  room_in : (at : Held) (met : Option Mishap) (next : State) → at ≡ mid → RoomIn e at new.disk met next new.room → RoomIn e mid new.disk met next new.room
-  room_in at met (Running w) same room = subst (λ (x : Held). RoomOfCall x session c met w new.room) same room
-  room_in at met (Stopped before after) same room = tt
-
-  -- point and record lie beside the root that counted
-  beside : Touches (InHalf (base_at mid.at)) mid.disk new.disk → Touches (IsBesideRoot old) old.disk new.disk
-  beside wrote =
-      Touches-join (IsBesideRoot old) old.disk mid.disk new.disk p.touched
-      (Touches-within (InHalf (base_at mid.at)) (IsBesideRoot old) mid.disk new.disk
-      (λ i is. half_apart old.at.blocks (old.at.epoch + 1) old.base.slot i (subst (λ (at : LogPosition). InHalf (base_at at) i) p.log is)) wrote)
+  leaves_call : (fin at : Held) (met : Option Mishap) → fin ≡ mid → at ≡ mid → ServesTo met mid session c new → LeavesCall fin at session c met new → LeavesCall old mid session c met new
+  leaves_call fin at None first same to leaves = (λ asked. (made, (leaves.0 (asks_there fin first asked)).1 ∙ same), subst (λ (x : Held). HasTold session c x new ⊎ HasLogged session c x new) same leaves.1)
+  leaves_call fin at (Some Memory) first same to leaves = leaves ∙ same
+  leaves_call fin at (Some Read) first same to leaves = subst (λ (x : Held). IsUnchanged Read x new) same leaves
+  leaves_call fin at (Some Write) first same to leaves = inl to
+  leaves_call fin at (Some Space) first same to leaves = absurd to
+  leaves_call fin at (Some Age) first same to leaves = absurd to
 
   behind_point : {has_stopped : Bool} {reply : Reply} → ServesFrom (Running old.world) session c reply mid new has_stopped → AnswersFrom (Running old.world) e reply old new has_stopped
   behind_point {has_stopped} {reply} served =
@@ -165,7 +146,7 @@ module _ (old mid new : Held) (session : ℕ) (c : Call) (needed : LacksFirst ol
         fin = old;
         finish = inl refl;
         mid = mid;
-        point = inr made;
+        point = inr (tt, made);
         may = may_meet a.mid a.met served.met (subst (λ (x : Held). MayMeet x a.mid e a.met new.status) served.at_once.0 a.may);
         next = a.next;
         step = a.step;
@@ -175,15 +156,8 @@ module _ (old mid new : Held) (session : ℕ) (c : Call) (needed : LacksFirst ol
               (LeavesOnly-weaker old.disk mid.disk (λ d. IsImage d (settle old.world)) (λ d. ShowsState (Running old.world) d ⊎ ShowsState a.next d) (λ d h. inl h) (settled_all session c old mid p)) a.lasts.moments;
           answered = a.lasts.answered;
         };
-        writes = inr (inl needed, beside served.wrote);
-        begins = tt;
-        numbers = subst (λ (x : Held). NumbersIn e a.met (Running old.world) x.kept a.next new.kept) served.at_once.1 a.numbers;
-        since = subst (λ (x : Held). SinceIn e a.met (Running old.world) x.kept_since a.next new.kept_since) served.at_once.1 a.since;
-        room = room_in a.mid a.met a.next served.at_once.1 a.room;
         later = later-join old.status mid.status new.status later a.later;
-        costs = costs_call a.mid a.met served.at_once.1 served.met (subst (λ (x : Held). CostsCall x a.mid session c a.met new.status) served.at_once.0 a.costs);
-        steps = tt;
-        works = tt;
+        leaves = leaves_call a.fin a.mid a.met served.at_once.0 served.at_once.1 served.met a.leaves;
       }
 
 -- ---- one that doesn't fit behind it
@@ -202,8 +176,8 @@ gives_none (SetSize number size) kept none = refl
 gives_none (SetAttributes number o) kept none = refl
 
 -- what lacks behind a point is room for the charge
-still_lacks : PayloadsFit → (e : Event) (old mid : Held) (session : ℕ) (c : Call) → IsWorld version_1 mid.world → HasMadePoint e old mid → LacksFirst mid session c → DoesNotFit mid session c
-still_lacks fit e old mid session c whole made lacks = record { change = change; is = is; over = told lacks.lacks }
+still_lacks : PayloadsFit → (old mid : Held) (session : ℕ) (c : Call) → IsWorld version_1 mid.world → IsPointed (event.Call session c) Plain old mid → LacksFirst mid session c → DoesNotFit mid session c
+still_lacks fit old mid session c whole p lacks = record { change = change; is = is; over = told lacks.lacks }
   where
     change : Change
     change = lacks.change
@@ -215,10 +189,10 @@ still_lacks fit e old mid session c whole made lacks = record { change = change;
     spelled = (can_be_made mid.world mid.kept session c is.outcome is.picked change whole is.decided is.chosen is.is).spelled
 
     told : Lacks mid change is.outcome → is_fitting mid is.outcome ≡ false
-    told (inl none) = absurd (none (subst (λ (at : LogPosition). HasRoom at change) (sym made.log) (empty_has_room fit old.at.blocks (old.at.epoch + 1) change spelled)))
+    told (inl none) = absurd (none (subst (λ (at : LogPosition). HasRoom at change) (sym p.log) (empty_has_room fit old.at.blocks (old.at.epoch + 1) change spelled)))
     told (inr (inl over)) = over
-    told (inr (inr (inl kept))) = absurd (true≢false (sym kept ∙ gives_none change mid.kept made.none_kept))
-    told (inr (inr (inr over))) = absurd (over made.age)
+    told (inr (inr (inl kept))) = absurd (true≢false (sym kept ∙ gives_none change mid.kept p.fresh.none_kept))
+    told (inr (inr (inr over))) = absurd (over p.age)
 
 space_answers : PayloadsFit → (old mid : Held) (session : ℕ) (c : Call) → IsWorld version_1 mid.world → LacksFirst old session c → IsPointed (event.Call session c) Plain old mid → LacksFirst mid session c → AnswersFrom (Running old.world) (event.Call session c) (refused Enospc) old mid false
 space_answers fit old mid session c whole needed p lacks = record {
@@ -226,24 +200,17 @@ space_answers fit old mid session c whole needed p lacks = record {
   fin = old;
   finish = inl refl;
   mid = mid;
-  point = inr made;
-  may = (still_lacks fit (event.Call session c) old mid session c whole made lacks, made, ap (λ (s : Status). s.failures) p.costs);
+  point = inr (tt, made);
+  may = (still_lacks fit old mid session c whole p lacks, made, ap (λ (s : Status). s.failures) p.costs);
   next = Running old.world;
   step = (subst (λ (w : World). IsCharged version_1 w session c) p.world (lacks.is.outcome, lacks.is.decided, is_charged mid.world mid.kept session c lacks.is.outcome lacks.is.picked lacks.change lacks.is.decided lacks.is.chosen lacks.is.is), record { told = refl; same = refl });
-  means = (refl, running_between mid old.world p.point p.runs);
+  means = (refl, running_between mid old.world p.fresh.between p.runs);
   lasts = record {
     moments = LeavesOnly-weaker old.disk mid.disk (λ d. IsImage d (settle old.world)) (λ d. ShowsState (Running old.world) d ⊎ ShowsState (Running old.world) d) (λ d h. inl h) (settled_all session c old mid p);
     answered = runs_show mid old.world p.runs.runs;
   };
-  writes = inr (inl needed, p.touched);
-  begins = tt;
-  numbers = same_numbers session c old.world old.world mid.kept mid.kept refl refl;
-  since = λ n. refl;
-  room = refl;
   later = later-is _ _ old.status mid.status p.costs;
-  costs = refl;
-  steps = tt;
-  works = tt;
+  leaves = refl;
 }
   where
     made : HasMadePoint (event.Call session c) old mid
@@ -276,23 +243,6 @@ module _ (e : Event) (old new : Held) (world : new.disk ≡ old.disk → new.wor
 
 -- ---- an event whose point isn't made
 
--- one that stops tells nothing of its numbers
-stopped_numbers : (e : Event) (met : Option Mishap) (w : World) (kept : ℕ → Bool) (before after : World) (left : ℕ → Bool) → NumbersIn e met (Running w) kept (Stopped before after) left
-stopped_numbers e met w kept before after left = tt
-
-stopped_since : (e : Event) (w : World) (since : ℕ → Bool) (before after : World) (left : ℕ → Bool) → SinceIn e (Some Write) (Running w) since (Stopped before after) left
-stopped_since (event.Call session c) w since before after left = tt
-stopped_since event.Step w since before after left = tt
-stopped_since event.Restart w since before after left = tt
-
--- why a point is refused before it begins
-abbrev pub IsRefusing : Mishap → Type 0
-IsRefusing Memory = Unit {0}
-IsRefusing Read = ⊥
-IsRefusing Write = ⊥
-IsRefusing Space = ⊥
-IsRefusing Age = Unit {0}
-
 -- what it answers from this world, and what it may cost
 pub record PointEvent (e : Event) (old : Held) (w : World) : Type 0 where
   pub needed : NeedsPoint old e
@@ -301,22 +251,13 @@ pub record PointEvent (e : Event) (old : Held) (w : World) : Type 0 where
   pub age : EventStep version_1 (Running w) e (Some Age) (refused Elimit) (Running w)
   pub after : World
   pub cut : EventStep version_1 (Running w) e (Some Write) (refused Eio) (Stopped (settle w) after)
-  pub writes : (d : Disk) → Touches (IsBesideRoot old) old.disk d → Writes (Running w) old old e d
-  pub begins : (m : Mishap) (next : State) (d : Disk) → Begins e (Some m) next old.disk d
-  pub numbers : (m : Mishap) → NumbersIn e (Some m) (Running w) old.kept (Running w) old.kept
-  pub since : (m : Mishap) → SinceIn e (Some m) (Running w) old.kept_since (Running w) old.kept_since
-  pub room : (m : Mishap) → RoomIn e old old.disk (Some m) (Running w) old.room
-  pub any_room : (before after : World) (d : Disk) (room : RoomCounts) → RoomIn e old d (Some Write) (Stopped before after) room
-  pub steps : (m : Mishap) (new : Held) → StepsIn e (Running w) (refused (errno_of m)) old new
-  pub works : (m : Mishap) (new : Status) → Works e (refused (errno_of m)) old.status new
-  pub costs_none : (m : Mishap) → IsRefusing m → Costs (Running w) old old e (Some m) old.status
-  pub costs_read : (new : Status) → CostsAtMost 0 0 old.status new → Costs (Running w) old old e (Some Read) new
-  pub costs_cut : (new : Status) → IsCutAtPoint old e new → Costs (Running w) old old e (Some Write) new
+  pub unchanged : (m : Mishap) (new : Held) → IsUnchanged m old new → Leaves (Running w) e (Some m) (refused (errno_of m)) (Running w) old old new
+  pub cut_off : (new : Held) → IsCutAtPoint old e new.disk new.status → Leaves (Running w) e (Some Write) (refused Eio) (Stopped (settle w) after) old old new
 
 -- it was cut off, and either world may be there
-pub is_cut : (e : Event) (old : Held) (x : PointEvent e old old.world) (new : Held) → Touches (IsBesideRoot old) old.disk new.disk → LeavesOnly old.disk new.disk (λ c. IsImage c (settle old.world) ⊎ IsImage c x.after) → HasFailed old.status new.status
-    → IsLater old.status new.status → IsCutAtPoint old e new.status → AnswersFrom (Running old.world) e (refused Eio) old new true
-is_cut e old x new touched moments failed later cut =
+pub is_cut : (e : Event) (old : Held) (x : PointEvent e old old.world) (new : Held) → LeavesOnly old.disk new.disk (λ c. IsImage c (settle old.world) ⊎ IsImage c x.after) → HasFailed old.status new.status → IsLater old.status new.status → IsCutAtPoint old e new.disk new.status
+    → AnswersFrom (Running old.world) e (refused Eio) old new true
+is_cut e old x new moments failed later cut =
     let now = LeavesOnly-now old.disk new.disk (λ d. IsImage d (settle old.world) ⊎ IsImage d x.after) moments in
     record {
       met = Some Write;
@@ -332,15 +273,8 @@ is_cut e old x new touched moments failed later cut =
         moments = LeavesOnly-weaker old.disk new.disk (λ d. IsImage d (settle old.world) ⊎ IsImage d x.after) (λ d. ShowsState (Running old.world) d ⊎ ShowsState (Stopped (settle old.world) x.after) d) (λ d h. inr h) moments;
         answered = now;
       };
-      writes = x.writes new.disk touched;
-      begins = x.begins Write (Stopped (settle old.world) x.after) new.disk;
-      numbers = stopped_numbers e (Some Write) old.world old.kept (settle old.world) x.after new.kept;
-      since = stopped_since e old.world old.kept_since (settle old.world) x.after new.kept_since;
-      room = x.any_room (settle old.world) x.after new.disk new.room;
       later = later;
-      costs = x.costs_cut new.status cut;
-      steps = x.steps Write new;
-      works = x.works Write new.status;
+      leaves = x.cut_off new cut;
     }
 
 module _ (e : Event) (old : Held) (x : PointEvent e old old.world) (between : old.point ≡ None) (r : RunsReady old old.world old.base) where
@@ -348,7 +282,7 @@ module _ (e : Event) (old : Held) (x : PointEvent e old old.world) (between : ol
   running = running_between old old.world between r
 
   -- nothing has changed
-  refuses : (m : Mishap) → IsRefusing m → MayMeet old old e (Some m) old.status → EventStep version_1 (Running old.world) e (Some m) (refused (errno_of m)) (Running old.world) → AnswersFrom (Running old.world) e (refused (errno_of m)) old old false
+  refuses : (m : Mishap) → IsUnchanged m old old → MayMeet old old e (Some m) old.status → EventStep version_1 (Running old.world) e (Some m) (refused (errno_of m)) (Running old.world) → AnswersFrom (Running old.world) e (refused (errno_of m)) old old false
   refuses m is may step = record {
     met = Some m;
     fin = old;
@@ -360,15 +294,8 @@ module _ (e : Event) (old : Held) (x : PointEvent e old old.world) (between : ol
     step = step;
     means = (refl, running);
     lasts = stays_lasts old false (Running old.world) (refl, running);
-    writes = x.writes old.disk (Touches-start (IsBesideRoot old) old.disk);
-    begins = x.begins m (Running old.world) old.disk;
-    numbers = x.numbers m;
-    since = x.since m;
-    room = x.room m;
     later = later-same old.status old.status refl;
-    costs = x.costs_none m is;
-    steps = x.steps m old;
-    works = x.works m old.status;
+    leaves = x.unchanged m old is;
   }
 
   -- but what the device counts
@@ -386,36 +313,26 @@ module _ (e : Event) (old : Held) (x : PointEvent e old old.world) (between : ol
         step = x.read;
         means = (refl, running_between (record old { status = new.status }) old.world between (ready_with old old.world old.base old.kept old.kept_since old.base old.point new.status r));
         lasts = stays_lasts old false (Running old.world) (refl, running);
-        writes = x.writes old.disk (Touches-start (IsBesideRoot old) old.disk);
-        begins = x.begins Read (Running old.world) old.disk;
-        numbers = x.numbers Read;
-        since = x.since Read;
-        room = x.room Read;
         later = told.1;
-        costs = x.costs_read new.status told.2;
-        steps = x.steps Read (record old { status = new.status });
-        works = x.works Read new.status;
+        leaves = x.unchanged Read (record old { status = new.status }) (refl, fails);
       })
 
   pub unpointed_answers : (asked : AskedPoint) → ((d : Contents) → EitherImage old.world (pointed asked (world_behind e old.world)) d → IsImage d (settle old.world) ⊎ IsImage d x.after) → (fault : PointFault) (new : Held) → IsUnpointed fault e asked old new → AnswersFrom (Running old.world) e (refused (errno_of_point fault)) old new (stops_for fault)
-  unpointed_answers asked shows point.Memory new is = subst (λ (h : Held). AnswersFrom (Running old.world) e (refused Enomem) old h false) (sym is) (refuses Memory tt refl x.memory)
-  unpointed_answers asked shows point.Age new is = subst (λ (h : Held). AnswersFrom (Running old.world) e (refused Elimit) old h false) (sym is.0) (refuses Age tt (x.needed, is.1, refl) x.age)
+  unpointed_answers asked shows point.Memory new is = subst (λ (h : Held). AnswersFrom (Running old.world) e (refused Enomem) old h false) (sym is) (refuses Memory refl refl x.memory)
+  unpointed_answers asked shows point.Age new is = subst (λ (h : Held). AnswersFrom (Running old.world) e (refused Elimit) old h false) (sym is.0) (refuses Age refl (x.needed, is.1, refl) x.age)
   unpointed_answers asked shows point.Read new is = cannot_read new is.0 is.1
   unpointed_answers asked shows point.Damaged new is = absurd is
-  unpointed_answers asked shows point.Device new is = is_cut e old x new is.touched (LeavesOnly-weaker old.disk new.disk (EitherImage old.world (pointed asked (world_behind e old.world))) (λ d. IsImage d (settle old.world) ⊎ IsImage d x.after) shows is.moments) is.failed is.later (inl (record { needed = x.needed; built = is.built; builds = is.builds; costs = is.costs }))
+  unpointed_answers asked shows point.Device new is = is_cut e old x new (LeavesOnly-weaker old.disk new.disk (EitherImage old.world (pointed asked (world_behind e old.world))) (λ d. IsImage d (settle old.world) ⊎ IsImage d x.after) shows is.moments) is.failed is.later (inl (record { needed = x.needed; touched = is.touched; built = is.built; builds = is.builds; costs = is.costs }))
 
 -- ---- a call
 
-pub not_more : (errno : Errno) → refused errno ≡ answer.Progress progress.More → ⊥
-not_more errno e = cc
-
--- one that is refused before its point begins costs nothing
-pub refused_costs : (old : Held) (session : ℕ) (c : Call) (m : Mishap) → IsRefusing m → Costs (Running old.world) old old (event.Call session c) (Some m) old.status
-refused_costs old session c Memory is = refl
-refused_costs old session c Read is = absurd is
-refused_costs old session c Write is = absurd is
-refused_costs old session c Space is = absurd is
-refused_costs old session c Age is = refl
+-- one that is refused leaves what is held
+pub unchanged_call : (old : Held) (session : ℕ) (c : Call) (m : Mishap) (new : Held) → IsUnchanged m old new → LeavesCall old old session c (Some m) new
+unchanged_call old session c Memory new is = is
+unchanged_call old session c Read new is = is
+unchanged_call old session c Write new is = absurd is
+unchanged_call old session c Space new is = is
+unchanged_call old session c Age new is = is
 
 pub call_point : (old : Held) (session : ℕ) (c : Call) → IsCall c → IsWorld version_1 old.world → LacksFirst old session c → PointEvent (event.Call session c) old old.world
 call_point old session c numbers whole needed = record {
@@ -425,17 +342,8 @@ call_point old session c numbers whole needed = record {
   age = ((o, is.decided, inl charged), record { told = refl; same = refl });
   after = settle next;
   cut = record { outcome = o; decided = is.decided; writes = inl charged; next = next; comes = comes old session c o is.picked needed.change numbers whole is.decided is.chosen is.is can.tree can.applied; stops = record { told = refl; left = refl } };
-  writes = λ d touched. inr (inl needed, touched);
-  begins = λ m s d. tt;
-  numbers = λ m. same_numbers session c old.world old.world old.kept old.kept refl refl;
-  room = λ m. refl;
-  any_room = λ before after d room. tt;
-  since = λ m n. refl;
-  steps = λ m new. tt;
-  works = λ m new. tt;
-  costs_none = refused_costs old session c;
-  costs_read = λ new costs. costs;
-  costs_cut = λ new cut. inr cut;
+  unchanged = unchanged_call old session c;
+  cut_off = λ new cut. inr cut;
 }
   where
     is : IsChangeOf old.world old.kept session c needed.change
@@ -471,7 +379,7 @@ unmade_in_call point.Device session c asked old new is = is
 -- the same in each world that is meant
 pub call_behind : (old mid new : Held) (session : ℕ) (c : Call) (reply : Reply) (has_stopped : Bool) → old.point ≡ None → LacksFirst old session c → Points (Ok tt) Plain old mid → Serves (Some reply) mid session c new has_stopped → Answers (event.Call session c) reply old false new has_stopped
 call_behind old mid new session c reply has_stopped between needed points serves =
-    in_its_world (event.Call session c) old new reply has_stopped between (λ r. let p = points r tt in behind_point old mid new session c needed p (serves (Running old.world) (refl, running_between mid old.world p.point p.runs)))
+    in_its_world (event.Call session c) old new reply has_stopped between (λ r. let p = points r tt in behind_point old mid new session c needed p (serves (Running old.world) (refl, running_between mid old.world p.fresh.between p.runs)))
 
 pub call_without_room : PayloadsFit → (old mid new : Held) (session : ℕ) (c : Call) → IsWorld version_1 mid.world → old.point ≡ None → LacksFirst old session c → Points (Ok tt) Plain old mid → Serves None mid session c new false → Answers (event.Call session c) (refused Enospc) old false new false
 call_without_room fit old mid new session c whole between needed points serves =
@@ -492,25 +400,16 @@ unmount_point old = record {
   age = inl (record { told = refl; same = refl });
   after = settle old.world;
   cut = inl (record { told = refl; left = refl });
-  writes = λ d touched. inl touched;
-  begins = λ m s d. tt;
-  numbers = λ m n. refl;
-  since = λ m n. refl;
-  room = λ m. refl;
-  any_room = λ before after d room. tt;
-  steps = λ m new. tt;
-  works = λ m new. tt;
-  costs_none = none;
-  costs_read = λ new costs. inl costs;
-  costs_cut = λ new cut. cut;
+  unchanged = unchanged;
+  cut_off = λ new cut. cut;
 }
   where
-    none : (m : Mishap) → IsRefusing m → Costs (Running old.world) old old event.Restart (Some m) old.status
-    none Memory is = inl refl
-    none Read is = absurd is
-    none Write is = absurd is
-    none Space is = absurd is
-    none Age is = refl
+    unchanged : (m : Mishap) (new : Held) → IsUnchanged m old new → LeavesRestart old old (Some m) (Running old.world) new
+    unchanged Memory new is = is
+    unchanged Read new is = is
+    unchanged Write new is = absurd is
+    unchanged Space new is = is
+    unchanged Age new is = is
 
 pub unpointed_restart : (old new : Held) (fault : PointFault) → old.point ≡ None → RunsReady old old.world old.base → IsUnpointed fault event.Restart Plain old new
     → AnswersFrom (Running old.world) event.Restart (refused (errno_of_point fault)) old new (stops_for fault)

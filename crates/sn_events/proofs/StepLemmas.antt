@@ -1,5 +1,5 @@
 -- What a step answers.
-use Rattle.std.proofs.Common.{◌≡◌, ◌⊎◌, inl, inr, ℕ, ◌+◌, ◌<◌, ◌≤◌, false, true, Some, None, Err, Ok, refl, sym, ap, subst, arith}
+use Rattle.std.proofs.Common.{◌≡◌, ◌⊎◌, inl, inr, ℕ, ◌+◌, ◌<◌, ◌≤◌, false, true, Some, None, Err, Ok, refl, sym, ap, subst}
 use Rattle.std.proofs.lemmas.Bool.{true≢false}
 use Rattle.sn_limits.specs.Versions.{version_1}
 use Rattle.sn_model.specs.declared.call.Event.TheVariants as event
@@ -9,12 +9,10 @@ use Rattle.sn_model.specs.declared.reply.Progress.TheVariants as progress
 use Rattle.sn_model.specs.declared.reply.Reply.TheVariants as answer
 use Rattle.sn_model.specs.Machine.{Mishap, Running, Stopped, Memory, Read, Write, Age, EventStep, errno_of, refused}
 use Rattle.sn_model.specs.Settling.{settle}
-use Rattle.sn_block.specs.Effects.{Nowhere}
 use Rattle.sn_block.proofs.CountLemmas.{later-is, later-same}
-use Rattle.sn_core.proofs.NumberLemmas.{step_numbers}
 use Rattle.sn_device.specs.Crash.{LeavesOnly, Touches}
 use Rattle.sn_device.specs.declared.status.Status.{Status}
-use Rattle.sn_device.proofs.CrashLemmas.{LeavesOnly-now, LeavesOnly-weaker, Touches-start}
+use Rattle.sn_device.proofs.CrashLemmas.{LeavesOnly-now, LeavesOnly-weaker}
 use Rattle.sn_held.specs.Held.{Held}
 use Rattle.sn_held.specs.Images.{IsImage}
 use Rattle.sn_held.specs.Moments.{LastsOver, ShowsState}
@@ -25,10 +23,10 @@ use Rattle.sn_cp_progress.proofs.MeaningLemmas.{counted_with, runs_with, stays_l
 use Rattle.sn_cp_whole.specs.declared.fault.PointFault.{PointFault}
 use Rattle.sn_cp_whole.specs.declared.fault.PointFault.TheVariants as point
 use Rattle.sn_block.specs.Counts.{FailsRead, called}
-use Rattle.sn_events.specs.Answers.{Answers, AnswersFrom, Costs, HasBegun, HasGoneOn, IsBesideRoot, MayMeet}
+use Rattle.sn_events.specs.Answers.{Answers, AnswersFrom, HasBegun, HasGoneOn, IsBesideRoot, MayMeet, LeavesStep}
 use Rattle.sn_events.specs.Pointing.{Advances, IsAdvancedTo, IsBegunTo, IsCutStep, IsFinishedTo, IsUnbegun, errno_of_point, stops_for}
 use Rattle.sn_events.proofs.ReadLemmas.{fails_read}
-use Rattle.sn_events.proofs.PointLemmas.{in_any_world, not_more, running_between}
+use Rattle.sn_events.proofs.PointLemmas.{in_any_world, running_between}
 
 pub stopped_step : (h : Held) → Answers event.Step (refused Estopped) h true h true
 stopped_step h (Running w) m = absurd (true≢false m.0)
@@ -43,19 +41,9 @@ stopped_step h (Stopped before after) m = record {
   step = (refl, refl);
   means = m;
   lasts = stays_lasts h true (Stopped before after) m;
-  writes = Touches-start Nowhere h.disk;
-  begins = tt;
-  numbers = tt;
-  since = tt;
-  room = tt;
   later = later-same h.status h.status refl;
-  costs = refl;
-  steps = tt;
-  works = λ more. absurd (not_more Estopped more);
+  leaves = refl;
 }
-
-done_is_not_more : answer.Progress progress.Done ≡ answer.Progress progress.More → ⊥
-done_is_not_more e = cc
 
 -- a crash leaves the settled world on the way, and so it does behind it
 goes_on_lasting : (old new : Held) → LeavesOnly old.disk new.disk (λ c. IsImage c (settle old.world)) → RunsWith new.point new old.world → LastsOver (Running old.world) (Running old.world) old.disk new.disk
@@ -65,11 +53,9 @@ goes_on_lasting old new moments runs = record {
 }
 
 -- it has begun a point, or gone on with one
-more_step : (writes syncs : ℕ) (old new : Held) → HasBegun old new ⊎ HasGoneOn old new → ((n : ℕ) → new.kept n ≡ old.kept n) → new.status ≡ called writes syncs old.status
-    → (old.status.writes < new.status.writes) × (new.status.writes ≤ old.status.writes + 8) × (new.status.syncs ≤ old.status.syncs + 1)
-    → LeavesOnly old.disk new.disk (λ c. IsImage c (settle old.world)) → Touches (IsBesideRoot old) old.disk new.disk → RunsWith new.point new old.world
+more_step : (writes syncs : ℕ) (old new : Held) → HasBegun old new ⊎ HasGoneOn old new → new.status ≡ called writes syncs old.status → LeavesOnly old.disk new.disk (λ c. IsImage c (settle old.world)) → Touches (IsBesideRoot old) old.disk new.disk → RunsWith new.point new old.world
     → AnswersFrom (Running old.world) event.Step (answer.Progress progress.More) old new false
-more_step writes syncs old new made kept costs some moments touched runs = record {
+more_step writes syncs old new made costs moments touched runs = record {
   met = None;
   fin = old;
   finish = inl refl;
@@ -80,25 +66,15 @@ more_step writes syncs old new made kept costs some moments touched runs = recor
   step = (inl refl, refl);
   means = (refl, runs);
   lasts = goes_on_lasting old new moments runs;
-  writes = touched;
-  begins = tt;
-  numbers = record { next = (step_numbers old.world old.kept).next; keeps = kept };
-  since = tt;
-  room = tt;
   later = later-is writes syncs old.status new.status costs;
-  costs = tt;
-  steps = made;
-  works = λ more. some;
+  leaves = record { touched = touched; told = inl (refl, made) };
 }
 
 begun_step : (old new : Held) → IsBegunTo old new → AnswersFrom (Running old.world) event.Step (answer.Progress progress.More) old new false
-begun_step old new b =
-    let writes = ap (λ (s : Status). s.writes) b.begun.costs in
-    let syncs = ap (λ (s : Status). s.syncs) b.begun.costs in
-    more_step 1 1 old new (inl b.begun) b.begun.kept b.begun.costs (omega (arith, writes), omega (arith, writes), omega (arith, syncs)) b.moments b.touched b.runs
+begun_step old new b = more_step 1 1 old new (inl b.begun) b.begun.costs b.moments b.touched b.runs
 
 advanced_step : (old new : Held) → IsAdvancedTo old new → AnswersFrom (Running old.world) event.Step (answer.Progress progress.More) old new false
-advanced_step old new a = more_step _ _ old new (inr a.gone) (λ n. ap (λ (h : Held). h.kept n) a.gone.held) a.gone.costs a.some a.moments a.touched a.runs
+advanced_step old new a = more_step _ _ old new (inr a.gone) a.gone.costs a.moments a.touched a.runs
 
 -- it has finished one
 ended_step : (old new : Held) (f : IsFinishedTo old new) → f.finished.going.stage ≡ Bodied → AnswersFrom (Running old.world) event.Step (answer.Progress progress.Done) old new false
@@ -106,30 +82,23 @@ ended_step old new f last =
     let runs = running_between new old.world f.finished.point f.runs in
     record {
       met = None;
-      fin = new;
-      finish = inr (tt, f.finished);
-      mid = new;
+      fin = old;
+      finish = inl refl;
+      mid = old;
       point = inl refl;
-      may = refl;
+      may = ap (λ (s : Status). s.failures) f.finished.costs;
       next = Running old.world;
       step = (inr refl, refl);
       means = (refl, runs);
       lasts = goes_on_lasting old new f.moments runs;
-      writes = Touches-start (IsBesideRoot new) new.disk;
-      begins = tt;
-      numbers = step_numbers old.world new.kept;
-      since = tt;
-      room = tt;
       later = later-is _ _ old.status new.status f.finished.costs;
-      costs = tt;
-      steps = record { finished = f.finished; last = last };
-      works = λ more. absurd (done_is_not_more more);
+      leaves = record { touched = f.finished.touched; told = inr (refl, record { finished = f.finished; last = last }) };
     }
 
 -- it was refused, and nothing has changed
 refused_step : (old : Held) (m : Mishap) → RunsWith old.point old old.world → MayMeet old old event.Step (Some m) old.status → EventStep version_1 (Running old.world) event.Step (Some m) (refused (errno_of m)) (Running old.world)
-    → Costs (Running old.world) old old event.Step (Some m) old.status → AnswersFrom (Running old.world) event.Step (refused (errno_of m)) old old false
-refused_step old m runs may step costs = record {
+    → LeavesStep old (Some m) (refused (errno_of m)) old → AnswersFrom (Running old.world) event.Step (refused (errno_of m)) old old false
+refused_step old m runs may step leaves = record {
   met = Some m;
   fin = old;
   finish = inl refl;
@@ -140,15 +109,8 @@ refused_step old m runs may step costs = record {
   step = step;
   means = (refl, runs);
   lasts = stays_lasts old false (Running old.world) (refl, runs);
-  writes = Touches-start (IsBesideRoot old) old.disk;
-  begins = tt;
-  numbers = step_numbers old.world old.kept;
-  since = tt;
-  room = refl;
   later = later-same old.status old.status refl;
-  costs = costs;
-  steps = tt;
-  works = λ more. absurd (not_more (errno_of m) more);
+  leaves = leaves;
 }
 
 -- but what the device counts
@@ -166,15 +128,8 @@ unread_step old new runs is fails =
       step = record { told = refl; same = refl };
       means = (refl, counted_with old.point old old.world new.status runs);
       lasts = stays_lasts old false (Running old.world) (refl, runs);
-      writes = Touches-start (IsBesideRoot old) old.disk;
-      begins = tt;
-      numbers = step_numbers old.world old.kept;
-      since = tt;
-      room = refl;
       later = told.1;
-      costs = told.2;
-      steps = tt;
-      works = λ more. absurd (not_more Eio more);
+      leaves = (refl, fails);
     })
 
 -- it was cut off
@@ -198,15 +153,8 @@ cut_step old new cut =
             (λ d. ShowsState (Running old.world) d ⊎ ShowsState (Stopped (settle old.world) (settle old.world)) d) (λ d h. inr h) either;
         answered = now;
       };
-      writes = cut.touched;
-      begins = tt;
-      numbers = tt;
-      since = tt;
-      room = tt;
       later = cut.later;
-      costs = cut.costs;
-      steps = tt;
-      works = λ more. absurd (not_more Eio more);
+      leaves = record { touched = cut.touched; costs = cut.costs };
     }
 
 unmade_step : (old new : Held) (fault : PointFault) → RunsWith old.point old old.world → IsUnbegun fault old new → AnswersFrom (Running old.world) event.Step (refused (errno_of_point fault)) old new (stops_for fault)

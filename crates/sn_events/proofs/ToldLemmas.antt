@@ -17,11 +17,9 @@ use Rattle.sn_core.proofs.NumberLemmas.{kept_by}
 use Rattle.sn_core.proofs.AskedLemmas.{alone_stays}
 use Rattle.sn_core.proofs.StepLemmas.{IsServed, MadeBy, chosen_served, served_whole}
 use Rattle.sn_block.proofs.CountLemmas.{later-same}
-use Rattle.sn_device.proofs.CrashLemmas.{LeavesOnly-start, Touches-start}
-use Rattle.sn_ondisk.specs.LogHalf.{InHalf}
-use Rattle.sn_log.specs.Positions.{base_at}
+use Rattle.sn_device.proofs.CrashLemmas.{LeavesOnly-start}
 use Rattle.sn_held.specs.Events.{IsOfTree}
-use Rattle.sn_held.specs.Held.{Held}
+use Rattle.sn_held.specs.Held.{Held, CarriesOn}
 use Rattle.sn_cp_progress.specs.Meaning.{RunsWith}
 use Rattle.sn_cp_progress.proofs.MeaningLemmas.{drops_with, runs_with}
 use Rattle.sn_held.specs.Moments.{ShowsState}
@@ -29,7 +27,8 @@ use Rattle.sn_held.proofs.EventLemmas.{left_of_tree, runs_show}
 use Rattle.sn_events.specs.Mounted.{RunsNow}
 use Rattle.sn_events.specs.Serving.{DropsFiles, Serves, ServesFrom, Turns}
 use Rattle.sn_events.proofs.DecisionLemmas.{has_no_change}
-use Rattle.sn_events.proofs.CallLemmas.{asks_nothing, drops_carry, in_world}
+use Rattle.sn_events.proofs.CallLemmas.{asks_nothing, drops_carry, in_world, carries_same}
+use Rattle.sn_events.specs.Answers.{HasDropped}
 
 module _ (old new : Held) (session : ℕ) (c : Call) (o : Outcome) (picked : Chosen) (numbers : IsCall c) (whole : IsWorld version_1 old.world) (decided : decision version_1 old.world session c ≡ Ok o) (chosen : Chooses old.world.live old.kept o.change o.caller picked) (none : picked.change ≡ None) (alone : asks_for_point c ≡ false)
     (turned : Turns session picked.caller (nameless_in old.world.live) old new) where
@@ -62,10 +61,18 @@ module _ (old new : Held) (session : ℕ) (c : Call) (o : Outcome) (picked : Cho
   whole_next : IsWorld version_1 next
   whole_next = served_whole old.world next session c o.told served.0 numbers whole
 
+  drops : DropsFiles old.base old.world.live new.base next.live
+  drops = subst (λ (w : World). DropsFiles old.base old.world.live new.base w.live) world_is turned.base
+
+  has_dropped : HasDropped (nameless_in old.world.live) old after
+  has_dropped = record { kept = turned.kept; since = turned.since; is = refl }
+
+  carries : (figure : ℕ) → CarriesOn old.base old.world.live figure new.base next.live figure
+  carries figure = drops_carry old.base new.base old.world session picked.caller figure whole.live.hierarchy drops
+
   runs_after : RunsNow old → RunsNow after
   runs_after r =
-      let drops = subst (λ (w : World). DropsFiles old.base old.world.live new.base w.live) world_is turned.base in
-      drops_with old.point old old.world next new.kept new.kept_since parked new.base r of (omega arith) (λ figure. drops_carry old.base new.base old.world session picked.caller figure whole.live.hierarchy drops) whole_next.live
+      drops_with old.point old old.world next new.kept new.kept_since parked new.base r of (omega arith) carries whole_next.live
 
   pub told_whole : IsWorld version_1 new.world
   told_whole = subst (IsWorld version_1) (sym world_is) whole_next
@@ -92,17 +99,9 @@ module _ (old new : Held) (session : ℕ) (c : Call) (o : Outcome) (picked : Cho
               step = record { next = next; becomes = served.0; runs = refl };
               means = (refl, on);
               lasts = record { moments = LeavesOnly-start old.disk (λ d. ShowsState (Running old.world) d ⊎ ShowsState (Running next) d) (λ d crash. inr (shows d crash)); answered = shows };
-              writes = inl (Touches-start (InHalf (base_at old.at)) old.disk);
-              begins = tt;
-              numbers = served.1;
-              since = turned.since;
-              room = inl (has_no_change old.world old.kept session c o picked decided chosen none, refl);
               later = later-same old.status old.status refl;
-              costs = (asks_nothing old session c alone, inl (has_no_change old.world old.kept session c o picked decided chosen none, refl));
-              steps = tt;
-              works = tt;
+              leaves = (asks_nothing old session c alone, inl (record { none = has_no_change old.world old.kept session c o picked decided chosen none; drops = has_dropped; carries = carries_same old.base new.base old.world.live next.live carries }));
             };
             at_once = (refl, refl);
-            wrote = Touches-start (InHalf (base_at old.at)) old.disk;
             met = tt;
           })

@@ -17,25 +17,26 @@ use Rattle.sn_model.specs.declared.outcome.Outcome.{Outcome}
 use Rattle.sn_model.specs.declared.reply.Progress.TheVariants as progress
 use Rattle.sn_model.specs.declared.reply.Reply.{Reply}
 use Rattle.sn_model.specs.declared.reply.Reply.TheVariants as answer
+use Rattle.sn_model.specs.Changes.{apply}
 use Rattle.sn_model.specs.Machine.{State, Running, Stopped, Mishap, Memory, Read, Write, Space, Age, EventStep}
-use Rattle.sn_model.specs.Settling.{settle}
-use Rattle.sn_model.specs.Steps.{AsksForPoint, decision, pointed}
+use Rattle.sn_model.specs.Settling.{dropped, settle}
+use Rattle.sn_model.specs.Steps.{AsksForPoint, decision, pointed, with_caller, with_live}
+use Rattle.sn_model.specs.Tree.{Tree}
 use Rattle.sn_model.specs.World.{World}
-use Rattle.sn_block.specs.Counts.{IsLater, called}
-use Rattle.sn_block.specs.Effects.{Nowhere}
+use Rattle.sn_block.specs.Counts.{FailsRead, IsLater, called}
 use Rattle.sn_ondisk.specs.LogHalf.{InHalf, body_sectors}
 use Rattle.sn_record.specs.Payload.{payload_bytes}
-use Rattle.sn_log.specs.Positions.{HasRoom, base_at, first_of}
-use Rattle.sn_core.specs.Numbering.{Numbers, gives_kept, has_closed}
+use Rattle.sn_log.specs.Positions.{HasRoom, base_at, behind, first_of}
+use Rattle.sn_core.specs.Numbering.{gives_kept, has_closed}
 use Rattle.sn_core.specs.declared.choosing.Chosen.{Chosen}
 use Rattle.sn_core.specs.Served.{Chooses}
-use Rattle.sn_held.specs.Held.{Going, Held, Kept}
+use Rattle.sn_held.specs.Held.{Going, Held, Kept, CarriesOn}
 use Rattle.sn_held.specs.Moments.{LastsOver}
 use Rattle.sn_held.specs.Room.{HasRoomOf}
 use Rattle.sn_overlay.specs.Layers.{Layer}
 use Rattle.sn_overlay.specs.Needs.{nameless_in, need}
 use Rattle.sn_overlay.specs.Overlays.{no_changes}
-use Rattle.sn_room.specs.Rooms.{RoomCounts, begun, done, dropping, fits, fresh, logged}
+use Rattle.sn_room.specs.Rooms.{RoomCounts, begun, done, dropping, fits, logged}
 use Rattle.sn_sound.specs.Logs.{HasAgeLeft}
 use Rattle.sn_root.specs.declared.following.PointKind.TheVariants.{Ordinary}
 use Rattle.sn_cp.specs.Counting.{steps_left, syncs_left, writes_left}
@@ -49,9 +50,9 @@ use Rattle.sn_cp_whole.specs.Recovering.{IsApart}
 use Rattle.sn_cp_whole.specs.Making.{most_syncs, most_writes, syncs_of_point, writes_of_point}
 use Rattle.sn_examine.specs.Failing.{CostsAtMost, HasFailed, HasNotFailed}
 use Rattle.sn_mount.specs.Costs.{CostsFew, CostsMount}
-use Rattle.sn_mount.specs.Recovering.{LeavesTheWorld}
+use Rattle.sn_mount.specs.Recovering.{KeepsTheRoot, KeepsTheWorld, LeavesTheWorld, OfImage}
 use Rattle.sn_events.specs.Dropping.{DropsFiles}
-use Rattle.sn_events.specs.Mounting.{WritesToMount}
+use Rattle.sn_events.specs.Mounting.{IsFresh, WritesToMount}
 
 -- the change that a call comes to
 pub record IsChangeOf (world : World) (kept : ℕ → Bool) (session : ℕ) (c : Call) (change : Change) : Type 0 where
@@ -120,18 +121,13 @@ BuildsOf event.Restart old built = DropsFiles old.base old.world.live (record ol
 abbrev pub IsBesideRoot : Held → ℕ → Type 0
 IsBesideRoot h = IsApart h.at.blocks h.base.slot
 
--- A whole point was made first, where none was in progress, with its writes and syncs, beside the root that counted: the log is empty, nothing is charged or has changed, no number is kept back, and the snapshots are those that were asked for.
+-- A whole point was made first, where none was in progress, with its writes and syncs, beside the root that counted: nothing was done since its root, and the snapshots are those that were asked for.
 pub record HasMadePoint (e : Event) (old mid : Held) : Type 0 where
   pub needed : NeedsPoint old e
   pub between : old.point ≡ None
-  pub point : mid.point ≡ None
   pub world : mid.world ≡ pointed (asked_in old e needed) (world_behind e old.world)
-  pub none_kept : (number : ℕ) → mid.kept number ≡ false
-  pub none_since : (number : ℕ) → mid.kept_since number ≡ false
+  pub fresh : IsFresh mid
   pub log : mid.at ≡ first_of old.at.blocks (old.at.epoch + 1)
-  pub room : mid.room ≡ fresh mid.room.free
-  pub changed : mid.base.changed ≡ no_changes
-  pub age : HasAgeLeft mid.base.root
   pub touched : Touches (IsBesideRoot old) old.disk mid.disk
   pub built : Layer
   pub builds : BuildsOf e old built
@@ -158,13 +154,20 @@ pub record HasFinished (old new : Held) : Type 0 where
   pub touched : Touches (IsBesideRoot old) old.disk new.disk
   pub costs : new.status ≡ called (writes_left going.work going.stage) (syncs_left going.work going.stage) old.status
 
--- What is held once the point in progress is finished, where an event needs that.
-abbrev pub IsBehindFinish : Event → Held → Held → Type 0
-IsBehindFinish e old fin = (fin ≡ old) ⊎ (NeedsPoint old e × HasFinished old fin)
+-- What may finish the point in progress, or make a whole one: a call or a restart of a mount that runs. A step makes one step alone.
+abbrev pub MayPoint : State → Event → Type 0
+MayPoint (Running w) (event.Call session c) = Unit {0}
+MayPoint (Running w) event.Step = ⊥
+MayPoint (Running w) event.Restart = Unit {0}
+MayPoint (Stopped before after) e = ⊥
 
--- What is held behind the whole point that an event makes first, where it makes one.
-abbrev pub IsBehindPoint : Event → Held → Held → Type 0
-IsBehindPoint e old mid = (mid ≡ old) ⊎ HasMadePoint e old mid
+-- What is held once the point in progress is finished, where an event needs that: else what was held.
+abbrev pub IsBehindFinish : State → Event → Held → Held → Type 0
+IsBehindFinish s e old fin = (fin ≡ old) ⊎ (MayPoint s e × NeedsPoint old e × HasFinished old fin)
+
+-- What is held behind the whole point that an event makes first, where it makes one: else what was held.
+abbrev pub IsBehindPoint : State → Event → Held → Held → Type 0
+IsBehindPoint s e old mid = (mid ≡ old) ⊎ (MayPoint s e × HasMadePoint e old mid)
 
 -- what lacks right behind a whole point
 abbrev pub LacksRoom : Held → Event → Type 0
@@ -185,31 +188,6 @@ MayMeet old mid e (Some Write) new = HasFailed old.status new
 MayMeet old mid e (Some Space) new = LacksRoom mid e × HasMadePoint e old mid × HasNotFailed old.status new
 MayMeet old mid e (Some Age) new = NeedsPoint old e × IsLastRoot old.base.root × HasNotFailed old.status new
 
--- Which numbers are kept back since the point in progress began: those too that a close or a logout drops; none behind a restart. For a step `StepsTo` says it.
-abbrev pub SinceIn : Event → Option Mishap → State → (ℕ → Bool) → State → (ℕ → Bool) → Type 0
-SinceIn (event.Call session c) None (Running old) since (Running new) after = (number : ℕ) → after number ≡ (has_closed old new number || since number)
-SinceIn (event.Call session c) (Some m) (Running old) since (Running new) after = (number : ℕ) → after number ≡ since number
-SinceIn event.Step met (Running old) since (Running new) after = Unit {0}
-SinceIn event.Restart None (Running old) since (Running new) after = (number : ℕ) → after number ≡ false
-SinceIn event.Restart (Some m) (Running old) since (Running new) after = (number : ℕ) → after number ≡ since number
-SinceIn e met (Running old) since (Stopped first last) after = Unit {0}
-SinceIn e met (Stopped first last) since (Running new) after = (number : ℕ) → after number ≡ false
-SinceIn e met (Stopped first last) since (Stopped one other) after = Unit {0}
-
--- from one world to the next; a restart that is refused keeps the numbers that it had
-abbrev pub NumbersOver : Event → Option Mishap → World → (ℕ → Bool) → World → (ℕ → Bool) → Type 0
-NumbersOver (event.Call session c) met old kept new after = Numbers (event.Call session c) old kept new after
-NumbersOver event.Step met old kept new after = Numbers event.Step old kept new after
-NumbersOver event.Restart None old kept new after = Numbers event.Restart old kept new after
-NumbersOver event.Restart (Some m) old kept new after = (number : ℕ) → after number ≡ kept number
-
--- Which number a new node gets, and which are kept back: none once a mount that had stopped runs again.
-abbrev pub NumbersIn : Event → Option Mishap → State → (ℕ → Bool) → State → (ℕ → Bool) → Type 0
-NumbersIn e met (Running old) kept (Running new) after = NumbersOver e met old kept new after
-NumbersIn e met (Running old) kept (Stopped first last) after = Unit {0}
-NumbersIn e met (Stopped first last) kept (Running new) after = (number : ℕ) → after number ≡ false
-NumbersIn e met (Stopped first last) kept (Stopped one other) after = Unit {0}
-
 -- the writes of a record: its body's sectors, the next gate closed and its own gate opened
 abbrev pub writes_of : Change → ℕ
 writes_of change = body_sectors (payload_bytes change) + 2
@@ -225,125 +203,85 @@ pub record HasAll (h : Held) (change : Change) (o : Outcome) : Type 0 where
   pub number : gives_kept change h.kept ≡ false
   pub age : HasAgeLeft h.base.root
 
--- The change that a call comes to was appended to the log, where it lacked nothing: with the writes and the two syncs of its record.
-pub record IsRecorded (h : Held) (session : ℕ) (c : Call) (new : Status) : Type 0 where
+-- ---- what is left of what was held
+
+-- It was refused, and nothing has changed but what the device counts of a read that failed.
+abbrev pub IsUnchanged : Mishap → Held → Held → Type 0
+IsUnchanged Memory old new = new ≡ old
+IsUnchanged Read old new = (new ≡ record old { status = new.status }) × FailsRead old.status new.status
+IsUnchanged Write old new = ⊥
+IsUnchanged Space old new = new ≡ old
+IsUnchanged Age old new = new ≡ old
+
+-- with a change that makes this tree, and its record, with the writes and the two syncs of that
+abbrev pub with_record : Held → Change → ℕ → Tree → Disk → Held
+with_record h change charge tree disk = record h { world = with_live h.world tree; room = logged charge h.room; at = behind h.at change; disk = disk; status = called (writes_of change) 2 h.status }
+
+-- Files without names may have gone: the numbers of those that were open are kept back, and of so many those are counted that are there no more. Nothing else has changed, but for what is kept of the changes since the root.
+pub record HasDropped (parked : ℕ) (old new : Held) : Type 0 where
+  pub kept : (number : ℕ) → new.kept number ≡ (has_closed old.world new.world number || old.kept number)
+  pub since : (number : ℕ) → new.kept_since number ≡ (has_closed old.world new.world number || old.kept_since number)
+  pub is : new ≡ record old { world = new.world; kept = new.kept; kept_since = new.kept_since; room = dropping (parked - nameless_in new.world.live) old.room; base = new.base }
+
+-- the same root is kept, and what changed since leads on to the live tree that is there now, with this charge
+abbrev pub CarriesCharge : ℕ → Held → Held → Type 0
+CarriesCharge charge old new = (figure : ℕ) → CarriesOn old.base old.world.live figure new.base new.world.live (figure + charge)
+
+-- A call that comes to no change of the tree writes nothing. Files without names may go with it.
+pub record HasTold (session : ℕ) (c : Call) (old new : Held) : Type 0 where
+  pub none : HasNoChange old.world old.kept session c
+  pub drops : HasDropped (nameless_in old.world.live) old new
+  pub carries : CarriesCharge 0 old new
+
+-- The change that a call comes to was appended to the log, where it lacked nothing, charged, and made. A file that goes with its last name was charged by its call, and isn't counted.
+pub record HasLogged (session : ℕ) (c : Call) (old new : Held) : Type 0 where
   pub change : Change
-  pub is : IsChangeOf h.world h.kept session c change
-  pub all : HasAll h change is.outcome
-  pub costs : new ≡ called (writes_of change) 2 h.status
+  pub is : IsChangeOf old.world old.kept session c change
+  pub all : HasAll old change is.outcome
+  pub tree : Tree
+  pub applied : apply version_1 change old.world.live ≡ Some tree
+  pub world : new.world ≡ dropped (with_caller (with_live old.world tree) session is.picked.caller)
+  pub touched : Touches (InHalf (base_at old.at)) old.disk new.disk
+  pub drops : HasDropped 0 (with_record old change is.outcome.charge tree new.disk) new
+  pub carries : CarriesCharge is.outcome.charge old new
 
 -- its append was cut off
-pub record IsTried (h : Held) (session : ℕ) (c : Call) (new : Status) : Type 0 where
+pub record IsTried (h : Held) (session : ℕ) (c : Call) (disk : Disk) (status : Status) : Type 0 where
   pub change : Change
   pub is : IsChangeOf h.world h.kept session c change
   pub all : HasAll h change is.outcome
-  pub costs : CostsAtMost (writes_of change) 2 h.status new
+  pub touched : Touches (InHalf (base_at h.at)) h.disk disk
+  pub costs : CostsAtMost (writes_of change) 2 h.status status
 
 -- a point that was needed was cut off
-pub record IsCutPoint (old : Held) (e : Event) (new : Status) : Type 0 where
+pub record IsCutPoint (old : Held) (e : Event) (disk : Disk) (status : Status) : Type 0 where
   pub needed : NeedsPoint old e
+  pub touched : Touches (IsBesideRoot old) old.disk disk
   pub built : Layer
   pub builds : BuildsOf e old built
-  pub costs : CostsAtMost (most_writes old.at.blocks (need old.base.root.limits built)) most_syncs old.status new
+  pub costs : CostsAtMost (most_writes old.at.blocks (need old.base.root.limits built)) most_syncs old.status status
 
 -- the point in progress was cut off while it was finished
-pub record IsCutFinish (old : Held) (e : Event) (new : Status) : Type 0 where
+pub record IsCutFinish (old : Held) (e : Event) (disk : Disk) (status : Status) : Type 0 where
   pub needed : NeedsPoint old e
+  pub touched : Touches (IsBesideRoot old) old.disk disk
   pub going : Going
   pub is : old.point ≡ Some going
-  pub costs : CostsAtMost (writes_left going.work going.stage) (syncs_left going.work going.stage) old.status new
+  pub costs : CostsAtMost (writes_left going.work going.stage) (syncs_left going.work going.stage) old.status status
 
 -- one or the other
-abbrev pub IsCutAtPoint : Held → Event → Status → Type 0
-IsCutAtPoint old e new = IsCutPoint old e new ⊎ IsCutFinish old e new
+abbrev pub IsCutAtPoint : Held → Event → Disk → Status → Type 0
+IsCutAtPoint old e disk status = IsCutPoint old e disk status ⊎ IsCutFinish old e disk status
 
--- a call that asks for a point, and whose tests pass, is answered behind one
-abbrev pub MakesAsked : Held → Held → ℕ → Call → Type 0
-MakesAsked old mid session c = AsksFirst old session c → HasMadePoint (event.Call session c) old mid
+-- A call that asks for a point, and whose tests pass, is answered behind one, and leaves what is held there.
+abbrev pub MakesAsked : Held → Held → ℕ → Call → Held → Type 0
+MakesAsked old mid session c new = AsksFirst old session c → HasMadePoint (event.Call session c) old mid × (new ≡ mid)
 
 -- Behind the point that a call makes first, where it needs one: a call that comes to a change is recorded, also where the change alters nothing, and any other writes nothing; nor does one that is refused.
-abbrev pub CostsCall : Held → Held → ℕ → Call → Option Mishap → Status → Type 0
-CostsCall old mid session c None new = MakesAsked old mid session c × ((HasNoChange mid.world mid.kept session c × (new ≡ mid.status)) ⊎ IsRecorded mid session c new)
-CostsCall old mid session c (Some Memory) new = new ≡ mid.status
-CostsCall old mid session c (Some Read) new = CostsAtMost 0 0 mid.status new
-CostsCall old mid session c (Some Write) new = IsTried mid session c new ⊎ IsCutAtPoint old (event.Call session c) new
-CostsCall old mid session c (Some Space) new = new ≡ mid.status
-CostsCall old mid session c (Some Age) new = new ≡ mid.status
-
--- What a step costs says `StepsTo`, where it is made. It begins a point, or is one of at most eight writes and a sync.
-abbrev pub CostsStep : Held → Option Mishap → Status → Type 0
-CostsStep old None new = Unit {0}
-CostsStep old (Some Memory) new = new ≡ old.status
-CostsStep old (Some Read) new = CostsAtMost 0 0 old.status new
-CostsStep old (Some Write) new = CostsAtMost 8 1 old.status new
-CostsStep old (Some Space) new = ⊥
-CostsStep old (Some Age) new = new ≡ old.status
-
--- what a mount costs
-abbrev pub CostsMountOf : Status → Status → Type 0
-CostsMountOf old new = (n : ℕ) × (8 * n ≤ old.sectors) × CostsMount n old new
-
--- or one that was cut off
-abbrev pub CostsMounting : Option Mishap → Status → Status → Type 0
-CostsMounting None old new = CostsMountOf old new
-CostsMounting (Some m) old new = CostsFew old new
-
--- a mount fails behind the point of an unmount
-abbrev pub CostsBehind : Held → Held → Status → Type 0
-CostsBehind old mid new = HasMadePoint event.Restart old mid × CostsFew mid.status new
-
--- A restart makes a whole point, and mounts behind it. Where the point isn't made it costs what a step would.
-abbrev pub CostsRestart : Held → Held → Option Mishap → Status → Type 0
-CostsRestart old mid None new = HasMadePoint event.Restart old mid × CostsMountOf mid.status new
-CostsRestart old mid (Some Memory) new = (new ≡ old.status) ⊎ CostsBehind old mid new
-CostsRestart old mid (Some Read) new = CostsAtMost 0 0 old.status new ⊎ CostsBehind old mid new
-CostsRestart old mid (Some Write) new = IsCutAtPoint old event.Restart new
-CostsRestart old mid (Some Space) new = ⊥
-CostsRestart old mid (Some Age) new = new ≡ old.status
-
--- in a stopped mount nothing is called but by a restart
-abbrev pub Costs : State → Held → Held → Event → Option Mishap → Status → Type 0
-Costs (Running w) old mid (event.Call session c) met new = CostsCall old mid session c met new
-Costs (Running w) old mid event.Step met new = CostsStep old met new
-Costs (Running w) old mid event.Restart met new = CostsRestart old mid met new
-Costs (Stopped before after) old mid (event.Call session c) met new = new ≡ old.status
-Costs (Stopped before after) old mid event.Step met new = new ≡ old.status
-Costs (Stopped before after) old mid event.Restart met new = CostsMounting met old.status new
-
--- behind the point of its unmount a mount writes
-abbrev pub WritesBehind : Held → Held → Disk → Type 0
-WritesBehind old mid new = HasMadePoint event.Restart old mid × WritesToMount mid.status.sectors mid.disk new
-
--- Which sectors an event may write: a call its half of the log, unless it needs a point; then, and in a step or an unmount, none of the root that counts. In a stopped mount only a restart writes.
-abbrev pub Writes : State → Held → Held → Event → Disk → Type 0
-Writes (Running w) old mid (event.Call session c) new = Touches (InHalf (base_at old.at)) old.disk new ⊎ (NeedsPoint old (event.Call session c) × Touches (IsBesideRoot old) old.disk new)
-Writes (Running w) old mid event.Step new = Touches (IsBesideRoot old) old.disk new
-Writes (Running w) old mid event.Restart new = Touches (IsBesideRoot old) old.disk new ⊎ WritesBehind old mid new
-Writes (Stopped before after) old mid (event.Call session c) new = Touches Nowhere old.disk new
-Writes (Stopped before after) old mid event.Step new = Touches Nowhere old.disk new
-Writes (Stopped before after) old mid event.Restart new = WritesToMount old.status.sectors old.disk new
-
--- a call that comes to a change is charged for it
-pub record IsChargedFor (h : Held) (session : ℕ) (c : Call) (room : RoomCounts) : Type 0 where
-  pub change : Change
-  pub is : IsChangeOf h.world h.kept session c change
-  pub charged : room ≡ logged is.outcome.charge h.room
-
--- One that comes to none charges nothing, and the files without names that it drops are counted. One that is refused leaves the room as it is.
-abbrev pub RoomOfCall : Held → ℕ → Call → Option Mishap → World → RoomCounts → Type 0
-RoomOfCall h session c None next room = (HasNoChange h.world h.kept session c × (room ≡ dropping (nameless_in h.world.live - nameless_in next.live) h.room)) ⊎ IsChargedFor h session c room
-RoomOfCall h session c (Some m) next room = room ≡ h.room
-
--- What an event leaves of the room: behind a mount it is that of the image that is there. For a step that is made `StepsTo` says it.
-abbrev pub RoomIn : Event → Held → Disk → Option Mishap → State → RoomCounts → Type 0
-RoomIn (event.Call session c) mid new met (Running next) room = RoomOfCall mid session c met next room
-RoomIn (event.Call session c) mid new met (Stopped before after) room = Unit {0}
-RoomIn event.Step mid new None (Running next) room = Unit {0}
-RoomIn event.Step mid new (Some m) (Running next) room = room ≡ mid.room
-RoomIn event.Step mid new met (Stopped before after) room = Unit {0}
-RoomIn event.Restart mid new None (Running next) room = HasRoomOf (reads new) next room
-RoomIn event.Restart mid new (Some m) (Running next) room = room ≡ mid.room
-RoomIn event.Restart mid new met (Stopped before after) room = Unit {0}
+abbrev pub LeavesCall : Held → Held → ℕ → Call → Option Mishap → Held → Type 0
+LeavesCall old mid session c None new = MakesAsked old mid session c new × (HasTold session c mid new ⊎ HasLogged session c mid new)
+LeavesCall old mid session c (Some Write) new = IsTried mid session c new.disk new.status ⊎ IsCutAtPoint old (event.Call session c) new.disk new.status
+LeavesCall old mid session c (Some m) new = IsUnchanged m mid new
 
 -- A step has begun a point of what changed since the root, with a write and a sync: the log goes on in the other half, under the next epoch. Nothing is charged, has changed or is kept back since.
 pub record HasBegun (old new : Held) : Type 0 where
@@ -374,66 +312,84 @@ pub record HasEnded (old new : Held) : Type 0 where
   pub finished : HasFinished old new
   pub last : finished.going.stage ≡ Bodied
 
+-- A step says that there is more where it has begun a point or gone on with one, and that it is done where the tree that was frozen became durable: it writes beside the root that counts.
+pub record HasStepped (reply : Reply) (old new : Held) : Type 0 where
+  pub touched : Touches (IsBesideRoot old) old.disk new.disk
+  pub told : ((reply ≡ answer.Progress progress.More) × (HasBegun old new ⊎ HasGoneOn old new)) ⊎ ((reply ≡ answer.Progress progress.Done) × HasEnded old new)
+
+-- one that was cut off, of at most eight writes and a sync
+pub record IsStepCut (old : Held) (disk : Disk) (status : Status) : Type 0 where
+  pub touched : Touches (IsBesideRoot old) old.disk disk
+  pub costs : CostsAtMost 8 1 old.status status
+
+abbrev pub LeavesStep : Held → Option Mishap → Reply → Held → Type 0
+LeavesStep old None reply new = HasStepped reply old new
+LeavesStep old (Some Write) reply new = IsStepCut old new.disk new.status
+LeavesStep old (Some m) reply new = IsUnchanged m old new
+
 -- how many steps a point in progress has left
 abbrev pub left_of : Option Going → ℕ
 left_of None = 0
 left_of (Some going) = steps_left going.work going.stage
 
--- What a step has done that is answered so: `Done` is told exactly where the tree that was frozen became durable.
-abbrev pub StepsTo : Reply → Held → Held → Type 0
-StepsTo answer.Done old new = Unit {0}
-StepsTo (answer.Mode mode) old new = Unit {0}
-StepsTo (answer.Number number) old new = Unit {0}
-StepsTo (answer.Content content) old new = Unit {0}
-StepsTo (answer.Status status) old new = Unit {0}
-StepsTo (answer.Names names) old new = Unit {0}
-StepsTo (answer.Acl acl) old new = Unit {0}
-StepsTo (answer.Progress progress.More) old new = HasBegun old new ⊎ HasGoneOn old new
-StepsTo (answer.Progress progress.Done) old new = HasEnded old new
-StepsTo (answer.Refused refusal) old new = Unit {0}
-StepsTo (answer.Unmounted fault) old new = Unit {0}
+-- what an event takes off it, while the point is in progress: a step that says that there is more takes one off
+abbrev pub counts_down : Event → Reply → ℕ
+counts_down event.Step (answer.Progress progress.More) = 1
+counts_down e reply = 0
 
-abbrev pub StepsIn : Event → State → Reply → Held → Held → Type 0
-StepsIn event.Step (Running w) reply old new = StepsTo reply old new
-StepsIn event.Step (Stopped before after) reply old new = Unit {0}
-StepsIn (event.Call session c) s reply old new = Unit {0}
-StepsIn event.Restart s reply old new = Unit {0}
+-- what a mount costs
+abbrev pub CostsMountOf : Status → Status → Type 0
+CostsMountOf old new = (n : ℕ) × (8 * n ≤ old.sectors) × CostsMount n old new
 
--- a step that says that there is more has written something, of at most eight sectors, with one sync at most
-abbrev pub Works : Event → Reply → Status → Status → Type 0
-Works event.Step reply old new = reply ≡ answer.Progress progress.More → (old.writes < new.writes) × (new.writes ≤ old.writes + 8) × (new.syncs ≤ old.syncs + 1)
-Works (event.Call session c) reply old new = Unit {0}
-Works event.Restart reply old new = Unit {0}
+-- What the disk was an image of is mounted, which was this world, with the room of the image that is there now, and nothing was done since its root. From its first sync on at no moment a crash would have left another world.
+pub record HasMounted (world : World) (old new : Held) : Type 0 where
+  pub fresh : IsFresh new
+  pub room : HasRoomOf (reads new.disk) world new.room
+  pub leaves : LeavesTheWorld old.disk new.disk world
+  pub touched : KeepsTheRoot old.status.sectors old.disk new.disk
+  pub costs : CostsMountOf old.status new.status
 
--- A mount leaves the world that it runs over from its first sync on, whatever there may have been before: behind the point of the unmount, if one came first.
-abbrev pub Begins : Event → Option Mishap → State → Disk → Disk → Type 0
-Begins event.Restart None (Running world) mid new = LeavesTheWorld mid new world
-Begins event.Restart None (Stopped before after) mid new = Unit {0}
-Begins event.Restart (Some m) next mid new = Unit {0}
-Begins (event.Call session c) met next mid new = Unit {0}
-Begins event.Step met next mid new = Unit {0}
+-- It isn't mounted, and from the first sync on a crash leaves the world that the disk was an image of.
+pub record HasNotMounted (old new : Held) : Type 0 where
+  pub keeps : OfImage old.disk (KeepsTheWorld old.disk new.disk)
+  pub touched : WritesToMount old.status.sectors old.disk new.disk
+  pub costs : CostsFew old.status new.status
 
--- The event is a step of the machine, from this state to the next: a crash at any moment of its course leaves one of the two, and once it is answered the next alone. First the point in progress is finished, where the event needs that, and then a whole one is made, where it needs one: the number of a new node, room, charges and costs are those behind them.
+-- a mount of what is there, by the state that it leads to
+abbrev pub LeavesMount : Held → State → Held → Type 0
+LeavesMount old (Running world) new = HasMounted world old new
+LeavesMount old (Stopped before after) new = HasNotMounted old new
+
+-- A restart makes a whole point, and mounts behind it, unless the point isn't made.
+abbrev pub LeavesRestart : Held → Held → Option Mishap → State → Held → Type 0
+LeavesRestart old mid None next new = HasMadePoint event.Restart old mid × LeavesMount mid next new
+LeavesRestart old mid (Some Write) next new = IsCutAtPoint old event.Restart new.disk new.status
+LeavesRestart old mid (Some m) (Running world) new = IsUnchanged m old new
+LeavesRestart old mid (Some m) (Stopped before after) new = HasMadePoint event.Restart old mid × HasNotMounted mid new
+
+-- What is held behind an event, from what was held once the point in progress was finished, and behind the whole point that was made. In a mount that has stopped all but a restart leaves what was held, and calls nothing of the device.
+abbrev pub Leaves : State → Event → Option Mishap → Reply → State → Held → Held → Held → Type 0
+Leaves (Running w) (event.Call session c) met reply next fin mid new = LeavesCall fin mid session c met new
+Leaves (Running w) event.Step met reply next fin mid new = LeavesStep fin met reply new
+Leaves (Running w) event.Restart met reply next fin mid new = LeavesRestart fin mid met next new
+Leaves (Stopped before after) (event.Call session c) met reply next fin mid new = new ≡ mid
+Leaves (Stopped before after) event.Step met reply next fin mid new = new ≡ mid
+Leaves (Stopped before after) event.Restart met reply next fin mid new = LeavesMount mid next new
+
+-- The event is a step of the machine, from this state to the next: a crash at any moment of its course leaves one of the two, and once it is answered the next alone. First the point in progress is finished, where the event needs that, and then a whole one is made, where it needs one: what is held then is told by what was held behind them.
 pub record AnswersFrom (s : State) (e : Event) (reply : Reply) (old new : Held) (has_stopped : Bool) : Type 0 where
   pub met : Option Mishap
   pub fin : Held
-  pub finish : IsBehindFinish e old fin
+  pub finish : IsBehindFinish s e old fin
   pub mid : Held
-  pub point : IsBehindPoint e fin mid
+  pub point : IsBehindPoint s e fin mid
   pub may : MayMeet fin mid e met new.status
   pub next : State
   pub step : EventStep version_1 s e met reply next
   pub means : Means new has_stopped next
   pub lasts : LastsOver s next old.disk new.disk
-  pub writes : Writes s fin mid e new.disk
-  pub begins : Begins e met next mid.disk new.disk
-  pub numbers : NumbersIn e met s mid.kept next new.kept
-  pub since : SinceIn e met s mid.kept_since next new.kept_since
-  pub room : RoomIn e mid new.disk met next new.room
   pub later : IsLater old.status new.status
-  pub costs : Costs s fin mid e met new.status
-  pub steps : StepsIn e s reply old new
-  pub works : Works e reply old.status new.status
+  pub leaves : Leaves s e met reply next fin mid new
 
 -- so it is from each state that is meant
 abbrev pub Answers : Event → Reply → Held → Bool → Held → Bool → Type 0

@@ -1,6 +1,7 @@
 pub mod Answers
 pub mod Changing
 pub mod Dropping
+pub mod Durable
 pub mod Mounted
 pub mod Mounting
 pub mod Pointing

@@ -6,6 +6,9 @@ use Rattle.sn_block.specs.Effects.{Nowhere}
 use Rattle.sn_model.specs.declared.fault.MountFault.{MountFault}
 use Rattle.sn_model.specs.Machine.{Running}
 use Rattle.sn_model.specs.World.{World}
+use Rattle.sn_log.specs.Positions.{first_of}
+use Rattle.sn_overlay.specs.Overlays.{no_changes}
+use Rattle.sn_room.specs.Rooms.{fresh}
 use Rattle.sn_held.specs.Held.{Held}
 use Rattle.sn_cp_progress.specs.Meaning.{Means}
 use Rattle.sn_held.specs.Room.{HasRoomOf}
@@ -19,12 +22,19 @@ pub record MountsWorld (old : Disk) (h : Held) (has_stopped : Bool) (world : Wor
   pub means : Means h has_stopped (Running world)
   pub leaves : LeavesTheWorld old h.disk world
 
--- A disk without a fault is mounted, no number is kept back, and no point is in progress. What it was an image of runs.
-pub record Mounts (sectors : ℕ) (old : Disk) (h : Held) (has_stopped : Bool) : Type 0 where
-  pub running : has_stopped ≡ false
+-- Nothing was done since the root that counts: no point is in progress, the log is empty at its first place, nothing is charged or has changed, and no number is kept back.
+pub record IsFresh (h : Held) : Type 0 where
+  pub between : h.point ≡ None
+  pub log : h.at ≡ first_of h.at.blocks h.base.root.epoch
+  pub room : h.room ≡ fresh h.room.free
+  pub changed : h.base.changed ≡ no_changes
   pub none_kept : (number : ℕ) → h.kept number ≡ false
   pub none_since : (number : ℕ) → h.kept_since number ≡ false
-  pub between : h.point ≡ None
+
+-- A disk without a fault is mounted, and what it was an image of runs over a root since which nothing was done.
+pub record Mounts (sectors : ℕ) (old : Disk) (h : Held) (has_stopped : Bool) : Type 0 where
+  pub running : has_stopped ≡ false
+  pub fresh : IsFresh h
   pub clean : IsSomeClean sectors (reads old)
   pub touched : KeepsTheRoot sectors old h.disk
   pub runs : OfImage old (MountsWorld old h has_stopped)

@@ -18,8 +18,6 @@ use Rattle.sn_model.specs.declared.call.Event.{Event}
 use Rattle.sn_model.specs.declared.call.Event.TheVariants as event
 use Rattle.sn_overlay.specs.Layers.{Layer}
 use Rattle.sn_overlay.specs.Needs.{need}
-use Rattle.sn_overlay.specs.Overlays.{no_changes}
-use Rattle.sn_room.specs.Rooms.{fresh}
 use Rattle.sn_held.specs.Held.{Going, Held, RunsReady}
 use Rattle.sn_cp.specs.Counting.{syncs_left, writes_left}
 use Rattle.sn_cp.specs.declared.stage.Stage.TheVariants.{Bodied}
@@ -31,17 +29,14 @@ use Rattle.sn_cp_whole.specs.declared.fault.PointFault.{PointFault}
 use Rattle.sn_cp_whole.specs.declared.fault.PointFault.TheVariants.{Memory, Age, Read, Damaged, Device}
 use Rattle.sn_examine.specs.Failing.{CostsAtMost, HasFailed}
 use Rattle.sn_events.specs.Answers.{BuildsOf, HasBegun, HasFinished, HasGoneOn, IsBesideRoot, IsLastRoot, world_behind}
+use Rattle.sn_events.specs.Mounting.{IsFresh}
 
 -- A point was made of what runs, beside the root that counted: a crash at any moment leaves the settled world from before, or this one, settled, which runs on over the next root.
 pub record IsPointedTo (world_after : World) (Builds : Layer → Type 0) (old new : Held) : Type 0 where
   pub between : old.point ≡ None
-  pub point : new.point ≡ None
   pub world : new.world ≡ world_after
-  pub none_kept : (number : ℕ) → new.kept number ≡ false
-  pub none_since : (number : ℕ) → new.kept_since number ≡ false
+  pub fresh : IsFresh new
   pub log : new.at ≡ first_of old.at.blocks (old.at.epoch + 1)
-  pub room : new.room ≡ fresh new.room.free
-  pub changed : new.base.changed ≡ no_changes
   pub age : HasAgeLeft new.base.root
   pub moments : LeavesOnly old.disk new.disk (EitherImage old.world world_after)
   pub runs : RunsReady new world_after new.base

@@ -10,9 +10,6 @@ use Rattle.sn_model.specs.declared.reply.Reply.TheVariants as answer
 use Rattle.sn_live_world.specs.declared.fault.CallFault.{CallFault}
 use Rattle.sn_live_world.specs.declared.fault.CallFault.TheVariants as lack
 use Rattle.sn_block.specs.Counts.{FailsRead}
-use Rattle.sn_device.specs.Crash.{Touches}
-use Rattle.sn_device.specs.declared.status.Status.{Status}
-use Rattle.sn_ondisk.specs.LogHalf.{InHalf}
 use Rattle.sn_model.specs.Machine.{State, Mishap, Memory, Read, Write, Space, Age, refused}
 use Rattle.sn_model.specs.Settling.{dropped}
 use Rattle.sn_model.specs.Steps.{decision, with_caller}
@@ -24,7 +21,7 @@ use Rattle.sn_overlay.specs.Needs.{nameless_in}
 use Rattle.sn_room.specs.Rooms.{dropping}
 use Rattle.sn_held.specs.Held.{Held}
 use Rattle.sn_cp_progress.specs.Meaning.{Means}
-use Rattle.sn_log.specs.Positions.{HasRoom, base_at}
+use Rattle.sn_log.specs.Positions.{HasRoom}
 use Rattle.sn_sound.specs.Logs.{HasAgeLeft}
 use Rattle.sn_events.specs.Answers.{AnswersFrom, IsTried, LacksFirst}
 pub use Rattle.sn_events.specs.Dropping.{DropsFiles}
@@ -36,11 +33,11 @@ reply_to lack.Memory = refused Enomem
 reply_to lack.Read = refused Eio
 
 -- without a point a call meets with want of memory, with a read that fails, or its append was cut off
-abbrev pub ServesTo : Option Mishap → Held → ℕ → Call → Status → Type 0
+abbrev pub ServesTo : Option Mishap → Held → ℕ → Call → Held → Type 0
 ServesTo None h session c new = Unit {0}
 ServesTo (Some Memory) h session c new = Unit {0}
-ServesTo (Some Read) h session c new = FailsRead h.status new
-ServesTo (Some Write) h session c new = IsTried h session c new
+ServesTo (Some Read) h session c new = FailsRead h.status new.status
+ServesTo (Some Write) h session c new = IsTried h session c new.disk new.status
 ServesTo (Some Space) h session c new = ⊥
 ServesTo (Some Age) h session c new = ⊥
 
@@ -48,8 +45,7 @@ ServesTo (Some Age) h session c new = ⊥
 pub record ServesFrom (s : State) (session : ℕ) (c : Call) (reply : Reply) (old new : Held) (has_stopped : Bool) : Type 0 where
   pub answers : AnswersFrom s (event.Call session c) reply old new has_stopped
   pub at_once : (answers.fin ≡ old) × (answers.mid ≡ old)
-  pub wrote : Touches (InHalf (base_at old.at)) old.disk new.disk
-  pub met : ServesTo answers.met old session c new.status
+  pub met : ServesTo answers.met old session c new
 
 -- A call is answered at once, from each state that is meant; or it comes to a change that lacks something, and nothing has changed; its numbers are those of a call.
 abbrev pub Serves : Option Reply → Held → ℕ → Call → Held → Bool → Type 0

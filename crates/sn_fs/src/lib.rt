@@ -15,7 +15,7 @@
 //!   point in progress is finished first (`HasFinished`), and a whole one comes where that isn't enough (`HasMadePoint`);
 //!   else none. What it may meet with has a cause: EIO where the device failed, ENOSPC where it doesn't fit right behind that
 //!   point.
-//! - [`Fs::step`]: begins a point, goes on with it, or ends it (`StepsTo`), which changes no world.
+//! - [`Fs::step`]: begins a point, goes on with it, or ends it (`LeavesStep`), which changes no world.
 //! - [`Fs::unmount`]: makes a whole one of the tree without the files that no name stands for, and hands the device back; or
 //!   it is refused as a step is, and the file system is there still.
 //! - [`mount`]: where the contents are an image of a world, that world runs; from the first sync on every

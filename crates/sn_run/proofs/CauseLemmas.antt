@@ -50,7 +50,7 @@ run_ends first last (e ∷ events) (reply ∷ replies) run same =
     let rest = runs_later mid last events replies run.2 in
     let here : mid.held.status.failures ≡ first.held.status.failures = omega (arith, a.later.failures, rest.failures, same) in
     let there : last.held.status.failures ≡ mid.held.status.failures = omega (arith, here, same) in
-    (mid, record { goes = run.1; ended = met_end a.fin a.mid e a.met mid.held.status a.may (here ∙ sym (fin_failures e first.held a.fin a.finish)) }, run_ends mid last events replies run.2 there)
+    (mid, record { goes = run.1; ended = met_end a.fin a.mid e a.met mid.held.status a.may (here ∙ sym (fin_failures first.state e first.held a.fin a.finish)) }, run_ends mid last events replies run.2 there)
 
 -- ---- stops
 
@@ -176,7 +176,7 @@ module _ (events : List Event) (replies : List Reply) (disk last_disk : Disk) (s
       let began : s.mounted.status.failures ≡ status.failures = mount_unfailing s.blocks status s.mounted.status s.costs in
       let rest = runs_later (start world s.mounted) it.last events replies it.run in
       let failed : last_status.failures ≡ it.last.held.status.failures = omega (arith, rest.failures, e.later.failures, same, began) in
-      cause_of it.last.state it.last.held e.fin e.mid e.met e.ends e.may (failed ∙ sym (fin_failures event.Restart it.last.held e.fin e.finish)) e.later
+      cause_of it.last.state it.last.held e.fin e.mid e.met e.ends e.may (failed ∙ sym (fin_failures it.last.state event.Restart it.last.held e.fin e.finish)) e.later
       (stop_cause ⊥ (start world s.mounted) it.last events replies (served_ends ending.Stopped s world image) (λ stopped. absurd stopped))
 
   mount_end : (fault : MountFault) → IsSoOf fault status last_status → FailsAtItsEnd fault last_status

@@ -1,7 +1,7 @@
 -- The last unmount.
 use Rattle.std.proofs.Common.{◌≡◌, inl, inr, Bool, true, false, Option, Some, None, Err, refl, sym, ap, subst}
 use Rattle.std.proofs.lemmas.Bool.{true≢false}
-use Rattle.sn_device.specs.Disk.{Disk}
+use Rattle.sn_device.specs.Disk.{Disk, Always}
 use Rattle.sn_device.specs.Crash.{LeavesOnly}
 use Rattle.sn_device.specs.declared.status.Status.{Status}
 use Rattle.sn_device.proofs.CrashLemmas.{LeavesOnly-join, LeavesOnly-start, LeavesOnly-weaker}
@@ -34,6 +34,9 @@ use Rattle.sn_events.specs.Unmounting.{HasUnmounted, IsRefusedFor, IsRefusedTo, 
 use Rattle.sn_events.proofs.PointLemmas.{made_point, settles_same}
 use Rattle.sn_events.proofs.ReadLemmas.{fails_read}
 use Rattle.sn_run.specs.Ending.{EndsSo, IsEnded, end_for}
+use Rattle.sn_events.specs.Durable.{IsInItsRoot}
+use Rattle.sn_events.proofs.DurableLemmas.{in_its_root}
+use Rattle.sn_events.proofs.UnmountLemmas.{settles_twice}
 
 done_is_refused : (errno : Errno) → refused errno ≡ answer.Done → ⊥
 done_is_refused errno e = cc
@@ -57,7 +60,7 @@ ended_behind last fin f end disk status e = subst (λ (w : World). IsEnded (Runn
   met = e.met;
   ends = e.ends;
   fin = e.fin;
-  finish = one_finish event.Restart last fin e.fin f tt e.finish;
+  finish = one_finish (Running fin.world) event.Restart last fin e.fin f tt tt e.finish;
   mid = e.mid;
   point = e.point;
   may = e.may;
@@ -65,7 +68,10 @@ ended_behind last fin f end disk status e = subst (λ (w : World). IsEnded (Runn
       (LeavesOnly-weaker last.disk fin.disk (λ c. IsImage c (settle last.world)) (ShowsState (Running fin.world))
       (λ c im. subst (λ (w : World). IsImage c (settle w)) (sym f.world) im) f.moments) e.lasts;
   later = later-join last.status fin.status status f.later e.later;
-  costs = e.costs;
+  new = e.new;
+  disk_is = e.disk_is;
+  status_is = e.status_is;
+  leaves = e.leaves;
 })
 
 -- one that has stopped calls nothing
@@ -81,7 +87,10 @@ ends_stopped last (Stopped before after) m = record {
   may = refl;
   lasts = LeavesOnly-start last.disk (ShowsState (Stopped before after)) m.1;
   later = later-same last.status last.status refl;
-  costs = refl;
+  new = last;
+  disk_is = refl;
+  status_is = refl;
+  leaves = refl;
 }
 
 -- at no moment of its point a crash leaves another world
@@ -102,11 +111,14 @@ ends_clean last disk status unmounts = in_its_world last ending.Clean disk statu
           fin = u.fin;
           finish = inl refl;
           mid = u.mid;
-          point = inr made;
+          point = inr (tt, made);
           may = ap (λ (s : Status). s.failures) p.costs;
           lasts = settled_last u.fin u.mid p.moments;
           later = later-is _ _ u.fin.status u.mid.status p.costs;
-          costs = (made, refl);
+          new = u.mid;
+          disk_is = refl;
+          status_is = refl;
+          leaves = (made, refl, subst (λ (w : World). Always u.mid.disk (IsInItsRoot (settle u.fin.world).live w)) (settles_twice u.fin.world) (in_its_root u.mid (settle u.fin.world) p.runs p.fresh));
         } in
         subst (λ (s : Status). IsEnded (Running u.fin.world) u.fin ending.Clean disk s) u.status_is (subst (λ (d : Disk). IsEnded (Running u.fin.world) u.fin ending.Clean d u.mid.status) u.disk_is over)
 
@@ -114,7 +126,7 @@ ends_clean last disk status unmounts = in_its_world last ending.Clean disk statu
 
 -- the device failed while a point was made or finished, at no moment of which a crash leaves another world
 ends_cut_off : (last new : Held) → MayMeet last last event.Restart (Some Write) new.status → LeavesOnly last.disk new.disk (λ c. IsImage c (settle last.world))
-    → IsLater last.status new.status → IsCutAtPoint last event.Restart new.status → IsEnded (Running last.world) last ending.Stopped new.disk new.status
+    → IsLater last.status new.status → IsCutAtPoint last event.Restart new.disk new.status → IsEnded (Running last.world) last ending.Stopped new.disk new.status
 ends_cut_off last new may moments later costs = record {
   met = Some Write;
   ends = record { reply = refused Eio; unmounts = refl; ends = (done_is_refused Eio, is_memory Eio (λ e. cc e)) };
@@ -125,7 +137,10 @@ ends_cut_off last new may moments later costs = record {
   may = may;
   lasts = moments;
   later = later;
-  costs = costs;
+  new = new;
+  disk_is = refl;
+  status_is = refl;
+  leaves = costs;
 }
 
 -- ---- one that is refused
@@ -145,7 +160,10 @@ module _ (last : Held) (r : RunsReady last last.world last.base) where
     may = refl;
     lasts = shows_still;
     later = later-same last.status last.status refl;
-    costs = refl;
+    new = last;
+    disk_is = refl;
+    status_is = refl;
+    leaves = refl;
   })
   ends_refused point.Age new is = subst (λ (h : Held). IsEnded (Running last.world) last ending.Stopped h.disk h.status) (sym is.0) (record {
     met = Some Age;
@@ -157,7 +175,10 @@ module _ (last : Held) (r : RunsReady last last.world last.base) where
     may = (tt, is.1, refl);
     lasts = shows_still;
     later = later-same last.status last.status refl;
-    costs = refl;
+    new = last;
+    disk_is = refl;
+    status_is = refl;
+    leaves = refl;
   })
   ends_refused point.Read new is =
       let told = fails_read last.status new.status is.1 in
@@ -171,10 +192,13 @@ module _ (last : Held) (r : RunsReady last last.world last.base) where
         may = told.0;
         lasts = shows_still;
         later = told.1;
-        costs = told.2;
+        new = record last { status = new.status };
+        disk_is = refl;
+        status_is = refl;
+        leaves = (refl, is.1);
       })
   ends_refused point.Damaged new is = absurd is
-  ends_refused point.Device new cut = ends_cut_off last new cut.failed (settled_last last new cut.moments) cut.later (inl (record { needed = tt; built = cut.built; builds = cut.builds; costs = cut.costs }))
+  ends_refused point.Device new cut = ends_cut_off last new cut.failed (settled_last last new cut.moments) cut.later (inl (record { needed = tt; touched = cut.touched; built = cut.built; builds = cut.builds; costs = cut.costs }))
 
 -- the point in progress was cut off
 ends_cut : (last : Held) (fault : PointFault) (new : Held) → FinishesSo (Err fault) last.point last new → IsEnded (Running last.world) last (end_for (errno_of_point fault)) new.disk new.status
@@ -183,7 +207,7 @@ ends_cut last fault new so = told last.point so
     told : (at : Option Going) → FinishesSo (Err fault) at last new → IsEnded (Running last.world) last (end_for (errno_of_point fault)) new.disk new.status
     told None never = absurd never
     told (Some going) (is, cut) = subst (λ (f : PointFault). IsEnded (Running last.world) last (end_for (errno_of_point f)) new.disk new.status) (sym is)
-        (ends_cut_off last new cut.failed cut.moments cut.later (inr (record { needed = tt; going = cut.going; is = cut.is; costs = cut.costs })))
+        (ends_cut_off last new cut.failed cut.moments cut.later (inr (record { needed = tt; touched = cut.touched; going = cut.going; is = cut.is; costs = cut.costs })))
 
 ends_for : (last : Held) (fault : PointFault) (new : Held) → RunsWith last.point last last.world → IsRefusedFor fault last new → IsEnded (Running last.world) last (end_for (errno_of_point fault)) new.disk new.status
 ends_for last fault new r (inl cut) = ends_cut last fault new cut

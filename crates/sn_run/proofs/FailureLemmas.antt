@@ -32,9 +32,9 @@ met_unfailing h mid e (Some Space) new may same goes_on = tt
 met_unfailing h mid e (Some Age) new may same goes_on = tt
 
 -- a point in progress that is finished counts no failure
-pub fin_failures : (e : Event) (old fin : Held) → IsBehindFinish e old fin → fin.status.failures ≡ old.status.failures
-fin_failures e old fin (inl same) = ap (λ (h : Held). h.status.failures) same
-fin_failures e old fin (inr (needed, finished)) = ap (λ (s : Status). s.failures) finished.costs
+pub fin_failures : (s : State) (e : Event) (old fin : Held) → IsBehindFinish s e old fin → fin.status.failures ≡ old.status.failures
+fin_failures s e old fin (inl same) = ap (λ (h : Held). h.status.failures) same
+fin_failures s e old fin (inr (may, needed, finished)) = ap (λ (s : Status). s.failures) finished.costs
 
 -- over a run no count falls
 pub runs_later : (first last : Standing) (events : List Event) (replies : List Reply) → RunBy Goes first events replies last → IsLater first.held.status last.held.status
@@ -57,6 +57,6 @@ run_unfailing first last (e ∷ events) (reply ∷ replies) run same goes_on =
     let there : last.held.status.failures ≡ mid.held.status.failures = omega (arith, here, same) in
     let on : has_ended mid.held.status ≡ false = not_ended (has_ended mid.held.status) (λ ended. true≢false (sym (later-ended mid.held.status last.held.status rest ended) ∙ goes_on)) in (
       mid.state,
-      (a.met, met_unfailing a.fin a.mid e a.met mid.held.status a.may (here ∙ sym (fin_failures e first.held a.fin a.finish)) on, subst (λ (s : State). EventStep version_1 first.state e a.met reply s) (sym run.1.next) a.step),
+      (a.met, met_unfailing a.fin a.mid e a.met mid.held.status a.may (here ∙ sym (fin_failures first.state e first.held a.fin a.finish)) on, subst (λ (s : State). EventStep version_1 first.state e a.met reply s) (sym run.1.next) a.step),
       run_unfailing mid last events replies run.2 there goes_on,
     )

@@ -2,6 +2,7 @@ pub mod CauseLemmas
 pub mod EndingLemmas
 pub mod CutLemmas
 mod FailureLemmas
+mod PointedLemmas
 pub mod RestartLemmas
 mod RunLemmas
 mod UnfitLemmas

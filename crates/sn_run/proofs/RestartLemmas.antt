@@ -20,20 +20,18 @@ use Rattle.sn_model.specs.Machine.{State, Running, Stopped, Mishap, Memory, Read
 use Rattle.sn_model.specs.declared.outcome.AskedPoint.TheVariants.{Plain}
 use Rattle.sn_model.specs.Settling.{settle}
 use Rattle.sn_model.specs.World.{World}
-use Rattle.sn_core.proofs.RestartLemmas.{restart_numbers}
 use Rattle.sn_held.specs.Held.{Held}
 use Rattle.sn_cp_progress.specs.Meaning.{EitherImage, RunsWith}
 use Rattle.sn_held.specs.Images.{IsImage}
 use Rattle.sn_held.specs.Moments.{LastsOver, ShowsState}
 use Rattle.sn_examine.specs.Failing.{IsSoOf}
-use Rattle.sn_mount.specs.Costs.{CostsFew}
 use Rattle.sn_mount.specs.Recovering.{LeavesTheWorld, WritesAtFault}
 use Rattle.sn_sound.specs.Disks.{IsOfDevice}
 use Rattle.sn_sound.specs.Verdicts.{IsFaulty}
 use Rattle.sn_sound.proofs.VerdictLemmas.{never_both}
 use Rattle.sn_examine.proofs.ImageLemmas.{image_clean}
 use Rattle.sn_check.specs.Verdicts.{IsCause}
-use Rattle.sn_events.specs.Answers.{Answers, AnswersFrom, CostsMountOf, CostsRestart, HasMadePoint, MayMeet}
+use Rattle.sn_events.specs.Answers.{Answers, AnswersFrom, CostsMountOf, HasMadePoint, MayMeet, HasNotMounted, LeavesRestart}
 use Rattle.sn_events.specs.Mounting.{IsLeft, WritesToMount}
 use Rattle.sn_events.specs.Pointing.{IsPointed}
 use Rattle.sn_events.specs.Unmounting.{HasUnmounted, IsUnmountedTo}
@@ -105,15 +103,8 @@ module _ (old new : Held) (whole : AreSectors (reads old.disk)) where
             step = (refl, same);
             means = it.means;
             lasts = mounted_lasts (Stopped before after) world means.1 image it.leaves;
-            writes = inr m.mounts.touched;
-            begins = it.leaves;
-            numbers = m.mounts.none_kept;
-            since = m.mounts.none_since;
-            room = it.room;
             later = mount_later old.status new.status m.costs;
-            costs = m.costs;
-            steps = tt;
-            works = tt;
+            leaves = record { fresh = m.mounts.fresh; room = it.room; leaves = it.leaves; touched = m.mounts.touched; costs = m.costs };
           }
 
       told : IsImage (reads old.disk) before ⊎ IsImage (reads old.disk) after → AnswersFrom (Stopped before after) event.Restart answer.Done old new has
@@ -151,7 +142,7 @@ module _ (old mid new : Held) (whole : AreSectors (reads mid.disk)) (p : IsPoint
         fin = old;
         finish = inl refl;
         mid = mid;
-        point = inr point_made;
+        point = inr (tt, point_made);
         may = none_failed old.status mid.status new.status same_failures (mount_unfailing mid.status new.status m.costs);
         next = Running (settle old.world);
         step = (refl, refl);
@@ -160,15 +151,8 @@ module _ (old mid new : Held) (whole : AreSectors (reads mid.disk)) (p : IsPoint
           moments = LeavesOnly-join old.disk mid.disk new.disk P (LeavesOnly-weaker old.disk mid.disk (λ c. IsImage c (settle old.world)) P (λ c h. inl h) settled_here) over.moments;
           answered = over.answered;
         };
-        writes = inr (point_made, inr m.mounts.touched);
-        begins = it.leaves;
-        numbers = restart_numbers old.world (settle old.world) mid.kept new.kept refl m.mounts.none_kept;
-        since = m.mounts.none_since;
-        room = it.room;
         later = later-join old.status mid.status new.status point_later (mount_later mid.status new.status m.costs);
-        costs = (point_made, m.costs);
-        steps = tt;
-        works = tt;
+        leaves = (point_made, record { fresh = m.mounts.fresh; room = it.room; leaves = it.leaves; touched = m.mounts.touched; costs = m.costs });
       }
 
 -- ---- mounts that fail
@@ -201,14 +185,14 @@ writes_to_mount fault.Memory sectors old new touched = touched
 writes_to_mount fault.Device sectors old new touched = touched
 
 -- and behind the point of an unmount
-met_behind : (f : MountFault) (c : Contents) (world : World) (sectors : ℕ) (old mid new : Held) → IsImage c world → IsOfDevice sectors c → IsCause sectors c f → IsSoOf f mid.status new.status → mid.status.failures ≡ old.status.failures → HasMadePoint event.Restart old mid → CostsFew mid.status new.status
-    → (m : Mishap) × (mount_fault_of m ≡ Some f) × MayMeet old mid event.Restart (Some m) new.status × CostsRestart old mid (Some m) new.status
-met_behind (fault.Damaged damage block) c world sectors old mid new is device cause failed same made few = absurd (never_faulty damage sectors c block world device is cause)
-met_behind fault.NotFormatted c world sectors old mid new is device cause failed same made few = absurd (found_root fault.NotFormatted sectors c world is device.count cause)
-met_behind fault.Version c world sectors old mid new is device cause failed same made few = absurd (found_root fault.Version sectors c world is device.count cause)
-met_behind fault.NoRoot c world sectors old mid new is device cause failed same made few = absurd (found_root fault.NoRoot sectors c world is device.count cause)
-met_behind fault.Memory c world sectors old mid new is device cause failed same made few = (Memory, refl, none_failed old.status mid.status new.status same failed, inr (made, few))
-met_behind fault.Device c world sectors old mid new is device cause failed same made few = (Read, refl, some_failed old.status mid.status new.status same failed, inr (made, few))
+met_behind : (f : MountFault) (c : Contents) (world : World) (sectors : ℕ) (old mid new : Held) (before after : World) → IsImage c world → IsOfDevice sectors c → IsCause sectors c f → IsSoOf f mid.status new.status → mid.status.failures ≡ old.status.failures → HasMadePoint event.Restart old mid → HasNotMounted mid new
+    → (m : Mishap) × (mount_fault_of m ≡ Some f) × MayMeet old mid event.Restart (Some m) new.status × LeavesRestart old mid (Some m) (Stopped before after) new
+met_behind (fault.Damaged damage block) c world sectors old mid new before after is device cause failed same made unmounted = absurd (never_faulty damage sectors c block world device is cause)
+met_behind fault.NotFormatted c world sectors old mid new before after is device cause failed same made unmounted = absurd (found_root fault.NotFormatted sectors c world is device.count cause)
+met_behind fault.Version c world sectors old mid new before after is device cause failed same made unmounted = absurd (found_root fault.Version sectors c world is device.count cause)
+met_behind fault.NoRoot c world sectors old mid new before after is device cause failed same made unmounted = absurd (found_root fault.NoRoot sectors c world is device.count cause)
+met_behind fault.Memory c world sectors old mid new before after is device cause failed same made unmounted = (Memory, refl, none_failed old.status mid.status new.status same failed, (made, unmounted))
+met_behind fault.Device c world sectors old mid new before after is device cause failed same made unmounted = (Read, refl, some_failed old.status mid.status new.status same failed, (made, unmounted))
 
 -- where a mount failed a crash leaves what it would have left before
 unmounted_over : (f : MountFault) (old new : Held) (before after world : World) → AreSectors (reads old.disk) → IsLeft f old.status.sectors old.disk new.disk → Always old.disk (λ c. ShowsState (Stopped before after) c) → IsImage (reads old.disk) world
@@ -238,15 +222,8 @@ module _ (old new : Held) (f : MountFault) (disk : IsWholeDisk old.status old.di
               moments = LeavesOnly-weaker old.disk new.disk (λ c. ShowsState (Stopped before after) c) (λ c. ShowsState (Stopped before after) c ⊎ ShowsState (Stopped before after) c) (λ c h. inr h) all;
               answered = LeavesOnly-now old.disk new.disk (λ c. ShowsState (Stopped before after) c) all;
             };
-            writes = writes_to_mount f old.status.sectors old.disk new.disk n.left.touched;
-            begins = tt;
-            numbers = tt;
-            since = tt;
-            room = tt;
             later = n.later;
-            costs = n.costs;
-            steps = tt;
-            works = tt;
+            leaves = record { keeps = n.left.keeps; touched = writes_to_mount f old.status.sectors old.disk new.disk n.left.touched; costs = n.costs };
           }
 
       told : IsImage (reads old.disk) before ⊎ IsImage (reads old.disk) after → AnswersFrom (Stopped before after) event.Restart (answer.Unmounted f) old new true
@@ -260,7 +237,8 @@ module _ (old mid new : Held) (disk : IsWholeDisk mid.status mid.disk) (p : IsPo
       let first = settled_here old mid new disk.whole p in
       let here = is_image old mid new disk.whole p in
       let made = point_made old mid new disk.whole p in
-      let met = met_behind f (reads mid.disk) w mid.status.sectors old mid new here (record { whole = disk.whole; count = disk.count }) n.left.cause n.failed (same_failures old mid new disk.whole p) made n.costs in
+      let unmounted : HasNotMounted mid new = record { keeps = n.left.keeps; touched = writes_to_mount f mid.status.sectors mid.disk new.disk n.left.touched; costs = n.costs } in
+      let met = met_behind f (reads mid.disk) w mid.status.sectors old mid new w w here (record { whole = disk.whole; count = disk.count }) n.left.cause n.failed (same_failures old mid new disk.whole p) made unmounted in
       let next = Stopped w w in
       let shows = settled_now old mid new disk.whole p in
       let all = unmounted_over f mid new w w w disk.whole n.left (λ c crash. inl (shows c crash)) here (λ c h. inl h) in
@@ -270,7 +248,7 @@ module _ (old mid new : Held) (disk : IsWholeDisk mid.status mid.disk) (p : IsPo
         fin = old;
         finish = inl refl;
         mid = mid;
-        point = inr made;
+        point = inr (tt, made);
         may = met.2;
         next = next;
         step = inr (record { fault = f; is = met.1; told = refl; left = refl });
@@ -281,15 +259,8 @@ module _ (old mid new : Held) (disk : IsWholeDisk mid.status mid.disk) (p : IsPo
               (LeavesOnly-weaker mid.disk new.disk (λ c. ShowsState next c) P (λ c h. inr h) all);
           answered = LeavesOnly-now mid.disk new.disk (λ c. ShowsState next c) all;
         };
-        writes = inr (made, writes_to_mount f mid.status.sectors mid.disk new.disk n.left.touched);
-        begins = tt;
-        numbers = tt;
-        since = tt;
-        room = tt;
         later = later-join old.status mid.status new.status (point_later old mid new disk.whole p) n.later;
-        costs = met.3;
-        steps = tt;
-        works = tt;
+        leaves = met.3;
       }
 
 -- ---- a restart
@@ -312,7 +283,7 @@ pub restart_running : (old new : Held) (has : Bool) (reply : Reply) (disk : Disk
 restart_running old new has reply disk status unmounts r = in_any_world event.Restart old new reply has (λ runs. at runs (unmounts runs))
   where
     at : RunsWith old.point old old.world → IsUnmountedTo old disk status → AnswersFrom (Running old.world) event.Restart reply old new has
-    at runs u = behind_finish event.Restart old u.fin new f tt reply has tt tt (told whole_r.1)
+    at runs u = behind_finish event.Restart old u.fin new f tt tt reply has (told whole_r.1)
       where
         f : IsFin old u.fin
         f = is_fin old u.fin u.finish runs

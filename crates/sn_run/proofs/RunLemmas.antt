@@ -57,7 +57,7 @@ module _ (events : List Event) (replies : List Reply) (disk last_disk : Disk) (s
   served : (end : End) → EndsSo end new has last_disk last_status → Served events replies end disk status last_disk last_status
   served end ends = record {
     mounted = h;
-    none_kept = m.none_kept;
+    fresh = m.fresh;
     clean = m.clean;
     touched = m.touched;
     blocks = n;

@@ -1,6 +1,6 @@
 -- How a run ends: the last unmount.
 use Rattle.std.specs.Prelude.{◌≡◌, Bool, Option, None, Some}
-use Rattle.sn_device.specs.Disk.{Disk}
+use Rattle.sn_device.specs.Disk.{Disk, Always}
 use Rattle.sn_device.specs.Crash.{LeavesOnly}
 use Rattle.sn_device.specs.declared.status.Status.{Status}
 use Rattle.sn_block.specs.Counts.{IsLater}
@@ -9,35 +9,36 @@ use Rattle.sn_model.specs.declared.end.End.{End}
 use Rattle.sn_model.specs.declared.end.End.TheVariants as ending
 use Rattle.sn_model.specs.declared.reply.Errno.{Errno}
 use Rattle.sn_model.specs.declared.reply.Errno.TheVariants.{Enomem}
-use Rattle.sn_model.specs.Machine.{State, Running, Stopped, Mishap, Memory, Read, Write, Space, Age, Ends}
+use Rattle.sn_model.specs.Machine.{State, Running, Stopped, Mishap, Write, Ends}
 use Rattle.sn_held.specs.Held.{Held}
 use Rattle.sn_cp_progress.specs.Meaning.{Means}
 use Rattle.sn_held.specs.Moments.{ShowsState}
-use Rattle.sn_examine.specs.Failing.{CostsAtMost}
-use Rattle.sn_events.specs.Answers.{HasMadePoint, IsBehindFinish, IsBehindPoint, IsCutAtPoint, MayMeet}
+use Rattle.sn_events.specs.Answers.{HasMadePoint, IsBehindFinish, IsBehindPoint, IsCutAtPoint, MayMeet, IsUnchanged}
+use Rattle.sn_model.specs.Settling.{settle}
+use Rattle.sn_events.specs.Durable.{IsInItsRoot}
 
--- What an unmount costs, behind the point in progress, is its own point; where that isn't made, what a call would whose point isn't. One that has stopped calls nothing.
-abbrev pub CostsUnmount : State → Held → Held → Option Mishap → Status → Type 0
-CostsUnmount (Running w) old mid None new = HasMadePoint event.Restart old mid × (new ≡ mid.status)
-CostsUnmount (Running w) old mid (Some Memory) new = new ≡ old.status
-CostsUnmount (Running w) old mid (Some Read) new = CostsAtMost 0 0 old.status new
-CostsUnmount (Running w) old mid (Some Write) new = IsCutAtPoint old event.Restart new
-CostsUnmount (Running w) old mid (Some Space) new = ⊥
-CostsUnmount (Running w) old mid (Some Age) new = new ≡ old.status
-CostsUnmount (Stopped before after) old mid met new = new ≡ old.status
+-- What the last unmount leaves, behind the point in progress: its own whole point, whose root has all, or where that isn't made, what was held. One that has stopped calls nothing.
+abbrev pub LeavesLast : State → Held → Held → Option Mishap → Held → Type 0
+LeavesLast (Running w) fin mid None new = HasMadePoint event.Restart fin mid × (new ≡ mid) × Always new.disk (IsInItsRoot (settle fin.world).live (settle fin.world))
+LeavesLast (Running w) fin mid (Some Write) new = IsCutAtPoint fin event.Restart new.disk new.status
+LeavesLast (Running w) fin mid (Some m) new = IsUnchanged m fin new
+LeavesLast (Stopped before after) fin mid met new = new ≡ mid
 
 -- The last unmount is answered, which makes this end, and at no moment does a crash leave anything else than before it. The point in progress is finished first. What it met with has a cause.
 pub record IsEnded (s : State) (last : Held) (end : End) (last_disk : Disk) (last_status : Status) : Type 0 where
   pub met : Option Mishap
   pub ends : Ends s met end
   pub fin : Held
-  pub finish : IsBehindFinish event.Restart last fin
+  pub finish : IsBehindFinish s event.Restart last fin
   pub mid : Held
-  pub point : IsBehindPoint event.Restart fin mid
+  pub point : IsBehindPoint s event.Restart fin mid
   pub may : MayMeet fin mid event.Restart met last_status
   pub lasts : LeavesOnly last.disk last_disk (ShowsState s)
   pub later : IsLater last.status last_status
-  pub costs : CostsUnmount s fin mid met last_status
+  pub new : Held
+  pub disk_is : new.disk ≡ last_disk
+  pub status_is : new.status ≡ last_status
+  pub leaves : LeavesLast s fin mid met new
 
 -- from each state that is meant
 abbrev pub EndsSo : End → Held → Bool → Disk → Status → Type 0

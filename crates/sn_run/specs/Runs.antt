@@ -25,7 +25,7 @@ use Rattle.sn_examine.specs.Laws.{IsSomeClean}
 use Rattle.sn_mount.specs.Costs.{CostsFew, CostsMount}
 use Rattle.sn_mount.specs.Recovering.{KeepsTheRoot, LeavesTheWorld, OfImage}
 use Rattle.sn_events.specs.Answers.{AnswersFrom}
-use Rattle.sn_events.specs.Mounting.{IsLeft}
+use Rattle.sn_events.specs.Mounting.{IsLeft, IsFresh}
 use Rattle.sn_run.specs.Ending.{IsEnded}
 
 -- where a run stands between two events: the state of the machine, and what is held
@@ -62,10 +62,10 @@ pub record IsServed (world : World) (events : List Event) (replies : List Reply)
   pub run : RunBy Goes (start world mounted) events replies last
   pub ended : IsEnded last.state last.held end last_disk last_status
 
--- The disk, which has no fault, was mounted, with no number kept back, and what it was an image of was served.
+-- The disk, which has no fault, was mounted, with nothing done since its root, and what it was an image of was served.
 pub record Served (events : List Event) (replies : List Reply) (end : End) (disk : Disk) (status : Status) (last_disk : Disk) (last_status : Status) : Type 0 where
   pub mounted : Held
-  pub none_kept : (number : ℕ) → mounted.kept number ≡ false
+  pub fresh : IsFresh mounted
   pub clean : IsSomeClean status.sectors (reads disk)
   pub touched : KeepsTheRoot status.sectors disk mounted.disk
   pub blocks : ℕ

@@ -1,6 +1,8 @@
 //! The laws that the definitions of `specs/` keep.
 ghost use Rattle.sn_run.specs.Causes.{OnlyItsEndFails};
-ghost use Rattle.sn_run.specs.Laws.{LivesAreLives, NoFailureIsInvented};
+ghost use Rattle.sn_run.specs.Laws.{CallsAreSmall, LivesAreLives, NoFailureIsInvented, PointsAreFewSteps, StepsAreSmall, StepsAreSpent, StepsWrite, SyncsLeaveAll};
+
+use sn_record::payloads_fit;
 
 /// Runs, each from what a crash in the one before has left, are a life of the machine.
 pub fn crash_laws()
@@ -16,4 +18,27 @@ pub fn no_failure_is_invented()
 /// end. So did a first mount that failed for it, and a run that stopped, unless a restart lacked memory.
 pub fn only_its_end_fails()
     ensures { OnlyItsEndFails }
+{}
+
+/// Behind a `sync` that is answered the newest root has all of the world, and so it is behind a call on
+/// snapshots: a crash loses nothing of it even where nothing of the log could be read.
+pub fn sync_laws()
+    ensures { SyncsLeaveAll }
+{}
+
+/// A call that needs no point makes at most the writes and the two syncs of the longest record.
+pub fn call_laws()
+    ensures { CallsAreSmall }
+{
+    payloads_fit();
+}
+
+/// A step makes at most eight writes and a sync, however it is answered, and one that says that there is more
+/// makes a write. A point has so many steps at most, and each that says that there is more takes one off them,
+/// whatever calls come between.
+pub fn step_laws()
+    ensures small { StepsAreSmall }
+    ensures writes { StepsWrite }
+    ensures few { PointsAreFewSteps }
+    ensures spent { StepsAreSpent }
 {}

@@ -16,6 +16,9 @@
 //! - [`no_failure_is_invented`]: where the device didn't fail, no event was refused for a failure.
 //! - [`only_its_end_fails`]: where the device's count of failures stayed, each failure was the device's end: a
 //!   device whose type keeps that count at 0 fails in no other way.
+//! - [`sync_laws`]: behind a `sync` that is answered the newest root has all of the world.
+//! - [`call_laws`]: a call that needs no point makes at most 131 writes and two syncs.
+//! - [`step_laws`]: a step makes at most eight writes and a sync, and a point has so many steps at most.
 //! - [`crash_laws`]: so it is over lives, each of which begins from what a crash in the one before has left.
 //!
 //! What the sources leave open is decided in `docs/DECISIONS.md`, under "Mount and calls over a device".
@@ -30,7 +33,9 @@ mod running;
 mod server;
 mod watch;
 
-pub use laws::{crash_laws, no_failure_is_invented, only_its_end_fails};
+pub use laws::{
+    call_laws, crash_laws, no_failure_is_invented, only_its_end_fails, step_laws, sync_laws,
+};
 pub use running::{Ran, run};
 pub use server::Server;
 pub use watch::{Unwatched, Watch};

@@ -1,4 +1,4 @@
-use Rattle.std.proofs.Common.{false, None, refl, sym, ap, subst, arith}
+use Rattle.std.proofs.Common.{false, None, refl, sym, ap, subst, arith, ◌∙◌}
 use Rattle.sn_device.specs.Disk.{Disk}
 use Rattle.sn_block.specs.Lending.{device_of}
 use Rattle.sn_live_world.specs.World.{kept_of, kept_since_of}
@@ -7,6 +7,7 @@ use Rattle.sn_events.specs.Mounted.{holding}
 use Rattle.sn_events.specs.Mounting.{IsLeft, Mounts}
 use Rattle.sn_events.proofs.MountLemmas.{is_left, mounts, refused_memory}
 use Rattle.sn_fs.proofs.mounting.mount.Goals as goal
+use Rattle.sn_room.specs.Rooms.{RoomCounts, fresh}
 
 pub returns-in-Ok-recover-clause-mounted : goal.returns-in-Ok-recover-clause-mounted
 returns-in-Ok-recover-clause-mounted g c told =
@@ -15,7 +16,8 @@ returns-in-Ok-recover-clause-mounted g c told =
     let old = g.D.Device.disk (device_of c.in-Ok.blocks) in
     let sectors = (g.D.Device.status (device_of c.in-Ok.blocks)).sectors in
     subst (λ (d : _). Mounts (g.D.Device.status d).sectors (g.D.Device.disk d) h false) c.in-Ok.ensures.device
-    (mounts sectors old h (c.in-Ok-recover.ensures.recovers told) (c.in-Ok-recover.ensures.clean told) c.in-Ok-recover.ensures.kept c.in-Ok-recover.ensures.since refl)
+    (mounts sectors old h (c.in-Ok-recover.ensures.recovers told) (c.in-Ok-recover.ensures.clean told)
+    (record { between = refl; log = c.in-Ok-recover.ensures.log; room = c.in-Ok-recover.ensures.room ∙ ap fresh (sym (ap (λ (x : RoomCounts). x.free) c.in-Ok-recover.ensures.room)); changed = c.in-Ok-recover.ensures.empty; none_kept = c.in-Ok-recover.ensures.kept; none_since = c.in-Ok-recover.ensures.since }))
 
 pub returns-in-Err-recover-clause-unmounted : goal.returns-in-Err-recover-clause-unmounted
 returns-in-Err-recover-clause-unmounted g c told =

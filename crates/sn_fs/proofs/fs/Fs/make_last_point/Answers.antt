@@ -1,4 +1,4 @@
-use Rattle.std.proofs.Common.{◌≡◌, ◌⊎◌, ℕ, Err, Option, false, refl, sym, ap, subst, ◌∙◌}
+use Rattle.std.proofs.Common.{◌≡◌, ◌⊎◌, ℕ, Err, Option, false, refl, sym, ap, subst, ◌∙◌, ◌+◌}
 use Rattle.sn_block.specs.Lending.{device_of}
 use Rattle.sn_cp_progress.specs.Meaning.{RunsWith}
 use Rattle.sn_cp_whole.specs.Making.{with_parts}
@@ -17,7 +17,7 @@ use Rattle.sn_overlay.specs.Overlays.{layer_of, no_changes}
 use Rattle.sn_room.specs.Rooms.{RoomCounts, dropping, fresh}
 use Rattle.sn_events.specs.Dropping.{DropsFiles}
 use Rattle.sn_events.specs.Mounted.{trees_there}
-use Rattle.sn_events.proofs.BasedLemmas.{base_none}
+use Rattle.sn_events.proofs.BasedLemmas.{base_none, first_there}
 use Rattle.sn_events.proofs.PointLemmas.{not_device, point_unmade}
 use Rattle.sn_events.proofs.UnmountLemmas.{last, ready_as, settles_twice}
 use Rattle.sn_fs.specs.Filesystem.{held, tree_of}
@@ -49,13 +49,16 @@ returns-in-Ok-clause-points g c told r =
       record parts { base = base; status = status },
       record {
         between = c.requires.between;
-        point = c.requires.between;
         world = refl;
-        none_kept = λ n. refl;
-        none_since = λ n. refl;
+        fresh = record {
+          between = c.requires.between;
+          log = first_there c.make_point.new.log fs.log.blocks (fs.log.epoch + 1) c.make_point.new.base.root.epoch c.in-Ok.ensures.log c.in-Ok.ensures.base.epoch;
+          room = c.in-Ok.ensures.room ∙ ap fresh (sym (ap (λ (x : RoomCounts). x.free) c.in-Ok.ensures.room));
+          changed = refl;
+          none_kept = λ n. refl;
+          none_since = λ n. refl;
+        };
         log = c.in-Ok.ensures.log;
-        room = c.in-Ok.ensures.room ∙ ap fresh (sym (ap (λ (x : RoomCounts). x.free) c.in-Ok.ensures.room));
-        changed = refl;
         age = c.in-Ok.ensures.age;
         moments = subst (λ (w : World). LeavesOnly old.disk disk (λ d. IsImage d w ⊎ IsImage d (settle (settle old.world)))) (settles_twice old.world) made.0;
         runs = ready_with parts (settle old.world) base (λ n. false) (λ n. false) base old.point status made.1;

@@ -1,4 +1,4 @@
-use Rattle.std.proofs.Common.{◌≡◌, ◌≤◌, Err, Option, false, refl, sym, ap, subst, ◌∙◌, arith}
+use Rattle.std.proofs.Common.{◌≡◌, ◌≤◌, Err, Option, false, refl, sym, ap, subst, ◌∙◌, arith, ◌+◌}
 use Rattle.sn_block.specs.Lending.{device_of}
 use Rattle.sn_cp_progress.specs.Meaning.{EitherImage, RunsWith}
 use Rattle.sn_cp_whole.specs.Making.{CanBeAsked, CostsPoint, over_world, with_parts}
@@ -19,7 +19,7 @@ use Rattle.sn_overlay.specs.Needs.{need}
 use Rattle.sn_overlay.specs.Overlays.{no_changes}
 use Rattle.sn_room.specs.Rooms.{RoomCounts, fresh}
 use Rattle.sn_events.specs.Mounted.{tree_at, trees_there}
-use Rattle.sn_events.proofs.BasedLemmas.{base_none, based_none, stands_none}
+use Rattle.sn_events.proofs.BasedLemmas.{base_none, based_none, stands_none, first_there}
 use Rattle.sn_events.proofs.PointLemmas.{not_device, point_unmade}
 use Rattle.sn_fs.specs.Filesystem.{held, tree_of}
 use Rattle.sn_fs.proofs.MountedLemmas.{kept_mounted, unmade_same}
@@ -46,13 +46,16 @@ returns-in-Ok-clause-points g c told r can =
     let of_changes = c.changes.ensures in
     record {
       between = c.requires.between;
-      point = c.requires.between;
       world = world_pointed d0 d1 s0 s1 fs.log c.make_point.new.log fs.world c.replace_root.new.self fs.room c.make_point.new.room fs.base c.make_point.new.base fs.going c.requires.between whole asked can point next.world next.changes r;
-      none_kept = next.kept;
-      none_since = next.since;
+      fresh = record {
+        between = c.requires.between;
+        log = first_there c.make_point.new.log fs.log.blocks (fs.log.epoch + 1) c.make_point.new.base.root.epoch e.log e.base.epoch;
+        room = e.room ∙ ap fresh (sym (ap (λ (x : RoomCounts). x.free) e.room));
+        changed = next.changes;
+        none_kept = next.kept;
+        none_since = next.since;
+      };
       log = e.log;
-      room = e.room ∙ ap fresh (sym (ap (λ (x : RoomCounts). x.free) e.room));
-      changed = next.changes;
       age = e.age;
       moments = moments_pointed d0 d1 s0 s1 fs.log c.make_point.new.log fs.world c.replace_root.new.self fs.room c.make_point.new.room fs.base c.make_point.new.base fs.going c.requires.between whole asked can point next.world next.changes r;
       touched = e.touched told;
