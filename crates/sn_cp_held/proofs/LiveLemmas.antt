@@ -55,7 +55,7 @@ use Rattle.sn_cp_build.specs.Building.{Builds}
 use Rattle.sn_cp_build.specs.declared.building.Built.{Built}
 use Rattle.sn_cp_held.specs.Builds.{CanBeBuilt, IsBuiltOf, IsOfBuild, plan_of, room_behind, work_for}
 use Rattle.sn_cp_held.specs.Snapshots.{trees_behind}
-use Rattle.sn_cp_held.specs.Wholes.{IsOfLive, StandsKept}
+use Rattle.sn_cp_held.specs.Wholes.{IsFollowing, IsOfLive, StandsKept}
 use Rattle.sn_cp_held.proofs.BuildLemmas.{builds_are_built, builds_are_sound, frozen_reach, live_reached}
 use Rattle.sn_cp_held.proofs.RoomLemmas.{builds_leave_room}
 
@@ -286,7 +286,7 @@ module _ (h : Held) (world : World) (k : Kept) (rr : RunsReady h world k) where
       whole = whole_work h.at.blocks (reads h.disk) world k stands_kept Ordinary asked bit built next x (other_slot k.slot) gate;
       blocks = refl;
       slot = ap other_slot (sym rr.ready.slot);
-      epoch = ap (λ (b : RootBody). b.epoch) x.is ∙ ap (λ (b : RootBody). b.epoch + 1) rr.ready.root;
+      follows = subst (λ (b : RootBody). IsFollowing Ordinary b next) rr.ready.root (record { generation = ap (λ (b : RootBody). b.generation) x.is; epoch = ap (λ (b : RootBody). b.epoch) x.is });
       built = subst (λ (b : RootBody). IsBuilt h.at.blocks r.store b (trees_behind asked (trees_of world)) (plan_of built next)) rr.ready.root (made h.at.blocks (reads h.disk) world k stands_kept Ordinary asked bit built next x);
       sound = λ t same holds. sound_next h.at.blocks (reads h.disk) world k stands_kept Ordinary asked bit built next x t (here t same) holds;
       charged = λ t same holds. charged h.at.blocks (reads h.disk) world k stands_kept Ordinary asked bit built next x t (here t same) holds;

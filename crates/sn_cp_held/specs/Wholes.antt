@@ -7,6 +7,7 @@ use Rattle.sn_layout.specs.Geometry.{other_slot}
 use Rattle.sn_layout.specs.Superblock.{superblock_bytes}
 use Rattle.sn_image.specs.Image.{image}
 use Rattle.sn_layout.specs.declared.geometry.Slot.{Slot}
+use Rattle.sn_layout.specs.declared.root.RootBody.{RootBody}
 use Rattle.sn_limits.specs.Versions.{version_1}
 use Rattle.sn_log.specs.Positions.{IsReadyAt, first_of}
 use Rattle.sn_model.specs.declared.change.Change.{Change}
@@ -24,6 +25,9 @@ use Rattle.sn_opening.specs.Worlds.{all_reach, frozen_of}
 use Rattle.sn_overlay.specs.Needs.{nameless_in}
 use Rattle.sn_overlay.specs.Overlays.{no_changes}
 use Rattle.sn_room.specs.Rooms.{RoomCounts}
+use Rattle.sn_root.specs.Following.{epochs_of}
+use Rattle.sn_root.specs.declared.following.PointKind.{PointKind}
+use Rattle.sn_root.specs.declared.following.PointKind.TheVariants.{Ordinary}
 use Rattle.sn_sound.specs.Logs.{HasAgeLeft}
 use Rattle.sn_sound.specs.Maps.{IsSoundRoot, free_blocks}
 use Rattle.sn_held.specs.Held.{Held, Kept, Runs}
@@ -32,12 +36,17 @@ use Rattle.sn_cp.specs.Points.{Work}
 use Rattle.sn_cp.specs.Steps.{IsWhole}
 use Rattle.sn_cp_held.specs.Snapshots.{trees_behind}
 
+-- The next root follows on this one by a point of this kind: of the next generation, and so many epochs later.
+pub record IsFollowing (kind : PointKind) (root next : RootBody) : Type 0 where
+  pub generation : next.generation ≡ root.generation + 1
+  pub epoch : next.epoch ≡ root.epoch + epochs_of kind
+
 -- The point was built of the live tree, with the snapshots that are asked for, for the slot that doesn't count: wherever its blocks stand beside what the root reaches, its root is sound with its snapshots and its map, and what is kept of the room is charged of it. It has an age left.
 pub record IsOfLive (h : Held) (world : World) (r : Runs h world) (asked : AskedPoint) (w : Work) (room : RoomCounts) : Type 0 where
   pub whole : IsWhole w
   pub blocks : w.blocks ≡ h.at.blocks
   pub slot : other_slot r.slot ≡ w.slot
-  pub epoch : w.plan.next.epoch ≡ r.root.epoch + 1
+  pub follows : IsFollowing Ordinary r.root w.plan.next
   pub built : IsBuilt h.at.blocks r.store r.root (trees_behind asked (trees_of world)) w.plan
   pub sound : (s : Store) → SameIn (all_reach r.store r.root) r.store s → HoldsAll s w.plan.blocks → IsSoundRoot h.at.blocks s w.plan.next (slice_index w.plan.words)
   pub charged : (s : Store) → SameIn (all_reach r.store r.root) r.store s → HoldsAll s w.plan.blocks → IsCharged room h.at.blocks s w.plan.next [] world.live

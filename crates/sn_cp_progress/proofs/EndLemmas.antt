@@ -119,7 +119,7 @@ module _ (h : Held) (world : World) (k : Kept) (ready : RunsReady h world k) (as
   begins_on = record {
     runs = begins_runs;
     point = record {
-      of = record { whole = of.whole; blocks = of.blocks; slot = of.slot; epoch = of.epoch; built = of.built; sound = of.sound; age = of.age };
+      of = record { whole = of.whole; blocks = of.blocks; slot = of.slot; follows = of.follows; built = of.built; sound = of.sound; age = of.age };
       within = within;
       stands = stands;
       epoch = refl;
@@ -184,7 +184,7 @@ module _ (h : Held) (world : World) (p : Progress) (ro : RunsOn h world p) (resu
         (subst (Fits version_1 (r.newer ++ []) (image t w.plan.next.inode_file)) next_charged.free next_charged.fits)
 
   none_after : (c : Contents) → around c → (epoch : ℕ) → HasNoLater c (base_of n epoch) (w.plan.next.epoch + 1)
-  none_after c here = none_behind h world p ro (w.plan.next.epoch + 1) (let e = ro.point.of.epoch in omega (arith, e)) c here
+  none_after c here = none_behind h world p ro (w.plan.next.epoch + 1) (let e = ro.point.of.follows.epoch in omega (arith, e)) c here
 
   next_shows : (c : Contents) → ShowsNext w r.store r.root r.newer [] c → Shows n (store_of c) w.slot w.plan.next r.newer [] c
   next_shows c next = record { shown = subst (λ (m : ℕ). Shown m c w.slot w.plan.next (payloads_of r.newer) (payloads_of [])) ro.point.of.blocks next.shown; same = λ block among. refl }
@@ -239,7 +239,7 @@ module _ (h : Held) (world : World) (p : Progress) (ro : RunsOn h world p) (resu
             sound = ro.point.of.sound t now.same now.blocks;
           };
           none_later = λ epoch c crash. none_after c (here c crash) epoch;
-          log = inl (refl, ro.point.epoch ∙ sym ro.point.of.epoch, λ c crash. (here c crash).ready);
+          log = inl (refl, ro.point.epoch ∙ sym ro.point.of.follows.epoch, λ c crash. (here c crash).ready);
           cover = next_cover t now.same now.blocks;
           charged = next_charged t now.same now.blocks;
           age = λ recovers. ro.point.of.age;
@@ -253,7 +253,7 @@ module _ (h : Held) (world : World) (p : Progress) (ro : RunsOn h world p) (resu
         record {
           runs = last_runs;
           ready = record {
-            between = record { none_newer = refl; epoch = ro.point.epoch ∙ sym ro.point.of.epoch; ready = λ c crash. (here c crash).ready; synced = stands.reached.1 };
+            between = record { none_newer = refl; epoch = ro.point.epoch ∙ sym ro.point.of.follows.epoch; ready = λ c crash. (here c crash).ready; synced = stands.reached.1 };
             slot = refl;
             root = refl;
             words = refl;

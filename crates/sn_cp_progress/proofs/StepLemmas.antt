@@ -134,7 +134,7 @@ module _ (h : Held) (world : World) (p : Progress) (ro : RunsOn h world p) where
   beside =
       ordinary_show w r.store r.slot r.root r.older r.newer h.disk
       (record { other = q.of.slot; later = q.of.built.later; lie = subst (λ (m : ℕ). LieInData m (all_reach r.store r.root)) (sym q.of.blocks) lie; apart = q.of.built.apart })
-      q.of.epoch epoch_least
+      q.of.follows.epoch epoch_least
       (subst (λ (m : ℕ). Always h.disk (Shows m r.store r.slot r.root r.older r.newer)) (sym q.of.blocks) r.stands.shows)
       (subst (λ (m : ℕ). Always h.disk (λ c. HasNoLater c (base_of m r.root.epoch) r.root.epoch)) (sym q.of.blocks) q.none_later)
 

@@ -16,6 +16,7 @@ use Rattle.sn_opening.specs.Covering.{MakesCover}
 use Rattle.sn_opening.specs.Points.{HoldsAll, IsBuilt}
 use Rattle.sn_opening.specs.Worlds.{all_reach}
 use Rattle.sn_room.specs.Rooms.{done}
+use Rattle.sn_root.specs.declared.following.PointKind.TheVariants.{Ordinary}
 use Rattle.sn_sound.specs.Logs.{HasAgeLeft}
 use Rattle.sn_sound.specs.Maps.{IsSoundRoot}
 use Rattle.sn_held.specs.Held.{Held, Kept, Runs}
@@ -23,13 +24,14 @@ use Rattle.sn_held.specs.Room.{IsCharged}
 use Rattle.sn_cp.specs.Points.{Work}
 use Rattle.sn_cp.specs.Steps.{IsWhole, IsWithin, StandsAtStage}
 use Rattle.sn_cp.specs.declared.stage.Stage.{Stage}
+use Rattle.sn_cp_held.specs.Wholes.{IsFollowing}
 
 -- A point was built of these trees over this root, for the slot that doesn't count: wherever its blocks stand beside what the root reaches, its root is sound with its snapshots and its map. It has an age left.
 pub record IsOfTrees (n : ℕ) (s : Store) (counts : Slot) (root : RootBody) (trees : Trees) (w : Work) : Type 0 where
   pub whole : IsWhole w
   pub blocks : w.blocks ≡ n
   pub slot : other_slot counts ≡ w.slot
-  pub epoch : w.plan.next.epoch ≡ root.epoch + 1
+  pub follows : IsFollowing Ordinary root w.plan.next
   pub built : IsBuilt n s root trees w.plan
   pub sound : (t : Store) → SameIn (all_reach s root) s t → HoldsAll t w.plan.blocks → IsSoundRoot n t w.plan.next (slice_index w.plan.words)
   pub age : HasAgeLeft w.plan.next

@@ -198,7 +198,7 @@ is_going n m base changed asked built next slot gate going in_n size count plans
       first = first ∙ ap first_stage (sym (ap (λ (w : Work). length w.plan.blocks) is ∙ written_count built.blocks.items));
       blocks = ap (λ (w : Work). w.blocks) is ∙ in_n;
       slot = sym (ap (λ (w : Work). w.slot) is ∙ other);
-      epoch = ap (λ (w : Work). w.plan.next.epoch) is ∙ ap (λ (r : RootBody). r.epoch) plans.follows.is;
+      follows = record { generation = ap (λ (w : Work). w.plan.next.generation) is ∙ ap (λ (r : RootBody). r.generation) plans.follows.is; epoch = ap (λ (w : Work). w.plan.next.epoch) is ∙ ap (λ (r : RootBody). r.epoch) plans.follows.is };
       age = subst (λ (w : Work). HasAgeLeft w.plan.next) (sym is) plans.follows.age;
       few = omega (arith, ap (λ (w : Work). length w.plan.blocks) is, written_count built.blocks.items, plans.well.few);
       free = free ∙ ap (free_data built.map) (ap (λ (b : ℕ). start_of b Data) in_n) ∙ ap (λ (w : Work). free_data w.plan.words (start_of n Data)) (sym is);

@@ -20,12 +20,14 @@ use Rattle.sn_overlay.specs.Layers.{Layer}
 use Rattle.sn_overlay.specs.Needs.{need}
 use Rattle.sn_overlay.specs.Overlays.{layer_of}
 use Rattle.sn_room.specs.Rooms.{begun, done}
+use Rattle.sn_root.specs.declared.following.PointKind.TheVariants.{Ordinary}
 use Rattle.sn_sound.specs.Logs.{HasAgeLeft}
 use Rattle.sn_held.specs.Held.{Going, Held, Kept, RunsReady}
 use Rattle.sn_held.specs.Images.{IsImage}
 use Rattle.sn_cp.specs.Points.{first_stage, stage_of, work_of}
 use Rattle.sn_cp.specs.Steps.{IsWhole, IsWithin}
 use Rattle.sn_cp_held.specs.Snapshots.{trees_behind}
+use Rattle.sn_cp_held.specs.Wholes.{IsFollowing}
 use Rattle.sn_cp_progress.specs.Meaning.{EitherImage, progress_over}
 use Rattle.sn_cp_progress.specs.Progress.{RunsOn}
 use Rattle.sn_cp_whole.specs.Making.{HasCauseFor}
@@ -76,14 +78,14 @@ with_frozen world frozen = record world { frozen = frozen }
 abbrev pub FinishesPoint : Result (Unit {0}) Fault → World → FrozenTrees → Held → ℕ → Kept → Disk → Disk → Type 0
 FinishesPoint result world frozen h free kept old new = LeavesOnly old new (EitherImage world (with_frozen world frozen)) × OnOk result (RunsReady (record h { world = with_frozen world frozen; room = done free h.room; disk = new }) (with_frozen world frozen) kept)
 
--- A point of what changed begins over a root, on a disk of so many blocks: it writes the slot that doesn't count, of the next epoch, no more new blocks than what changed needs.
+-- A point of what changed begins over a root, on a disk of so many blocks: it writes the root that follows into the slot that doesn't count, with no more new blocks than what changed needs.
 pub record IsGoing (n : ℕ) (base : PointBase) (changed : Layer) (going : GoingPoint) : Type 0 where
   pub whole : IsWhole (work_of going.point)
   pub within : IsWithin (work_of going.point) (stage_of going.point)
   pub first : stage_of going.point ≡ first_stage (length (work_of going.point).plan.blocks)
   pub blocks : (work_of going.point).blocks ≡ n
   pub slot : other_slot base.slot ≡ (work_of going.point).slot
-  pub epoch : (work_of going.point).plan.next.epoch ≡ base.root.epoch + 1
+  pub follows : IsFollowing Ordinary base.root (work_of going.point).plan.next
   pub age : HasAgeLeft (work_of going.point).plan.next
   pub few : length (work_of going.point).plan.blocks ≤ need base.root.limits changed
   pub free : going.free ≡ free_data (work_of going.point).plan.words (start_of n Data)

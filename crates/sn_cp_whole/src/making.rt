@@ -9,6 +9,7 @@ ghost use Rattle.sn_root.specs.declared.following.PointKind.TheVariants.{Ordinar
 ghost use Rattle.sn_model.specs.World.{World};
 ghost use Rattle.sn_overlay.specs.Needs.{need};
 ghost use Rattle.sn_overlay.specs.Overlays.{HasRoom, layer_of, no_changes};
+ghost use Rattle.sn_cp_held.specs.Wholes.{IsFollowing};
 ghost use Rattle.sn_cp_whole.specs.Making.{CanBeAsked, CostsPoint, MakesPoint, room_over, with_parts};
 ghost use Rattle.sn_cp_whole.specs.Planning.{HasAgeFor, IsBaseAt, kept_in};
 ghost use Rattle.sn_cp_whole.specs.Recovering.{IsApart};
@@ -47,6 +48,7 @@ pub fn make_point<D: Device>(
         (D.status (device_of blocks.old)) (D.status (device_of blocks.new)) }
     ensures aged { result ≡ Err AgeFault → HasAgeFor OrdinaryPoint base.old.root → ⊥ }
     ensures base { OnOk result (IsBaseAt log.new base.new) }
+    ensures follows { OnOk result (IsFollowing OrdinaryPoint base.old.root base.new.root) }
     ensures age { OnOk result (HasAgeLeft base.new.root) }
     ensures log { OnOk result (log.new ≡ first_of log.old.blocks (log.old.epoch + 1)) }
     ensures room { OnOk result (room.new ≡ room_over log.old.blocks (kept_in base.new no_changes)) }

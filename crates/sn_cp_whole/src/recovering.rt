@@ -1,17 +1,20 @@
 //! A whole point of what a mount has replayed.
-ghost use Rattle.std.specs.Prelude.{◌≡◌, ◌≢◌, ◌*◌, ◌+◌, ◌≤◌, length, Err, IsTrue, IfErr, IfOk};
+ghost use Rattle.std.specs.Prelude.{◌≡◌, ◌≢◌, ◌*◌, ◌≤◌, length, Err, IsTrue, IfErr, IfOk};
 ghost use Rattle.sn_block.specs.Lending.{device_of};
 ghost use Rattle.sn_device.specs.Crash.{Touches};
 ghost use Rattle.sn_device.specs.Disk.{IsSynced, reads};
+ghost use Rattle.sn_layout.specs.Geometry.{other_slot};
 ghost use Rattle.sn_layout.specs.RootBody.{IsRootBody};
 ghost use Rattle.sn_held.specs.Images.{IsImage};
 ghost use Rattle.sn_model.specs.World.{World};
 ghost use Rattle.sn_ondisk.specs.Trees.{store_of};
 ghost use Rattle.sn_overlay.specs.Needs.{need};
 ghost use Rattle.sn_overlay.specs.Overlays.{layer_of};
+ghost use Rattle.sn_root.specs.declared.following.PointKind.TheVariants.{Recovery as RecoveryPoint};
 ghost use Rattle.sn_sound.specs.Logs.{HasAgeLeft};
 ghost use Rattle.sn_cp_held.specs.Builds.{CanBeBuilt};
 ghost use Rattle.sn_cp_held.specs.Recovering.{HasReplayed};
+ghost use Rattle.sn_cp_held.specs.Wholes.{IsFollowing};
 ghost use Rattle.sn_cp_whole.specs.Planning.{kept_in};
 ghost use Rattle.sn_cp_whole.specs.Recovering.{CostsSteps, IsApart, MakesRecovery};
 ghost use Rattle.sn_cp_whole.specs.declared.fault.PointFault.TheVariants.{Age as AgePoint, Damaged as DamagedPoint, Device as DevicePoint};
@@ -52,7 +55,8 @@ pub fn make_recovery<D: Device>(
     ensures aged { result ≡ Err AgePoint → HasAgeLeft base.now.root → ⊥ }
     ensures body { IfOk result (λ next. IsRootBody next.root) }
     ensures words { IfOk result (λ next. length next.map ≡ geometry) }
-    ensures epoch { IfOk result (λ next. next.root.epoch ≡ base.now.root.epoch + 2) }
+    ensures slot { IfOk result (λ next. next.slot ≡ other_slot base.now.slot) }
+    ensures follows { IfOk result (λ next. IsFollowing RecoveryPoint base.now.root next.root) }
 {
     // It bounds the disk.
     let _blocks = geometry.blocks();
