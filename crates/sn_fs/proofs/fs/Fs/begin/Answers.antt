@@ -88,7 +88,7 @@ returns-in-Ok-clause-sound g c =
         within = e.going.within;
         blocks = e.going.blocks ∙ sym (ap (λ (at : LogPosition). at.blocks) e.log);
         slot = e.going.slot;
-        epoch = ap (λ (at : LogPosition). at.epoch) e.log ∙ ap (λ (n : ℕ). n + 1) base.epoch ∙ sym e.going.epoch;
+        epoch = ap (λ (at : LogPosition). at.epoch) e.log ∙ ap (λ (n : ℕ). n + 1) base.epoch ∙ sym e.going.follows.epoch;
       };
       between = λ _ none. let never : Some point ≡ None = none in absurd cc;
       drops = λ _. subst (HasDrops c.begin_point-in-Ok.new.self) (c.open_files-drops.ensures ∙ ap (λ (u : InUse). live_in u.descriptors) (sym next.sessions)) (next.drops c.open_files-drops.result e.drops);
