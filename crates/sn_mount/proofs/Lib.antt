@@ -1,5 +1,6 @@
 pub mod ClearingLemmas
 pub mod RecoverLemmas
+pub mod RootingLemmas
 pub mod ClearedLemmas
 pub mod CostLemmas
 pub mod CauseLemmas

@@ -1,4 +1,5 @@
 pub mod Costs
 pub mod FoundDisk
 pub mod Settling
+pub mod Rooting
 pub mod Recovering

@@ -17,10 +17,11 @@
 //!   frozen trees of its snapshots, that runs (`RunsOver`).
 //! - `over`: the world belongs to the tree of the root that counts then. Behind a mount nothing has changed of that,
 //!   nothing is logged, and nothing is charged.
-//! - A mount that succeeds costs one write and two syncs, or those of a whole point and a sync.
+//! - `root`: a mount that succeeds makes a root exactly where a record was replayed or a file dropped: the one that follows,
+//!   two epochs on, for the writes and syncs of a whole point and a sync. Else the root stays, for one write and two syncs.
 //!
 //! The way through: `specs/Recovering.antt` says what a mount makes of a disk, `Settling.antt` what becomes of what was
-//! found, `Costs.antt` what it costs; `examining` checks, `finding` reads, `settling` drops the files and makes the root,
+//! found, `Rooting.antt` what of its root, `Costs.antt` what it costs; `examining` checks, `finding` reads, `settling` drops the files and makes the root,
 //! `recovering` puts all together.
 //!
 //! What the sources leave open is decided in `docs/DECISIONS.md`, under "Mount of a root".

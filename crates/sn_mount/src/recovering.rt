@@ -8,14 +8,17 @@ ghost use Rattle.sn_cp_whole.specs.Planning.{IsBaseAt, kept_in};
 ghost use Rattle.sn_desc.specs.InUse.{live_in};
 ghost use Rattle.sn_limits.specs.Versions.{version_1};
 ghost use Rattle.sn_live_world.specs.World.{HasDrops, IsOver, changes_of, descriptors_of, kept_of, kept_since_of, nameless_of, point_of};
+ghost use Rattle.sn_held.specs.Images.{IsImage};
 ghost use Rattle.sn_log.specs.Positions.{first_of};
+ghost use Rattle.sn_model.specs.World.{World};
 ghost use Rattle.sn_model.specs.Worlds.{IsWorld};
 ghost use Rattle.sn_overlay.specs.Overlays.{no_changes};
 ghost use Rattle.sn_rooted.specs.Roots.{tree_on};
 ghost use Rattle.sn_examine.specs.Failing.{FailsAs};
 ghost use Rattle.sn_examine.specs.Laws.{IsSomeClean};
 ghost use Rattle.sn_mount.specs.Costs.{CostsFew, CostsMount};
-ghost use Rattle.sn_mount.specs.Recovering.{Recovers, RunsOver, recovered_world};
+ghost use Rattle.sn_mount.specs.Recovering.{Recovers, RunsOver, recovered_base, recovered_world};
+ghost use Rattle.sn_mount.specs.Rooting.{MountsRoot};
 
 use crate::examining::examine;
 use crate::found::Recovered;
@@ -42,6 +45,8 @@ pub fn recover<D: Device>(alloc: Global, blocks: &mut Blocks<D>) -> Result<Recov
     ensures kept { IfOk result (λ r. (number : ℕ) → kept_of r.world number ≡ false) }
     ensures since { IfOk result (λ r. (number : ℕ) → kept_since_of r.world number ≡ false) }
     ensures few { IfOk result (λ r. r.room.dropped + nameless_of r.world ≤ 2 ^ 33) }
+    ensures root { IsTrue D.tells_bytes → IfOk result (λ r. (world : World) (im : IsImage (reads (D.disk (device_of blocks.old))) world)
+        → MountsRoot (reads (D.disk (device_of blocks.old))) world im (recovered_base r) (D.status (device_of blocks.old)) (D.status (device_of blocks.new))) }
     ensures base { IfOk result (λ r. IsBaseAt r.log r.base) }
     ensures log { IfOk result (λ r. r.log ≡ first_of r.log.blocks r.base.root.epoch) }
     ensures room { IfOk result (λ r. r.room ≡ room_over r.log.blocks (kept_in r.base (changes_of r.world))) }

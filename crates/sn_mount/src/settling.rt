@@ -18,6 +18,7 @@ ghost use Rattle.sn_overlay.specs.Overlays.{HasRoom, layer_of, no_changes};
 ghost use Rattle.sn_sound.specs.Logs.{HasAgeLeft};
 ghost use Rattle.sn_mount.specs.Costs.{CostsRoot};
 ghost use Rattle.sn_mount.specs.FoundDisk.{kept_of as kept_found};
+ghost use Rattle.sn_mount.specs.Rooting.{BecomesRoot};
 ghost use Rattle.sn_mount.specs.Settling.{IsNoRoot, MakesRoot, SettlesChanges, mount_fault};
 
 use crate::found::FoundDisk;
@@ -113,7 +114,8 @@ pub(crate) fn make_root<D: Device>(
     ensures touched { IsTrue D.tells_bytes → Touches (IsApart geometry base.slot) (D.disk (device_of blocks.old)) (D.disk (device_of blocks.new)) }
     ensures body { IfOk result (λ next. IsRootBody next.root) }
     ensures words { IfOk result (λ next. length next.map ≡ geometry) }
-    ensures costs { CostsRoot result geometry (D.status (device_of blocks.old)) (D.status (device_of blocks.new)) }
+    ensures root { IfOk result (λ next. BecomesRoot recovers (kept_in base (layer_of changed.now)) (kept_in next no_changes)) }
+    ensures costs { CostsRoot result geometry recovers (D.status (device_of blocks.old)) (D.status (device_of blocks.new)) }
     ensures failed { FailsAs result (D.status (device_of blocks.old)) (D.status (device_of blocks.new)) }
 {
     if !recovers {

@@ -26,20 +26,21 @@ use Rattle.sn_ondisk.specs.Gates.{IsClosed}
 use Rattle.sn_ondisk.specs.LogHalf.{base_of}
 use Rattle.sn_ondisk.specs.Trees.{store_of}
 use Rattle.sn_overlay.specs.Layers.{Layer}
-use Rattle.sn_overlay.specs.Overlays.{layer_of}
+use Rattle.sn_overlay.specs.Overlays.{layer_of, no_changes}
 use Rattle.sn_held.specs.Held.{Kept}
 use Rattle.sn_room.specs.Rooms.{fresh}
 use Rattle.sn_examine.specs.Finding.{HasFound}
 use Rattle.sn_examine.specs.Laws.{IsSomeClean}
 use Rattle.sn_check.specs.Verdicts.{IsCause}
-use Rattle.sn_mount.specs.Costs.{CostsMount}
+use Rattle.sn_mount.specs.Costs.{CostsFound, CostsMount}
 use Rattle.sn_mount.specs.FoundDisk.{kept_of}
 use Rattle.sn_mount.specs.Recovering.{WritesAtFault}
 use Rattle.sn_mount.specs.Settling.{IsNoRoot, MakesRoot}
 use Rattle.sn_mount.specs.declared.found.FoundDisk.{FoundDisk}
 use Rattle.sn_mount.proofs.CauseLemmas.{read_cause, writes_none}
-use Rattle.sn_mount.proofs.CostLemmas.{few_costs, mount_costs}
+use Rattle.sn_mount.proofs.CostLemmas.{few_costs, mount_costs, some_cost}
 use Rattle.sn_mount.proofs.RecoverLemmas.{read_writes}
+use Rattle.sn_mount.proofs.RootingLemmas.{becomes_found, mounts_root}
 use Rattle.sn_mount.proofs.MountLemmas.{HasCleared, HasRooted, below_is, cleared_keeps, image_synced, is_world, leaves_at_end, leaves_at_root, no_root_cause, no_root_touches, recovered, runs_shown}
 use Rattle.sn_mount.proofs.recovering.recover.Given.{Over}
 use Rattle.sn_mount.proofs.recovering.recover.Goals.{After-clear, After-make_root, After-new-in-Ok-clear}
@@ -85,6 +86,12 @@ module _ (g : Over) (c : After-make_root g) where
     -- what the settled world shows of the tree below
     settled_shows : world_over settled_world below ≡ record new_world { live = settled shown }
     settled_shows = c.in-Ok-settle.ensures.world below live_below
+
+    -- what was found, on the disk as it was
+    found_here : HasFound sectors (reads old) (kept_of on_disk) on_disk.at shown on_disk.room on_disk.recovers
+    found_here =
+        subst (λ (x : Contents). HasFound sectors x (kept_of on_disk) on_disk.at shown on_disk.room on_disk.recovers) (c.in-Ok-sync.ensures.disk told).same
+        (subst (λ (n : ℕ). HasFound n (reads mid) (kept_of on_disk) on_disk.at shown on_disk.room on_disk.recovers) c.in-Ok-sync.ensures.counts.sectors (c.in-Ok-examine.ensures.found told))
 
     -- what is said of the call that makes the root, at the numbers and disks as they are here
     at_its : (P : ℕ → Disk → Layer → Type 0) → P on_disk.geometry (g.D.Device.disk (device_of c.examine.new.blocks)) (layer_of c.changes.result.now) → P on_disk.at.blocks mid (changes_of settled_world)
@@ -149,6 +156,11 @@ module _ (g : Over) (c : After-new-in-Ok-clear g) where
         at_first = c.new-in-Ok-clear.ensures ∙ c.first-at.ensures ∙ ap (λ (n : ℕ). first_of n base.root.epoch) blocks_are;
         room_fresh = c.fresh-room.ensures ∙ ap fresh (c.count_free_from.ensures ∙ ap (free_data base.map) (c.start.ensures ∙ ap (λ (n : ℕ). start_of n Data) blocks_are));
       }
+
+  cost : CostsFound c.in-Ok-examine.found.recovers c.in-Ok-examine.found.geometry (g.D.Device.status (device_of c.args.blocks.now)) (g.D.Device.status (device_of c.clear.new.blocks))
+  cost =
+      mount_costs c.in-Ok-examine.found.recovers c.in-Ok-examine.found.geometry (g.D.Device.status (device_of c.args.blocks.now)) (g.D.Device.status (device_of c.sync.new.self)) (g.D.Device.status (device_of c.examine.new.blocks)) (g.D.Device.status (device_of c.make_root.new.blocks))
+      (g.D.Device.status (device_of c.clear.new.blocks)) c.in-Ok-sync.ensures.counts.done c.in-Ok-examine.ensures.idle c.in-Ok-make_root.ensures.costs.done c.in-Ok-clear.ensures.counts.done
 
   module _ (below : Tree) (settled_world : World) (settled_shows : world_over c.in-Ok-settle.field-0.world below ≡ settled_world) (next : rooted_tree ≡ settled_world.live) where
     next_is : rooted_tree ≡ tree_over c.in-Ok-settle.field-0.world below
@@ -216,11 +228,21 @@ returns-in-Ok-clear-clause-room g c =
     let is = c.new-in-Ok-clear.ensures ∙ c.first-at.ensures in
     c.fresh-room.ensures ∙ ap fresh (c.count_free_from.ensures ∙ ap (free_data c.in-Ok-make_root.base.map) (c.start.ensures ∙ ap (λ (n : ℕ). start_of n Data) (sym (ap (λ (p : LogPosition). p.blocks) is))))
 
+pub returns-in-Ok-clear-clause-root : goal.returns-in-Ok-clear-clause-root
+returns-in-Ok-clear-clause-root g c told world im =
+    let at = goal.at.returns-in-Ok-clear-clause-root g c in
+    let kept = c.in-Ok-settle.ensures.base in
+    let old = device_of c.args.blocks.now in
+    mounts_root _ _ (kept_of c.in-Ok-examine.found) c.in-Ok-examine.found.at _ _ c.in-Ok-examine.found.recovers (found_here g at.After-make_root told) (g.met.D.Device.count old told) world im c.in-Ok-make_root.base no_changes _ _ _
+    (becomes_found c.in-Ok-examine.found.recovers (kept_of c.in-Ok-examine.found) c.in-Ok-settle.field-0.base c.in-Ok-make_root.base (layer_of c.changes.result.now) no_changes kept.0 kept.1 kept.2 c.in-Ok-make_root.ensures.root)
+    (subst (λ (n : ℕ). CostsFound c.in-Ok-examine.found.recovers n (g.D.Device.status old) (g.D.Device.status (device_of c.clear.new.blocks))) (sym c.in-Ok-examine.ensures.blocks) (cost g at.After-new-in-Ok-clear))
+
 pub returns-in-Ok-clear-clause-done : goal.returns-in-Ok-clear-clause-done
 returns-in-Ok-clear-clause-done g c =
+    let at = goal.at.returns-in-Ok-clear-clause-done g c in
     let is = c.new-in-Ok-clear.ensures ∙ c.first-at.ensures in
     subst (λ (n : ℕ). CostsMount n (g.D.Device.status (device_of c.args.blocks.now)) (g.D.Device.status (device_of c.clear.new.blocks))) (sym (ap (λ (p : LogPosition). p.blocks) is))
-    (mount_costs c.in-Ok-examine.found.geometry (g.D.Device.status (device_of c.args.blocks.now)) (g.D.Device.status (device_of c.sync.new.self)) (g.D.Device.status (device_of c.examine.new.blocks)) (g.D.Device.status (device_of c.make_root.new.blocks)) (g.D.Device.status (device_of c.clear.new.blocks)) c.in-Ok-sync.ensures.counts.done c.in-Ok-examine.ensures.idle c.in-Ok-make_root.ensures.costs.done c.in-Ok-clear.ensures.counts.done)
+    (some_cost c.in-Ok-examine.found.recovers c.in-Ok-examine.found.geometry _ _ (cost g at.After-new-in-Ok-clear))
 
 pub returns-in-Ok-clear-clause-costs : goal.returns-in-Ok-clear-clause-costs
 returns-in-Ok-clear-clause-costs g c =
