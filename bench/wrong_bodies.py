@@ -1,14 +1,21 @@
 #!/usr/bin/env python3
 """Tries the wrong bodies of bench/wrong_bodies/CRATE, which the gate leaves out; run by hand before a release.
 
-    bench/wrong_bodies.py [--jobs N] [CRATE..]
+    bench/wrong_bodies.py [--jobs N] [--gate] [--each] [CRATE..]
 
 Each file there is an edit as those in crates/CRATE/must-fail: a line `file:`, then pairs of lines `old:` and `new:`.
-Edits of different functions are made in one copy of the repository, which is checked once; an edit counts as refused
-where the function that it changes has an error of its own. Those whose functions only wait for others are tried again
-without those that were refused; what is left then is tried by itself, where any error counts, and so is an edit of a
-definition. A line is printed for each edit that isn't refused, and one for each crate; the status is 1 where an edit was
-let through or doesn't fit its file.
+Edits of different functions are made in one copy of the repository, which is checked once; an edit fails where the
+function that it changes has an error of its own. Those whose functions only wait for others are tried again without those
+that failed; what is left then is tried by itself, where any error counts, and so is an edit of a definition.
+
+An answer of a proof file may fail for its words alone. So a function that has such a file is tried again without it, as it
+stands and with each edit. An edit that fails then too is refused by the contract: by a goal that the tactics prove of the
+function as it stands, or by one for which that needs its answer. One that doesn't is refused by its answers alone, which
+counts as let through.
+
+A line is printed for each edit that isn't refused, with `--each` for all others too, and one for each crate; the status is
+1 where an edit was let through or doesn't fit its file. With `--gate` the edits in crates/*/must-fail are tried in their
+place.
 
 Tried are the crates that are named, or all: those that a change touched before it lands, and all of them where a
 contract of sn_model, sn_device or sn_walk changed. It needs the command rt on the path, and takes less time where
@@ -30,6 +37,7 @@ TOP = Path(__file__).resolve().parent.parent
 EDITS = TOP / "bench" / "wrong_bodies"
 RT = str(TOP / ".ci" / "rt")
 STATUS = re.compile(r"^(?:fn|impl|struct|enum|trait) ([\w:]+): (.*)$")
+OPEN = re.compile(r"^fn ([\w:]+): no proof: .*did not prove (.*)$")
 WAITING = re.compile(r"^(not proved; it (waits|calls)|not proved: it calls|no proof; it (waits|calls))")
 
 
@@ -95,18 +103,34 @@ def statuses(output):
     return said
 
 
+def open_goals(output):
+    """The goals of each function that no tactic proves, where it has no answers."""
+    return {found[1]: set(re.findall(r"`([^`]+)`", found[2])) for found in map(OPEN.match, output.split("\n")) if found}
+
+
+def is_owner(kind, owner):
+    """Whether a type or a trait's impl of this name is that of the line that begins it."""
+    words = re.findall(r"\w+", owner)
+    return kind in words or any(kind.startswith(word) for word in words[1:])
+
+
+def is_of(path, crate, function):
+    """Whether a path that the check tells is that of a function."""
+    module, owner, name = function
+    inside = path.startswith(f"{crate}::{module}::" if module != "lib" else f"{crate}::")
+    if not inside or name not in (None, path.split("::")[-1]):
+        return False
+    return owner is None or is_owner(path.split("::")[-2], owner)
+
+
 def is_refused(edit, functions, said):
     """Whether a function that the edit changes has an error of its own."""
-    for module, owner, name in functions:
-        for path, has_error in said.items():
-            inside = path.startswith(f"{edit.crate}::{module}::" if module != "lib" else f"{edit.crate}::")
-            last = path.split("::")[-1]
-            if has_error and inside and (name is None or last == name):
-                kind = path.split("::")[-2]
-                words = re.findall(r"\w+", owner or "")
-                if owner is None or kind in words or any(kind.startswith(word) for word in words[1:]):
-                    return True
-    return False
+    return any(wrong and is_of(path, edit.crate, it) for path, wrong in said.items() for it in functions)
+
+
+def goals_of(edit, functions, goals):
+    """The open goals of the functions that an edit changes."""
+    return {goal for path, its in goals.items() for goal in its if any(is_of(path, edit.crate, it) for it in functions)}
 
 
 def below(crate):
@@ -148,12 +172,29 @@ class Copy:
         if keeps and kept.is_dir():
             shutil.copytree(kept, self.folder / "out" / "incremental")
 
-    def check(self, edits):
-        """What a check with these edits says of each function, and its whole output."""
-        before = {edit.file: (self.folder / edit.file).read_text() for edit in edits}
+    def source(self, edit):
+        return (TOP / "crates" / self.crate / edit.file).read_text()
+
+    def answers(self, edit):
+        """The files of answers to the goals of the functions that an edit changes."""
+        found = set()
+        for module, owner, name in edit.functions(self.source(edit)):
+            folder = self.folder / "proofs" / ("" if module == "lib" else module.replace("::", "/"))
+            for path in folder.rglob("Answers.antt"):
+                *kind, last = path.relative_to(folder).parts[:-1]
+                is_its = is_owner(kind[0], owner) if owner and kind else not owner and not kind
+                if is_its and last.lstrip("+") == name:
+                    found.add(path.relative_to(self.folder))
+        return found
+
+    def check(self, edits, without=()):
+        """What a check with these edits and without these files says of each function, and its whole output."""
+        before = {file: (self.folder / file).read_text() for file in [edit.file for edit in edits] + list(without)}
         for edit in edits:
             path = self.folder / edit.file
             path.write_text(edit.made_in(path.read_text()))
+        for file in without:
+            (self.folder / file).unlink()
         run = subprocess.run([RT, "check"], cwd=self.folder, capture_output=True, text=True)
         for file, text in before.items():
             (self.folder / file).write_text(text)
@@ -185,10 +226,10 @@ def fits(crate, taken, edit):
     return edit.made_in(source) is not None
 
 
-def fitting(crate):
-    """The edits of a crate that fit their files, and a line for each that doesn't."""
+def fitting(crate, folder):
+    """The edits of a crate in a folder that fit their files, and a line for each that doesn't."""
     edits, said = [], []
-    for path in sorted((EDITS / crate).glob("*.edit")):
+    for path in sorted(folder.glob("*.edit")):
         edit = Edit(crate, path)
         source = TOP / "crates" / crate / edit.file
         if not source.is_file() or edit.made_in(source.read_text()) is None:
@@ -204,8 +245,7 @@ def try_together(copy, edits):
     for batch in batches(copy.crate, edits):
         said, _ = copy.check(batch)
         for edit in batch:
-            source = (TOP / "crates" / copy.crate / edit.file).read_text()
-            if not is_refused(edit, edit.functions(source), said):
+            if not is_refused(edit, edit.functions(copy.source(edit)), said):
                 left.append(edit)
     return left
 
@@ -230,32 +270,77 @@ def try_alone(copy, edit):
     return "let through" if "logic=proved" in output else "not judged: it may not compile"
 
 
-def try_crate(crate):
+BY_A_CONTRACT = "refused by its contract"
+BY_AN_ANSWER = "refused by its contract, at goals that need an answer"
+BY_ANSWERS = "let through but for its answers"
+
+
+def judged(copy, edit, before, said, output):
+    """By what an edit is refused without the answers of its functions, of which these goals are open before it is made;
+    None where these only wait for others."""
+    functions = edit.functions(copy.source(edit))
+    if goals_of(edit, functions, open_goals(output)) - goals_of(edit, functions, before):
+        return BY_A_CONTRACT
+    if is_refused(edit, functions, said):
+        return BY_AN_ANSWER
+    return BY_ANSWERS if "logic=proved" in output else None
+
+
+def judged_alone(copy, edit):
+    """The same, with no other edit and no other answers taken away."""
+    without = copy.answers(edit)
+    before = open_goals(copy.check([], without)[1])
+    said, output = copy.check([edit], without)
+    return judged(copy, edit, before, said, output) or (BY_AN_ANSWER if any(said.values()) else "not judged without its answers")
+
+
+def told_apart(copy, edits):
+    """By what each of these edits is refused."""
+    verdicts = {edit.name: BY_A_CONTRACT for edit in edits}
+    answered = [edit for edit in edits if edit.file.startswith("src/") and copy.answers(edit)]
+    without = set().union(*map(copy.answers, answered))
+    before = open_goals(copy.check([], without)[1]) if answered else {}
+    for batch in batches(copy.crate, answered):
+        said, output = copy.check(batch, without)
+        for edit in batch:
+            known = goals_of(edit, edit.functions(copy.source(edit)), before)
+            verdict = judged(copy, edit, before, said, output) if known else None
+            verdicts[edit.name] = verdict or judged_alone(copy, edit)
+    return verdicts
+
+
+def try_crate(crate, words):
     """Tries the edits of a crate, and prints what came of them; the number of those that are let through or don't fit."""
     begun = time.time()
-    edits, lines = fitting(crate)
+    place = TOP / "crates" / crate / "must-fail" if words.gate else EDITS / crate
+    edits, lines = fitting(crate, place)
     with tempfile.TemporaryDirectory() as folder:
         copy = Copy(crate, folder)
         alone = [edit for edit in edits if not edit.file.startswith("src/")]
         alone += try_in_rounds(copy, [edit for edit in edits if edit not in alone])
-        for edit in alone:
-            reason = try_alone(copy, edit)
-            if reason:
-                lines.append(f"{crate}/{edit.name}: {reason}")
-    refused = len(list((EDITS / crate).glob("*.edit"))) - len(lines)
-    took = f"{len(alone)} by themselves, {time.time() - begun:.0f} s"
-    print("\n".join([*lines, f"{crate}: {refused} refused, {len(lines)} not ({took})"]), flush=True)
-    return len(lines)
+        through = {edit.name: reason for edit in alone if (reason := try_alone(copy, edit))}
+        verdicts = told_apart(copy, [edit for edit in edits if edit.name not in through])
+    through |= {name: told for name, told in verdicts.items() if not told.startswith("refused")}
+    lines += [f"{crate}/{name}: {told}" for name, told in sorted({**verdicts, **through}.items()) if words.each or name in through]
+    refused = len(verdicts.keys() - through.keys())
+    bad = len(list(place.glob("*.edit"))) - refused
+    needed = list(verdicts.values()).count(BY_AN_ANSWER)
+    took = f"{needed} at goals that need an answer, {len(alone)} by themselves, {time.time() - begun:.0f} s"
+    print("\n".join([*lines, f"{crate}: {refused} refused, {bad} not ({took})"]), flush=True)
+    return bad
 
 
 def main():
     asked = argparse.ArgumentParser(description="Tries wrong bodies, which the prover has to refuse.")
     asked.add_argument("--jobs", type=int, default=1, help="how many crates at a time, of some 2 GB each")
+    asked.add_argument("--gate", action="store_true", help="those that the gate tries")
+    asked.add_argument("--each", action="store_true", help="tells of each by what it is refused")
     asked.add_argument("crates", nargs="*", help="which crates; all, where none is named")
     words = asked.parse_args()
-    crates = words.crates or sorted(path.name for path in EDITS.iterdir() if path.is_dir())
+    with_edits = (TOP / "crates").glob("*/must-fail") if words.gate else EDITS.glob("*/*.edit")
+    crates = words.crates or sorted({path.parent.name for path in with_edits})
     with ThreadPoolExecutor(words.jobs) as pool:
-        bad = sum(pool.map(try_crate, crates))
+        bad = sum(pool.map(lambda crate: try_crate(crate, words), crates))
     print(f"{bad} not refused in all")
     sys.exit(1 if bad else 0)
 
