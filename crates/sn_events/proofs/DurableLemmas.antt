@@ -1,5 +1,5 @@
 -- A root since which nothing was done has all of the world that runs over it.
-use Rattle.std.proofs.Common.{◌≡◌, ℕ, [], ◌++◌, length, slice_index, refl, sym, ap, subst, ◌∙◌}
+use Rattle.std.proofs.Common.{◌≡◌, ◌++◌, length, slice_index, refl, sym, ap, subst, ◌∙◌}
 use Rattle.std.proofs.lemmas.List.{nil_from_length}
 use Rattle.sn_device.specs.Disk.{Always}
 use Rattle.sn_log.specs.Positions.{LogPosition}

@@ -1,5 +1,5 @@
 -- A mount, from what recovery makes of a disk.
-use Rattle.std.proofs.Common.{◌≡◌, inl, ℕ, false, Option, refl, sym, subst}
+use Rattle.std.proofs.Common.{inl, ℕ, false, Option, refl, sym, subst}
 use Rattle.sn_device.specs.Disk.{Disk, reads}
 use Rattle.sn_device.proofs.CrashLemmas.{Touches-start}
 use Rattle.sn_block.specs.Effects.{Nowhere}

@@ -83,6 +83,7 @@ made_point e old mid needed p = record {
   world = p.world;
   fresh = p.fresh;
   log = p.log;
+  follows = p.follows;
   touched = p.touched;
   built = p.built;
   builds = p.builds;

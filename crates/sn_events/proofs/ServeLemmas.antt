@@ -16,10 +16,6 @@ use Rattle.sn_cp.specs.Points.{stage_of, work_of}
 use Rattle.sn_cp_whole.specs.declared.going.GoingPoint.{GoingPoint}
 use Rattle.sn_cp_whole.specs.declared.base.PointBase.{PointBase}
 use Rattle.sn_events.specs.Answers.{HasAll, is_fitting}
-use Rattle.std.proofs.lemmas.Bool.{true≢false}
-use Rattle.sn_events.specs.Changing.{FailsChange, stops}
-use Rattle.sn_events.specs.declared.fault.ChangeFault.{ChangeFault}
-use Rattle.sn_events.specs.declared.fault.ChangeFault.TheVariants as fault
 use Rattle.sn_events.specs.Mounted.{IsBased, IsSameRoot, StandsThere}
 use Rattle.sn_events.specs.Serving.{LacksNothing, LacksSome, TellsLack}
 

@@ -1,5 +1,5 @@
 -- What an event leads a mounted file system to, on its disk too.
-use Rattle.std.specs.Prelude.{◌≡◌, ◌≢◌, ◌⊎◌, ℕ, ◌+◌, ◌-◌, ◌*◌, ◌<◌, ◌≤◌, Bool, false, true, ◌&&◌, ◌||◌, Option, None, Some, Ok, length}
+use Rattle.std.specs.Prelude.{◌≡◌, ◌≢◌, ◌⊎◌, ℕ, ◌+◌, ◌-◌, ◌*◌, ◌≤◌, Bool, false, true, ◌&&◌, ◌||◌, Option, None, Some, Ok, length}
 use Rattle.std.proofs.Common.{inl, inr}
 use Rattle.sn_device.specs.Crash.{Touches}
 use Rattle.sn_device.specs.Disk.{Disk, reads}
@@ -53,6 +53,9 @@ use Rattle.sn_mount.specs.Costs.{CostsFew, CostsMount}
 use Rattle.sn_mount.specs.Recovering.{KeepsTheRoot, KeepsTheWorld, LeavesTheWorld, OfImage}
 use Rattle.sn_events.specs.Dropping.{DropsFiles}
 use Rattle.sn_events.specs.Mounting.{IsFresh, WritesToMount}
+use Rattle.sn_cp_held.specs.Wholes.{IsFollowing}
+use Rattle.sn_held.specs.Images.{IsImage}
+use Rattle.sn_mount.specs.Rooting.{MountsRoot}
 
 -- the change that a call comes to
 pub record IsChangeOf (world : World) (kept : ℕ → Bool) (session : ℕ) (c : Call) (change : Change) : Type 0 where
@@ -121,13 +124,14 @@ BuildsOf event.Restart old built = DropsFiles old.base old.world.live (record ol
 abbrev pub IsBesideRoot : Held → ℕ → Type 0
 IsBesideRoot h = IsApart h.at.blocks h.base.slot
 
--- A whole point was made first, where none was in progress, with its writes and syncs, beside the root that counted: nothing was done since its root, and the snapshots are those that were asked for.
+-- A whole point was made first, where none was in progress, with its writes and syncs, beside the root that counted: nothing was done since its root, which follows on that, and the snapshots are those that were asked for.
 pub record HasMadePoint (e : Event) (old mid : Held) : Type 0 where
   pub needed : NeedsPoint old e
   pub between : old.point ≡ None
   pub world : mid.world ≡ pointed (asked_in old e needed) (world_behind e old.world)
   pub fresh : IsFresh mid
   pub log : mid.at ≡ first_of old.at.blocks (old.at.epoch + 1)
+  pub follows : IsFollowing Ordinary old.base.root mid.base.root
   pub touched : Touches (IsBesideRoot old) old.disk mid.disk
   pub built : Layer
   pub builds : BuildsOf e old built
@@ -291,6 +295,7 @@ pub record HasBegun (old new : Held) : Type 0 where
   pub size : going.work.blocks ≡ old.at.blocks
   pub few : length going.work.plan.blocks ≤ need old.base.root.limits old.base.changed
   pub first : going.stage ≡ first_stage (length going.work.plan.blocks)
+  pub follows : IsFollowing Ordinary old.base.root going.work.plan.next
   pub world : new.world ≡ old.world
   pub kept : (number : ℕ) → new.kept number ≡ old.kept number
   pub none_since : (number : ℕ) → new.kept_since number ≡ false
@@ -341,12 +346,13 @@ counts_down e reply = 0
 abbrev pub CostsMountOf : Status → Status → Type 0
 CostsMountOf old new = (n : ℕ) × (8 * n ≤ old.sectors) × CostsMount n old new
 
--- What the disk was an image of is mounted, which was this world, with the room of the image that is there now, and nothing was done since its root. From its first sync on at no moment a crash would have left another world.
+-- What the disk was an image of is mounted, which was this world, with the room of the image that is there now, and nothing was done since its root: that is the one that was found, or one that follows, where a record was replayed or a file without names dropped. From its first sync on at no moment a crash would have left another world.
 pub record HasMounted (world : World) (old new : Held) : Type 0 where
   pub fresh : IsFresh new
   pub room : HasRoomOf (reads new.disk) world new.room
   pub leaves : LeavesTheWorld old.disk new.disk world
   pub touched : KeepsTheRoot old.status.sectors old.disk new.disk
+  pub root : (im : IsImage (reads old.disk) world) → MountsRoot (reads old.disk) world im new.base old.status new.status
   pub costs : CostsMountOf old.status new.status
 
 -- It isn't mounted, and from the first sync on a crash leaves the world that the disk was an image of.

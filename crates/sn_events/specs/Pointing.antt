@@ -30,6 +30,8 @@ use Rattle.sn_cp_whole.specs.declared.fault.PointFault.TheVariants.{Memory, Age,
 use Rattle.sn_examine.specs.Failing.{CostsAtMost, HasFailed}
 use Rattle.sn_events.specs.Answers.{BuildsOf, HasBegun, HasFinished, HasGoneOn, IsBesideRoot, IsLastRoot, world_behind}
 use Rattle.sn_events.specs.Mounting.{IsFresh}
+use Rattle.sn_root.specs.declared.following.PointKind.TheVariants.{Ordinary}
+use Rattle.sn_cp_held.specs.Wholes.{IsFollowing}
 
 -- A point was made of what runs, beside the root that counted: a crash at any moment leaves the settled world from before, or this one, settled, which runs on over the next root.
 pub record IsPointedTo (world_after : World) (Builds : Layer → Type 0) (old new : Held) : Type 0 where
@@ -37,6 +39,7 @@ pub record IsPointedTo (world_after : World) (Builds : Layer → Type 0) (old ne
   pub world : new.world ≡ world_after
   pub fresh : IsFresh new
   pub log : new.at ≡ first_of old.at.blocks (old.at.epoch + 1)
+  pub follows : IsFollowing Ordinary old.base.root new.base.root
   pub age : HasAgeLeft new.base.root
   pub moments : LeavesOnly old.disk new.disk (EitherImage old.world world_after)
   pub runs : RunsReady new world_after new.base

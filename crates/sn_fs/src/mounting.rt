@@ -1,8 +1,12 @@
 //! Mount and unmount.
 ghost use Rattle.std.specs.Prelude.{◌≡◌, ◌*◌, ◌≤◌, IsTrue, IfOk, IfErr};
 ghost use Rattle.sn_block.specs.Counts.{IsLater};
+ghost use Rattle.sn_device.specs.Disk.{reads};
 ghost use Rattle.sn_examine.specs.Failing.{IsSoOf};
+ghost use Rattle.sn_held.specs.Images.{IsImage};
+ghost use Rattle.sn_model.specs.World.{World};
 ghost use Rattle.sn_mount.specs.Costs.{CostsFew, CostsMount};
+ghost use Rattle.sn_mount.specs.Rooting.{MountsRoot};
 ghost use Rattle.sn_fs.specs.Filesystem.{IsFs, has_stopped, held};
 ghost use Rattle.sn_events.specs.Mounting.{IsLeft, Mounts};
 
@@ -19,6 +23,8 @@ use std::alloc::Global;
 /// is written, and as the check of the image tells them.
 pub fn mount<D: Device>(alloc: Global, device: D) -> Result<Fs<D>, Unmounted<D>>
     ensures mounted { IsTrue D.tells_bytes → IfOk result (λ fs. Mounts (D.status device).sectors (D.disk device) (held fs) (has_stopped fs)) }
+    ensures root { IsTrue D.tells_bytes → IfOk result (λ fs. (world : World) (im : IsImage (reads (D.disk device)) world)
+        → MountsRoot (reads (D.disk device)) world im (held fs).base (D.status device) (held fs).status) }
     ensures sound { IfOk result IsFs }
     ensures unmounted { IsTrue D.tells_bytes → IfErr result (λ u. IsLeft u.fault (D.status device).sectors (D.disk device) (D.disk u.device)) }
     ensures failed { IfErr result (λ u. IsSoOf u.fault (D.status device) (D.status u.device)) }

@@ -104,7 +104,7 @@ module _ (old new : Held) (whole : AreSectors (reads old.disk)) where
             means = it.means;
             lasts = mounted_lasts (Stopped before after) world means.1 image it.leaves;
             later = mount_later old.status new.status m.costs;
-            leaves = record { fresh = m.mounts.fresh; room = it.room; leaves = it.leaves; touched = m.mounts.touched; costs = m.costs };
+            leaves = record { fresh = m.mounts.fresh; room = it.room; leaves = it.leaves; touched = m.mounts.touched; root = m.root world; costs = m.costs };
           }
 
       told : IsImage (reads old.disk) before ⊎ IsImage (reads old.disk) after → AnswersFrom (Stopped before after) event.Restart answer.Done old new has
@@ -152,7 +152,7 @@ module _ (old mid new : Held) (whole : AreSectors (reads mid.disk)) (p : IsPoint
           answered = over.answered;
         };
         later = later-join old.status mid.status new.status point_later (mount_later mid.status new.status m.costs);
-        leaves = (point_made, record { fresh = m.mounts.fresh; room = it.room; leaves = it.leaves; touched = m.mounts.touched; costs = m.costs });
+        leaves = (point_made, record { fresh = m.mounts.fresh; room = it.room; leaves = it.leaves; touched = m.mounts.touched; root = m.root (settle old.world); costs = m.costs });
       }
 
 -- ---- mounts that fail

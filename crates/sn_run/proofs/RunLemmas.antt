@@ -33,6 +33,7 @@ use Rattle.sn_run.specs.Runs.{AnswersAll, Goes, IsRunOf, IsServed, LacksRoot, Le
 use Rattle.sn_run.proofs.CutLemmas.{cut_now, found_settled, machine_run, run_leaves}
 use Rattle.sn_run.proofs.RestartLemmas.{met_with}
 use Rattle.sn_run.proofs.UnfitLemmas.{lacks_none, unfit_fault}
+use Rattle.sn_mount.specs.Rooting.{MountsRoot}
 
 -- ---- event by event
 
@@ -53,7 +54,7 @@ answers_more events replies e reply old mid new had was has all next s means =
 
 -- ---- a run that was served
 
-module _ (events : List Event) (replies : List Reply) (disk last_disk : Disk) (status last_status : Status) (h new : Held) (had has : Bool) (m : Mounts status.sectors disk h had) (n : ℕ) (within : 8 * n ≤ status.sectors) (costs : CostsMount n status h.status) (all : AnswersAll events replies h had new has) where
+module _ (events : List Event) (replies : List Reply) (disk last_disk : Disk) (status last_status : Status) (h new : Held) (had has : Bool) (m : Mounts status.sectors disk h had) (root : (world : World) (im : IsImage (reads disk) world) → MountsRoot (reads disk) world im h.base status h.status) (n : ℕ) (within : 8 * n ≤ status.sectors) (costs : CostsMount n status h.status) (all : AnswersAll events replies h had new has) where
   served : (end : End) → EndsSo end new has last_disk last_status → Served events replies end disk status last_disk last_status
   served end ends = record {
     mounted = h;
@@ -70,6 +71,7 @@ module _ (events : List Event) (replies : List Reply) (disk last_disk : Disk) (s
           means = subst (λ (b : Bool). Means h b (Running world)) m.running it.means;
           room = it.room;
           leaves = it.leaves;
+          root = root world;
           last = record { state = a.state; held = new; has_stopped = has };
           run = a.run;
           ended = ends a.state a.means;
@@ -89,7 +91,7 @@ abbrev device_alone : Disk → Status → Held
 device_alone disk status = record { world = new_world; kept = λ number. false; kept_since = λ number. false; room = fresh 0; at = first_of 256 1; base = no_base; point = None; disk = disk; status = status }
 
 module _ (events : List Event) (replies : List Reply) (disk last_disk : Disk) (status last_status : Status) (world : World) (device : IsOfDevice status.sectors (reads disk)) (image : IsImage (reads disk) world) where
-  served_leaves : (end : End) (mounted : Held) → IsServed world events replies end disk mounted last_disk last_status → LeavesItsRun world events replies disk last_disk
+  served_leaves : (end : End) (mounted : Held) → IsServed world events replies end disk status mounted last_disk last_status → LeavesItsRun world events replies disk last_disk
   served_leaves end mounted s =
       record {
         mounted = mounted.disk;

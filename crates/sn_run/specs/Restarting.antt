@@ -12,6 +12,9 @@ use Rattle.sn_examine.specs.Failing.{IsSoOf}
 use Rattle.sn_mount.specs.Costs.{CostsFew}
 use Rattle.sn_events.specs.Answers.{CostsMountOf}
 use Rattle.sn_events.specs.Mounting.{IsLeft, Mounts}
+use Rattle.sn_held.specs.Images.{IsImage}
+use Rattle.sn_model.specs.World.{World}
+use Rattle.sn_mount.specs.Rooting.{MountsRoot}
 
 -- the disk of a device, with all its sectors
 pub record IsWholeDisk (status : Status) (disk : Disk) : Type 0 where
@@ -21,6 +24,7 @@ pub record IsWholeDisk (status : Status) (disk : Disk) : Type 0 where
 -- it is mounted
 pub record IsRemounted (status : Status) (disk : Disk) (new : Held) (has_stopped : Bool) : Type 0 where
   pub mounts : Mounts status.sectors disk new has_stopped
+  pub root : (world : World) (im : IsImage (reads disk) world) → MountsRoot (reads disk) world im new.base status new.status
   pub costs : CostsMountOf status new.status
 
 -- it isn't, for this fault

@@ -27,6 +27,7 @@ use Rattle.sn_mount.specs.Recovering.{KeepsTheRoot, LeavesTheWorld, OfImage}
 use Rattle.sn_events.specs.Answers.{AnswersFrom}
 use Rattle.sn_events.specs.Mounting.{IsLeft, IsFresh}
 use Rattle.sn_run.specs.Ending.{IsEnded}
+use Rattle.sn_mount.specs.Rooting.{MountsRoot}
 
 -- where a run stands between two events: the state of the machine, and what is held
 pub record Standing : Type 0 where
@@ -54,10 +55,11 @@ abbrev pub start : World → Held → Standing
 start world h = record { state = Running world; held = h; has_stopped = false }
 
 -- The world that the disk was an image of was mounted, with the room of the image that was there then, and at no moment a crash would have left another. The events were answered, and then the last unmount.
-pub record IsServed (world : World) (events : List Event) (replies : List Reply) (end : End) (disk : Disk) (mounted : Held) (last_disk : Disk) (last_status : Status) : Type 0 where
+pub record IsServed (world : World) (events : List Event) (replies : List Reply) (end : End) (disk : Disk) (status : Status) (mounted : Held) (last_disk : Disk) (last_status : Status) : Type 0 where
   pub means : Means mounted false (Running world)
   pub room : HasRoomOf (reads mounted.disk) world mounted.room
   pub leaves : LeavesTheWorld disk mounted.disk world
+  pub root : (im : IsImage (reads disk) world) → MountsRoot (reads disk) world im mounted.base status mounted.status
   pub last : Standing
   pub run : RunBy Goes (start world mounted) events replies last
   pub ended : IsEnded last.state last.held end last_disk last_status
@@ -71,7 +73,7 @@ pub record Served (events : List Event) (replies : List Reply) (end : End) (disk
   pub blocks : ℕ
   pub within : 8 * blocks ≤ status.sectors
   pub costs : CostsMount blocks status mounted.status
-  pub served : OfImage disk (λ world. IsServed world events replies end disk mounted last_disk last_status)
+  pub served : OfImage disk (λ world. IsServed world events replies end disk status mounted last_disk last_status)
 
 -- There was no mount, for a cause, and the world that the disk is an image of, if any, is still there.
 pub record NotMounted (fault : MountFault) (replies : List Reply) (disk : Disk) (status : Status) (last_disk : Disk) (last_status : Status) : Type 0 where

@@ -10,7 +10,7 @@ returns-in-Ok-mount-clause-runs g c told =
     let h = held c.in-Ok-mount.fs in
     let end = c.finish-end.result in
     served_to c.args.events.now c.answer_all-server.new.replies.items (g.D.Device.disk c.args.device) (g.D.Device.disk end.1) status (g.D.Device.status end.1) h (standing c.answer_all-server.result) (has_stopped c.in-Ok-mount.fs) (is_stopped c.answer_all-server.result)
-    (c.in-Ok-mount.ensures.mounted told) h.at.blocks c.in-Ok-mount.ensures.within c.in-Ok-mount.ensures.costs (c.answer_all-server.ensures.answered told) end.0 c.finish-end.ensures.told (c.finish-end.ensures.ended told)
+    (c.in-Ok-mount.ensures.mounted told) (c.in-Ok-mount.ensures.root told) h.at.blocks c.in-Ok-mount.ensures.within c.in-Ok-mount.ensures.costs (c.answer_all-server.ensures.answered told) end.0 c.finish-end.ensures.told (c.finish-end.ensures.ended told)
 
 pub returns-in-Ok-mount-clause-machine : goal.returns-in-Ok-mount-clause-machine
 returns-in-Ok-mount-clause-machine g c told world image =

@@ -20,7 +20,7 @@ use Rattle.sn_overlay.specs.Layers.{Layer}
 use Rattle.sn_overlay.specs.Needs.{need}
 use Rattle.sn_overlay.specs.Overlays.{no_changes}
 use Rattle.sn_room.specs.Rooms.{RoomCounts, begun}
-use Rattle.sn_events.specs.Mounted.{tree_at, trees_there}
+use Rattle.sn_events.specs.Mounted.{trees_there}
 use Rattle.sn_events.proofs.BasedLemmas.{base_none}
 use Rattle.sn_events.proofs.BeginLemmas.{unbegun}
 use Rattle.sn_events.proofs.MeantLemmas.{trees_logged}
@@ -56,6 +56,7 @@ returns-in-Ok-clause-begins g c told r =
         size = e.going.blocks;
         few = subst (λ (l : Layer). length (work_of point.point).plan.blocks ≤ need fs.base.root.limits l) c.changes.ensures e.going.few;
         first = e.going.first;
+        follows = e.going.follows;
         world = world_begun d0 d1 s0 s1 fs.log c.begin_point.new.log fs.world c.begin_point-in-Ok.new.self fs.room c.begin_point-in-Ok-2.new.self fs.base fs.going c.requires.between point begins trees next.world next.changes room;
         kept = next.kept;
         none_since = next.since;

@@ -59,6 +59,7 @@ returns-in-Ok-clause-points g c told r =
           none_since = λ n. refl;
         };
         log = c.in-Ok.ensures.log;
+        follows = c.in-Ok.ensures.follows;
         age = c.in-Ok.ensures.age;
         moments = subst (λ (w : World). LeavesOnly old.disk disk (λ d. IsImage d w ⊎ IsImage d (settle (settle old.world)))) (settles_twice old.world) made.0;
         runs = ready_with parts (settle old.world) base (λ n. false) (λ n. false) base old.point status made.1;

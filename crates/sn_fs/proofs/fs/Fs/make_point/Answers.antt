@@ -56,6 +56,7 @@ returns-in-Ok-clause-points g c told r can =
         none_since = next.since;
       };
       log = e.log;
+      follows = e.follows;
       age = e.age;
       moments = moments_pointed d0 d1 s0 s1 fs.log c.make_point.new.log fs.world c.replace_root.new.self fs.room c.make_point.new.room fs.base c.make_point.new.base fs.going c.requires.between whole asked can point next.world next.changes r;
       touched = e.touched told;
