@@ -1,0 +1,67 @@
+ghost use Rattle.std.specs.Prelude.{◌≡◌, ◌≤◌, ◌↔◌, List, ℕ, length, IsTrue, IsSome, IfSome};
+ghost use Rattle.std.specs.List.{list_all};
+ghost use Rattle.sn_limits.specs.Names as names;
+ghost use Rattle.sn_host_names.specs.Escapes as escapes;
+ghost use Rattle.sn_host_names.specs.Escapes.{image_of};
+
+use crate::escapes::{spelled, split_first};
+use arrayvec::ArrayVec;
+use sn_limits::NAME_MAX;
+
+// Whether the bytes are `.` or `..`.
+fn is_dots(name: &[u8]) -> bool
+    ensures { result ≡ names.is_dots name.now }
+{
+    match name {
+        [a] => *a == b'.',
+        [a, b] => *a == b'.' && *b == b'.',
+        _ => false,
+    }
+}
+
+fn has_host_bytes(name: &[u8]) -> bool
+    ensures { result ≡ list_all escapes.is_host_byte name.now }
+{
+    name.iter().all(|byte| *byte != 0 && *byte != b'/')
+}
+
+/// Whether a directory of a mount can have this name: one or more bytes, none of them 0 or a slash, and neither `.` nor
+/// `..`. How long a name of a mount can be is for the system that mounts: `to_image` says which fit.
+pub fn is_host_name(name: &[u8]) -> bool
+    ensures { result ≡ escapes.is_host_name name.now }
+{
+    !name.is_empty() && !is_dots(name) && has_host_bytes(name)
+}
+
+/// The name of an image that stands for a name of a mount. `None` where it would have more than 255 bytes.
+pub fn to_image(name: &[u8]) -> Option<ArrayVec<u8, NAME_MAX>>
+    requires { IsTrue (escapes.is_host_name name.now) }
+    ensures value { IfSome result (λ image. image.items ≡ image_of name.now) }
+    ensures fits { IsSome result ↔ (length (image_of name.now) ≤ NAME_MAX) }
+    ensures valid { IfSome result (λ image. IsTrue (names.is_name image.items)) }
+{
+    let mut image = ArrayVec::new();
+    let mut rest = name;
+    while let [byte, more @ ..] = rest {
+        image.try_extend_from_slice(spelled(byte, more)).ok()?;
+        rest = more;
+    }
+    Some(image)
+}
+
+/// The name of a mount that a name of an image stands for, which has no more bytes.
+pub fn to_host(name: &[u8]) -> ArrayVec<u8, NAME_MAX>
+    requires { IsTrue (names.is_name name.now) }
+    ensures value { image_of result.items ≡ name.now }
+    ensures only { (host : List ℕ) → image_of host ≡ name.now → host ≡ result.items }
+    ensures valid { IsTrue (escapes.is_host_name result.items) }
+    ensures short { length result.items ≤ length name.now }
+{
+    let mut host = ArrayVec::new();
+    let mut rest = name;
+    while let Some((byte, more)) = split_first(rest) {
+        host.push(byte);
+        rest = more;
+    }
+    host
+}
