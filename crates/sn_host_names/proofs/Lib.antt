@@ -1,1 +1,1 @@
-pub mod Images
+pub mod ImageNames

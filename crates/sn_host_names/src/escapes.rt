@@ -4,12 +4,12 @@ ghost use Rattle.std.specs.Char.{digit_value};
 ghost use Rattle.std.specs.List.{list_all};
 ghost use Rattle.sn_limits.specs.Names.{is_name_byte};
 ghost use Rattle.sn_host_names.specs.Escapes as escapes;
-ghost use Rattle.sn_host_names.specs.Escapes.{is_host_byte, image_of, spelled};
+ghost use Rattle.sn_host_names.specs.Escapes.{is_host_byte, image_name, spelled};
 
 use percent_encoding::percent_encode_byte;
 use std::slice;
 
-// Whether a name of a mount can have the byte, and a name of an image can't.
+// Whether a host name can have the byte, and an image name can't.
 fn is_escaped(byte: u8) -> bool
     ensures { result ≡ escapes.is_escaped byte }
 {
@@ -60,7 +60,7 @@ fn makes_escape(bytes: &[u8]) -> bool
     }
 }
 
-/// How an image spells a byte of a name of a mount, where these follow it.
+/// How the image name spells a byte of a host name, where these follow it.
 pub fn spelled<'a>(byte: &'a u8, rest: &[u8]) -> &'a [u8]
     ensures { result.now ≡ spelled byte.now rest.now }
 {
@@ -71,11 +71,11 @@ pub fn spelled<'a>(byte: &'a u8, rest: &[u8]) -> &'a [u8]
     }
 }
 
-/// The byte that a name of an image begins with, as a name of a mount has it, and what follows its spelling.
+/// The byte of the host name that an image name begins with, and what follows its spelling. `None` where nothing is left.
 pub fn split_first(name: &[u8]) -> Option<(u8, &[u8])>
     requires { list_all is_name_byte name.now ≡ true }
     ensures none { IsNone result → name.now ≡ [] }
-    ensures first { IfSome result (λ r. (host : List ℕ) → image_of host ≡ r.1.now → image_of (r.0 ∷ host) ≡ name.now) }
+    ensures first { IfSome result (λ r. (host : List ℕ) → image_name host ≡ r.1.now → image_name (r.0 ∷ host) ≡ name.now) }
     ensures byte { IfSome result (λ r. is_host_byte r.0 ≡ true) }
     ensures shorter { IfSome result (λ r. length r.1.now < length name.now) }
     ensures rest { IfSome result (λ r. list_all is_name_byte r.1.now ≡ true) }

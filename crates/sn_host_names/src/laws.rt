@@ -2,19 +2,19 @@
 //! the laws.
 ghost use Rattle.std.specs.Prelude.{ℕ, ◌≡◌, List, IsTrue};
 ghost use Rattle.sn_limits.specs.Names.{is_name, is_name_spelled};
-ghost use Rattle.sn_host_names.specs.Escapes.{image_of, is_host_name};
+ghost use Rattle.sn_host_names.specs.Escapes.{image_name, is_host_name};
 
-/// No two names of a mount have the same image.
-pub fn images_are_distinct()
-    ensures { (a b : List ℕ) → image_of a ≡ image_of b → a ≡ b }
+/// No two host names have the same image name.
+pub fn image_names_are_distinct()
+    ensures { (a b : List ℕ) → image_name a ≡ image_name b → a ≡ b }
 {}
 
-/// The image of a name of a mount is spelled as a name, and may only be too long for one.
-pub fn images_are_names()
-    ensures { (host : List ℕ) → IsTrue (is_host_name host) → IsTrue (is_name_spelled (image_of host)) }
+/// An image name is spelled as a name, and may only be too long for one.
+pub fn image_names_are_spelled()
+    ensures { (host : List ℕ) → IsTrue (is_host_name host) → IsTrue (is_name_spelled (image_name host)) }
 {}
 
-/// Each name of an image is the image of a name of a mount.
-pub fn names_are_images()
-    ensures { (name : List ℕ) → IsTrue (is_name name) → (host : List ℕ) × IsTrue (is_host_name host) × (image_of host ≡ name) }
+/// Each name of an image is the image name of a host name.
+pub fn names_have_host_names()
+    ensures { (name : List ℕ) → IsTrue (is_name name) → (host : List ℕ) × IsTrue (is_host_name host) × (image_name host ≡ name) }
 {}

@@ -2,7 +2,7 @@ ghost use Rattle.std.specs.Prelude.{◌≡◌, ◌≤◌, ◌↔◌, List, ℕ, 
 ghost use Rattle.std.specs.List.{list_all};
 ghost use Rattle.sn_limits.specs.Names as names;
 ghost use Rattle.sn_host_names.specs.Escapes as escapes;
-ghost use Rattle.sn_host_names.specs.Escapes.{image_of};
+ghost use Rattle.sn_host_names.specs.Escapes.{image_name};
 
 use crate::escapes::{spelled, split_first};
 use arrayvec::ArrayVec;
@@ -26,18 +26,18 @@ fn has_host_bytes(name: &[u8]) -> bool
 }
 
 /// Whether a directory of a mount can have this name: one or more bytes, none of them 0 or a slash, and neither `.` nor
-/// `..`. How long a name of a mount can be is for the system that mounts: `to_image` says which fit.
+/// `..`. How long a host name can be is for the system that mounts: `to_image` says which fit.
 pub fn is_host_name(name: &[u8]) -> bool
     ensures { result ≡ escapes.is_host_name name.now }
 {
     !name.is_empty() && !is_dots(name) && has_host_bytes(name)
 }
 
-/// The name of an image that stands for a name of a mount. `None` where it would have more than 255 bytes.
+/// The image name of a host name. `None` where it has more than 255 bytes.
 pub fn to_image(name: &[u8]) -> Option<ArrayVec<u8, NAME_MAX>>
     requires { IsTrue (escapes.is_host_name name.now) }
-    ensures value { IfSome result (λ image. image.items ≡ image_of name.now) }
-    ensures fits { IsSome result ↔ (length (image_of name.now) ≤ NAME_MAX) }
+    ensures value { IfSome result (λ image. image.items ≡ image_name name.now) }
+    ensures fits { IsSome result ↔ (length (image_name name.now) ≤ NAME_MAX) }
     ensures valid { IfSome result (λ image. IsTrue (names.is_name image.items)) }
 {
     let mut image = ArrayVec::new();
@@ -49,11 +49,11 @@ pub fn to_image(name: &[u8]) -> Option<ArrayVec<u8, NAME_MAX>>
     Some(image)
 }
 
-/// The name of a mount that a name of an image stands for, which has no more bytes.
+/// The host name whose image name this is, which has no more bytes.
 pub fn to_host(name: &[u8]) -> ArrayVec<u8, NAME_MAX>
     requires { IsTrue (names.is_name name.now) }
-    ensures value { image_of result.items ≡ name.now }
-    ensures only { (host : List ℕ) → image_of host ≡ name.now → host ≡ result.items }
+    ensures value { image_name result.items ≡ name.now }
+    ensures only { (host : List ℕ) → image_name host ≡ name.now → host ≡ result.items }
     ensures valid { IsTrue (escapes.is_host_name result.items) }
     ensures short { length result.items ≤ length name.now }
 {

@@ -1,5 +1,5 @@
 use Rattle.std.proofs.Common.{sym, ◌∙◌, arith}
-use Rattle.sn_host_names.proofs.Images.{makes_escape_ends}
+use Rattle.sn_host_names.proofs.ImageNames.{makes_escape_ends}
 use Rattle.sn_host_names.proofs.escapes.makes_escape.Goals as goal
 use Rattle.sn_host_names.proofs.escapes.makes_escape.Goals.{in_default, in_default-2, in_default-3}
 

@@ -3,7 +3,7 @@ use Rattle.std.specs.List.{list_all}
 use Rattle.std.proofs.lemmas.Bool.{and_parts}
 use Rattle.std.proofs.lemmas.List.{take_rest}
 use Rattle.sn_limits.specs.Names.{is_name_byte}
-use Rattle.sn_host_names.proofs.Images.{escape_digits, escape_first, kept_first, all_drop}
+use Rattle.sn_host_names.proofs.ImageNames.{escape_digits, escape_first, kept_first, all_drop}
 use Rattle.sn_host_names.proofs.escapes.split_first.Goals as goal
 use Rattle.sn_host_names.proofs.escapes.split_first.Goals.{else-first-eq37-via-then-first-eq37+else-makes_escape, else-first-eq37-via-else-first-eq37}
 

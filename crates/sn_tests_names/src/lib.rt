@@ -1,0 +1,20 @@
+//! Cases of what a mount and an image name and keep differently: names, and ACLs as extended attributes.
+//!
+//! The tables of the cases are in the data of `sn_tests_messages`: their head lines say where the answers come from. `tables` has
+//! their words, and `drawn` names that a seed draws, there and back both ways.
+//!
+//! No clause promises what comes out, since it is compared: `sn_tests_messages` runs it.
+#![tactic(auto)]
+
+mod drawn;
+mod tables;
+
+use anyhow::Result;
+use sn_testing_tables::Report;
+
+/// Compares the answers of all cases with their tables, and draws names. An error is a case, or a table, that can't be read, or a
+/// want of memory.
+pub fn run(report: &mut Report<'_>) -> Result<()> {
+    tables::run(report)?;
+    drawn::run(report)
+}
