@@ -64,7 +64,7 @@ fn comes_back_to_the_mount(name: &[u8]) -> bool {
     }
     match to_image(name) {
         Some(image) => to_host(image.as_slice()).as_slice() == name,
-        None => 3 * name.len() > NAME_MAX,
+        None => name.len() > NAME_MAX / 3,
     }
 }
 
