@@ -88,7 +88,8 @@ def drawn(count):
     draw = random.Random(78)
     for _ in range(count):
         yield image_case(drawn_name(draw, 0 if draw.random() < 0.02 else 1, 255))
-        yield host_case(drawn_name(draw, 0x21, 0x7E).decode())
+        # A table has `=>` before the answer.
+        yield host_case(drawn_name(draw, 0x21, 0x7E).decode().replace("=>", "%>"))
 
 
 def main():
