@@ -11,12 +11,14 @@
 //! | 2 | permissions u16: read 4, write 2, execute 1 |
 //! | 4 | user or group number u32; where the tag has none, 0xffffffff is written, and it isn't read |
 //!
-//! (Linux, `include/uapi/linux/posix_acl_xattr.h`.) Linux hands over what a program wrote, so a value that is read may have
-//! its entries in any order. It is an ACL where it has the entries of a valid one, each once. A value that is written has
-//! them in canonical order. No call takes memory.
+//! (Linux, `include/uapi/linux/posix_acl_xattr.h`.) Linux hands a server of a mount what a program wrote, so a value that is
+//! read may have its entries in any order. It is an ACL where it has the entries of a valid one, each once. A value that is
+//! written has them in canonical order. No call takes memory.
 //!
 //! The way through: `specs/Values.antt` has the values of an ACL, `entries` and `order` read and sort entries, `value` has the
 //! two functions, and `laws` what follows.
+//!
+//! What the sources leave open is decided in `docs/DECISIONS.md`, under "Names and attributes of a mount".
 //!
 //! ```text
 //! let acl = decode(value).ok_or(Errno::Invalid)?;
