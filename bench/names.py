@@ -85,7 +85,7 @@ def drawn_name(draw, first, last):
 
 
 def drawn(count):
-    draw = random.Random(78)
+    draw = random.Random(1)
     for _ in range(count):
         yield image_case(drawn_name(draw, 0 if draw.random() < 0.02 else 1, 255))
         # A table has `=>` before the answer.
