@@ -1,0 +1,4 @@
+pub mod Bodies
+pub mod Forgetting
+pub mod Messages
+pub mod Opcodes
