@@ -30,7 +30,7 @@ impl<'a> Name<'a> {
     }
 }
 
-/// Bytes that a message brings to be written. Seen as these bytes.
+/// Bytes that a message brings, or that its answer does. Seen as these bytes.
 #[derive(Drop)]
 pub struct Data<'a> {
     bytes: &'a [u8],
@@ -43,7 +43,8 @@ impl<'a> Model for Data<'a> {
 }
 
 impl<'a> Data<'a> {
-    pub(crate) fn new(bytes: &'a [u8]) -> Self
+    /// Lends these bytes to an answer.
+    pub fn new(bytes: &'a [u8]) -> Self
         ensures { result ≡ bytes.now }
     {
         Data { bytes }

@@ -1,0 +1,7 @@
+use Rattle.sn_bytes.proofs.Fields.{puts_then}
+use Rattle.sn_fuse_replies.proofs.numbers.put_attributes.Goals as goal
+
+pub returns-clause-bytes : goal.returns-clause-bytes
+returns-clause-bytes c =
+    let to_2 = puts_then _ _ _ _ _ _ _ _ c.put_sizes-at.ensures.bytes c.put_times-at.ensures.bytes in
+    puts_then _ _ _ _ _ _ _ _ to_2 c.put_owner.ensures.bytes

@@ -1,0 +1,4 @@
+pub mod Answer
+pub mod Errno
+pub mod Filled
+pub mod Listing

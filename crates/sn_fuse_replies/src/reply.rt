@@ -1,0 +1,73 @@
+//! An answer as the system reads it.
+ghost use Rattle.std.specs.Prelude.{◌≡◌, ◌+◌, ◌^◌, ◌<◌, ◌≤◌, ◌++◌, length, OnOk, OnErr};
+ghost use Rattle.sn_bytes.specs.Bytes.{Puts};
+ghost use Rattle.sn_fuse_replies.specs.Answer.{error_number, head_bytes, reply_bytes, reply_size, tail_of};
+
+use crate::answer::Answer;
+use crate::numbers::put_fixed;
+use sn_bytes::{put_u32, put_u64};
+use std::alloc::AllocError;
+
+// How many bytes the head of an answer has.
+const HEAD_SIZE: usize = 16;
+
+// The most bytes that stand before data or a listing: those of an answer to CREATE.
+const FRONT_MAX: usize = 160;
+
+fn put_head(block: &mut [u8], size: u32, error: u32, unique: u64) -> usize
+    requires { 16 ≤ length block.old }
+    ensures bytes { Puts block.old block.new 0 result (head_bytes size error unique) }
+    ensures next { result ≡ 16 }
+{
+    let at = put_u32(block, 0, size);
+    let at = put_u32(block, at, error);
+    put_u64(block, at, unique)
+}
+
+// The error negated, in two's complement.
+fn error_of(answer: &Answer<'_>) -> u32
+    ensures { result ≡ error_number answer.now }
+{
+    match answer {
+        Answer::Error { errno } => u32::MAX - errno.number() + 1,
+        _ => 0,
+    }
+}
+
+fn tail_of<'a>(answer: &Answer<'a>) -> &'a [u8]
+    ensures { result.now ≡ tail_of answer.now }
+{
+    match answer {
+        Answer::Data { bytes } => bytes.as_bytes(),
+        Answer::Listing { listed } => listed.as_bytes(),
+        _ => &[],
+    }
+}
+
+// Appends both, or nothing.
+fn push(out: &mut Vec<u8>, front: &[u8], tail: &[u8]) -> Result<(), AllocError>
+    ensures ok { OnOk result (out.new.items ≡ out.old.items ++ front.now ++ tail.now) }
+    ensures err { OnErr result (out.new.items ≡ out.old.items) }
+{
+    let length = out.len();
+    out.extend_from_slice(front)?;
+    let pushed = out.extend_from_slice(tail);
+    if pushed.is_err() {
+        out.truncate(length);
+    }
+    pushed
+}
+
+/// Appends the one spelling of an answer to the message with this `unique`. Without memory for it the buffer stays as it was.
+pub fn encode(out: &mut Vec<u8>, unique: u64, answer: &Answer<'_>) -> Result<(), AllocError>
+    requires { reply_size answer.now < 2 ^ 32 }
+    ensures ok { OnOk result (out.new.items ≡ out.old.items ++ reply_bytes unique answer.now) }
+    ensures err { OnErr result (out.new.items ≡ out.old.items) }
+{
+    let mut block = [0; FRONT_MAX];
+    let end = put_fixed(&mut block, HEAD_SIZE, answer);
+    let tail = tail_of(answer);
+    let size = (end + tail.len()) as u32;
+    put_head(&mut block, size, error_of(answer), unique);
+    push(out, &block[..end], tail)
+}
