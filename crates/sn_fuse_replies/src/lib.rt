@@ -8,7 +8,7 @@
 //!
 //! The model. `reply_bytes` (`specs/Answer.antt`) is the spelling: the head, `fixed_bytes`, and what is read or listed.
 //! `listed_bytes` (`specs/Listing.antt`) is that of an entry of a listing, which is seen as its bytes and the room for them.
-
+//! [`replies_differ`] is the law that answers of one kind that are spelled alike are one, to one message.
 //!
 //! The way through: `answer` and `errno` (what can be answered), `reply` (`encode`) over `numbers` (the numbers of each answer),
 //! and `listing`.
@@ -31,4 +31,4 @@ mod reply;
 pub use answer::{Answer, Attributes, Entry, Initialized, Opened, Statistics};
 pub use errno::Errno;
 pub use listing::{DirectoryEntry, EntryKind, Listed, Listing, NAME_MAX};
-pub use reply::encode;
+pub use reply::{encode, replies_differ};

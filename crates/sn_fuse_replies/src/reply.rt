@@ -2,6 +2,7 @@
 ghost use Rattle.std.specs.Prelude.{◌≡◌, ◌+◌, ◌^◌, ◌<◌, ◌≤◌, ◌++◌, length, OnOk, OnErr};
 ghost use Rattle.sn_bytes.specs.Bytes.{Puts};
 ghost use Rattle.sn_fuse_replies.specs.Answer.{error_number, head_bytes, reply_bytes, reply_size, tail_of};
+ghost use Rattle.sn_fuse_replies.specs.Law.{RepliesDiffer};
 
 use crate::answer::Answer;
 use crate::numbers::put_fixed;
@@ -71,3 +72,8 @@ pub fn encode(out: &mut Vec<u8>, unique: u64, answer: &Answer<'_>) -> Result<(),
     put_head(&mut block, size, error_of(answer), unique);
     push(out, &block[..end], tail)
 }
+
+/// Answers that are spelled alike are to one message, and are one, if they are of one kind.
+pub fn replies_differ()
+    ensures { RepliesDiffer }
+{}

@@ -1,8 +1,8 @@
-use Rattle.std.proofs.Common.{◌≡◌, ◌+◌, ◌^◌, ℕ, List, ◌++◌, length, take, refl, sym, ap, subst, ◌∙◌, append_assoc, length-append, arith}
+use Rattle.std.proofs.Common.{◌≡◌, ◌+◌, ℕ, List, ◌++◌, length, take, refl, ap, subst, ◌∙◌, append_assoc, length-append, arith}
 use Rattle.std.specs.Prelude.{OnOk}
 use Rattle.sn_bytes.specs.Bytes.{number_bytes, Puts}
 use Rattle.sn_bytes.proofs.Fields.{length-number_bytes}
-use Rattle.sn_fuse_replies.specs.Answer.{error_number, head_bytes, fixed_bytes, reply_bytes, reply_size, tail_of}
+use Rattle.sn_fuse_replies.specs.Answer.{error_number, head_bytes, fixed_bytes, reply_bytes, reply_size}
 use Rattle.sn_fuse_replies.proofs.Front.{front_of}
 use Rattle.sn_fuse_replies.proofs.reply.encode.Goals as goal
 
