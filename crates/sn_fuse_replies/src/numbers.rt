@@ -113,7 +113,8 @@ fn put_initialized(block: &mut [u8], at: usize, initialized: &Initialized) -> us
 
 fn put_lasting(block: &mut [u8], at: usize, last: &Time, attributes: &Attributes) -> usize
     requires { at + 104 ≤ length block.old }
-    ensures { Puts block.old block.new at result (lasting_bytes last.now attributes.now) }
+    ensures bytes { Puts block.old block.new at result (lasting_bytes last.now attributes.now) }
+    ensures next { result ≡ at + 104 }
 {
     let at = put_u64(block, at, last.seconds);
     let at = put_u32(block, at, last.nanoseconds);
@@ -123,7 +124,8 @@ fn put_lasting(block: &mut [u8], at: usize, last: &Time, attributes: &Attributes
 
 fn put_created(block: &mut [u8], at: usize, entry: &Entry, opened: &Opened) -> usize
     requires { at + 144 ≤ length block.old }
-    ensures { Puts block.old block.new at result (created_bytes entry.now opened.now) }
+    ensures bytes { Puts block.old block.new at result (created_bytes entry.now opened.now) }
+    ensures next { result ≡ at + 144 }
 {
     let at = put_entry(block, at, entry);
     put_opened(block, at, opened)
@@ -131,7 +133,8 @@ fn put_created(block: &mut [u8], at: usize, entry: &Entry, opened: &Opened) -> u
 
 fn put_count(block: &mut [u8], at: usize, count: u32) -> usize
     requires { at + 8 ≤ length block.old }
-    ensures { Puts block.old block.new at result (count_bytes count) }
+    ensures bytes { Puts block.old block.new at result (count_bytes count) }
+    ensures next { result ≡ at + 8 }
 {
     let at = put_u32(block, at, count);
     put_zeros(block, at, 4)
@@ -140,7 +143,8 @@ fn put_count(block: &mut [u8], at: usize, count: u32) -> usize
 // What an answer's body has before its data or its listing.
 pub(crate) fn put_fixed(block: &mut [u8], at: usize, answer: &Answer<'_>) -> usize
     requires { at + 144 ≤ length block.old }
-    ensures { Puts block.old block.new at result (fixed_bytes answer.now) }
+    ensures bytes { Puts block.old block.new at result (fixed_bytes answer.now) }
+    ensures within { result ≤ at + 144 }
 {
     match answer {
         Answer::Error { .. } | Answer::Nothing | Answer::Data { .. } | Answer::Listing { .. } => at,

@@ -1,7 +1,7 @@
 //! An answer as the system reads it.
-ghost use Rattle.std.specs.Prelude.{◌≡◌, ◌+◌, ◌^◌, ◌<◌, ◌≤◌, ◌++◌, length, OnOk, OnErr};
+ghost use Rattle.std.specs.Prelude.{◌≡◌, ◌+◌, ◌^◌, ◌≤◌, ◌++◌, length, OnOk, OnErr};
 ghost use Rattle.sn_bytes.specs.Bytes.{Puts};
-ghost use Rattle.sn_fuse_replies.specs.Answer.{error_number, head_bytes, reply_bytes, reply_size, tail_of};
+ghost use Rattle.sn_fuse_replies.specs.Answer.{error_number, head_bytes, reply_bytes, tail_of};
 ghost use Rattle.sn_fuse_replies.specs.Law.{RepliesDiffer};
 
 use crate::answer::Answer;
@@ -60,8 +60,9 @@ fn push(out: &mut Vec<u8>, front: &[u8], tail: &[u8]) -> Result<(), AllocError>
 }
 
 /// Appends the one spelling of an answer to the message with this `unique`. Without memory for it the buffer stays as it was.
+/// Of data and listings there are at most 2^31 bytes, which is far more than a message may ask for.
 pub fn encode(out: &mut Vec<u8>, unique: u64, answer: &Answer<'_>) -> Result<(), AllocError>
-    requires { reply_size answer.now < 2 ^ 32 }
+    requires { length (tail_of answer.now) ≤ 2 ^ 31 }
     ensures ok { OnOk result (out.new.items ≡ out.old.items ++ reply_bytes unique answer.now) }
     ensures err { OnErr result (out.new.items ≡ out.old.items) }
 {

@@ -1,6 +1,6 @@
 use Rattle.sn_bytes.proofs.Fields.{puts_then}
 use Rattle.sn_fuse_replies.proofs.numbers.put_created.Goals as goal
 
-pub returns : goal.returns
-returns c =
+pub returns-clause-bytes : goal.returns-clause-bytes
+returns-clause-bytes c =
     puts_then _ _ _ _ _ _ _ _ c.put_entry-at.ensures.bytes c.put_opened.ensures.bytes

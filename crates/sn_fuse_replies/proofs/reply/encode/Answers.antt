@@ -18,8 +18,8 @@ returns-clause-ok c =
     let tail = c.tail_of-tail.result.now in
     let head = head_bytes (end + length tail) c.error_of.result c.args.unique in
     let put = subst (λ (n : ℕ). Puts c.put_fixed-end.new.block c.put_head.new.block 0 n head) c.put_head.ensures.next c.put_head.ensures.bytes in
-    let numbers : front ≡ head ++ fixed_bytes answer = front_of _ _ _ head (fixed_bytes answer) end (omega arith) (length-head (end + length tail) c.error_of.result c.args.unique) c.put_fixed-end.ensures put in
-    let size : end + length tail ≡ reply_size answer = omega (arith, c.put_fixed-end.ensures.moved, ap length c.tail_of-tail.ensures) in
+    let numbers : front ≡ head ++ fixed_bytes answer = front_of _ _ _ head (fixed_bytes answer) end (omega arith) (length-head (end + length tail) c.error_of.result c.args.unique) c.put_fixed-end.ensures.bytes put in
+    let size : end + length tail ≡ reply_size answer = omega (arith, c.put_fixed-end.ensures.bytes.moved, ap length c.tail_of-tail.ensures) in
     let same : head ≡ head_bytes (reply_size answer) (error_number answer) c.args.unique = rw (size, c.error_of.ensures) refl in
     let whole : (out ++ front) ++ tail ≡ out ++ reply_bytes c.args.unique answer =
     append_assoc out front tail
