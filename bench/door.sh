@@ -71,6 +71,10 @@ if [ -f "$release/snapfs" ]; then
     case_of "a build without rt" 1 "$NEEDS_RT" bare ./snapfs --build
     case_of "the release isn't run where the built program is asked for" 1 "$NOT_BUILT" bare env SNAPFS_BUILT=1 ./snapfs --help
     case_of "a limit on files gives a fault" 1 "snapfs: file" bare bash -c "ulimit -f 1000; ./snapfs mkfs $work/limited 4096"
+    bare ./snapfs mkfs "$image" 256 >/dev/null
+    printf '0 login 0 0 -\n0 mkdir /x 0755\n' >"$work/x.snap"
+    case_of "a limit on files stops a run, after its replies" 1 "$(printf 'ok\nok\nsnapfs: stopped')" \
+        bare bash -c "ulimit -f 200; ./snapfs run $image $work/x.snap"
     if command -v script >/dev/null; then
         case_of "a person is shown the commands" 2 "$(printf '%s\n' "$USAGE" && cat "$top/crates/sn_tests_program/data/help")" \
             on_terminal ./snapfs --help
