@@ -2,7 +2,6 @@
 use Rattle.std.specs.Prelude.{◌≡◌, ℕ, ◌+◌, Bool, false, List, ◌++◌}
 use Rattle.sn_device.specs.Sectors.{Contents}
 use Rattle.sn_layout.specs.declared.root.RootBody.{RootBody}
-use Rattle.sn_limits.specs.Versions.{version_1}
 use Rattle.sn_model.specs.declared.change.Change.{Change}
 use Rattle.sn_model.specs.declared.fault.Damage.{Damage}
 use Rattle.sn_model.specs.declared.fault.Damage.TheVariants.{Log}
@@ -27,7 +26,7 @@ pub record HasLogged (n : ℕ) (c : Contents) (root : RootBody) (charges dropped
   pub has_newer : AreReplayed c root.limits middle n (root.epoch + 1) newer tree
   pub charged : charges ≡ charges_from root.limits (older ++ newer) (image (store_of c) root.inode_file)
   pub nameless : dropped ≡ nameless_in (image (store_of c) root.inode_file)
-  pub recovery : TellsRecovery recovers (older ++ newer) tree
+  pub recovery : TellsRecovery recovers root (older ++ newer) tree
 
 -- the damage is one of the log, which has a fault at the block
 abbrev pub IsOfLog : ℕ → Contents → RootBody → ℕ → Damage → ℕ → Type 0
@@ -35,7 +34,7 @@ IsOfLog n c root free damage block = (damage ≡ Log) × IsLogFault n c root fre
 
 -- more is charged than is free, which is a damage of the log, told of the half of the root's epoch
 abbrev pub IsOver : MountFault → ℕ → RootBody → ℕ → ℕ → ℕ → Type 0
-IsOver (fault.Damaged damage block) n root free charges dropped = (damage ≡ Log) × (is_covered version_1 (mounted free charges dropped) ≡ false) × (block ≡ half_block n root.epoch)
+IsOver (fault.Damaged damage block) n root free charges dropped = (damage ≡ Log) × (is_covered root.limits (mounted free charges dropped) ≡ false) × (block ≡ half_block n root.epoch)
 IsOver fault.NotFormatted n root free charges dropped = ⊥
 IsOver fault.Version n root free charges dropped = ⊥
 IsOver fault.NoRoot n root free charges dropped = ⊥

@@ -3,7 +3,6 @@ ghost use Rattle.std.specs.Prelude.{◌≡◌, ◌*◌, ◌≤◌, ℕ, true, Is
 ghost use Rattle.sn_device.specs.Disk.{reads};
 ghost use Rattle.sn_block.specs.Lending.{device_of};
 ghost use Rattle.sn_layout.specs.RootBody.{IsRootBody};
-ghost use Rattle.sn_limits.specs.Versions.{version_1};
 ghost use Rattle.sn_image.specs.Sound.{IsSound};
 ghost use Rattle.sn_ondisk.specs.Trees.{store_of};
 ghost use Rattle.sn_room.specs.Rooms.{is_covered, mounted};
@@ -17,7 +16,6 @@ use sn_check_log::{CheckedRoot, count_nameless, try_both};
 use sn_device::Device;
 use sn_examine::{is_to_recover, none_later, test_age};
 use sn_layout::{Area, Geometry, LogHalf, RootBody};
-use sn_limits::Limits;
 use sn_model::{Damage, MountFault};
 use sn_room::Room;
 use std::alloc::Global;
@@ -29,7 +27,7 @@ pub(crate) struct Logged {
     pub(crate) charges: u128,
     /// How many files of the root's tree have no name.
     pub(crate) dropped: u32,
-    /// Whether something is to recover: a record is logged, or a file has no name.
+    /// Whether a mount ends in a point of recovery.
     pub(crate) recovers: bool,
 }
 
@@ -66,7 +64,7 @@ fn replay_log<D: Device>(
         Ok(tried) => tried,
         Err(fault) => return Err(fault),
     };
-    let recovers = is_to_recover(tried.at.count(), dropped);
+    let recovers = is_to_recover(root, tried.at.count(), dropped);
     Ok(Logged {
         charges: tried.charges,
         dropped,
@@ -81,10 +79,10 @@ fn test_charges(
     free: u32,
     logged: &Logged,
 ) -> Result<(), MountFault>
-    ensures covered { OnOk result (is_covered version_1 (mounted free logged.now.charges logged.now.dropped) ≡ true) }
+    ensures covered { OnOk result (is_covered root.now.limits (mounted free logged.now.charges logged.now.dropped) ≡ true) }
     ensures over { IfErr result (λ f. IsOver f geometry root.now free logged.now.charges logged.now.dropped) }
 {
-    match Room::mounted(&Limits::VERSION_1, free, logged.charges, logged.dropped) {
+    match Room::mounted(&root.limits, free, logged.charges, logged.dropped) {
         Some(_) => Ok(()),
         None => Err(MountFault::Damaged {
             damage: Damage::Log,

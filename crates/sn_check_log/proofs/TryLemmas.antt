@@ -1,20 +1,17 @@
 -- What look-ups that failed make of a check.
-use Rattle.std.proofs.Common.{◌≡◌, inl, inr, ℕ, Bool, IsTrue, false, not, ◌&&◌, Option, Some, None, refl, ap, subst, ◌∙◌}
+use Rattle.std.proofs.Common.{◌≡◌, ℕ, Bool, false, not, ◌&&◌, Option, Some, None, ap, ◌∙◌}
 use Rattle.sn_block.specs.declared.fault.ReadFault.TheVariants.{Device, Memory}
 use Rattle.sn_device.specs.Status.{has_ended}
 use Rattle.sn_device.specs.declared.status.Status.{Status}
 use Rattle.sn_device.specs.Sectors.{Contents}
 use Rattle.sn_examine.specs.Both.{BothBreak, in_older}
-use Rattle.sn_examine.specs.Failing.{IsSoOf, WritesNothing}
-use Rattle.sn_examine.specs.Loading.{fault_of_tree}
+use Rattle.sn_examine.specs.Failing.{WritesNothing}
 use Rattle.sn_examine.specs.Replaying.{Breaks}
-use Rattle.sn_examine.specs.Rooms.{IsNoDamage}
-use Rattle.sn_examine.proofs.ReplayLemmas.{failed_read, fails_reading, idle}
-use Rattle.sn_limits.specs.Versions.{version_1}
+use Rattle.sn_examine.proofs.ReplayLemmas.{fails_reading, idle}
+use Rattle.sn_limits.specs.Versions.{limits_written}
+use Rattle.sn_limits.specs.declared.limits.Limits.{Limits}
 use Rattle.sn_live.specs.Live.{kept_back_of, kept_since_of}
 use Rattle.sn_live.specs.declared.live.LiveTree.{LiveTree}
-use Rattle.sn_model.specs.Changes.{apply}
-use Rattle.sn_model.specs.Charges.{charge_for}
 use Rattle.sn_model.specs.NameTree.{IsTree}
 use Rattle.sn_model.specs.Tree.{Tree}
 use Rattle.sn_model.specs.declared.change.Change.{Change}
@@ -22,12 +19,10 @@ use Rattle.sn_model.specs.declared.change.Change.TheVariants.{Make, AddLink, Rem
 use Rattle.sn_model.specs.declared.fault.MountFault.{MountFault}
 use Rattle.sn_model.specs.declared.fault.MountFault.TheVariants as fault
 use Rattle.sn_numbers.specs.Numbers.{kept_after, since_after}
-use Rattle.sn_overlay.specs.Merges.{merge}
-use Rattle.sn_overlay_change.specs.ChangeLayers.{layer_of_change}
 use Rattle.sn_rooted_tree.specs.Looks.{Stands}
 use Rattle.sn_tree_read.specs.declared.fault.TreeFault.{TreeFault}
 use Rattle.sn_tree_read.specs.declared.fault.TreeFault.TheVariants.{Read, Damaged}
-use Rattle.sn_check_log.specs.Trying.{IsTried, KeepsNone, TriesChange, changes_if, tree_of}
+use Rattle.sn_check_log.specs.Trying.{IsTried, KeepsNone, tree_of}
 
 -- nothing was written, whether a look-up failed or not
 pub looked_only : (told : Bool) (old new : Status) (fault : Option TreeFault) → Stands told old new None fault → WritesNothing old new
@@ -38,7 +33,7 @@ looked_only told old new (Some (Damaged block)) fails = idle old new fails.0
 
 -- ---- one change
 
-pub whole_of : (live : Option LiveTree) (below : Tree) → IsTree version_1 below → IsTried live below → IsTree version_1 (tree_of live below)
+pub whole_of : (live : Option LiveTree) (below : Tree) → IsTree limits_written below → IsTried live below → IsTree limits_written (tree_of live below)
 whole_of None below whole is = whole
 whole_of (Some live) below whole is = is.0.shown.whole
 
@@ -70,10 +65,10 @@ keeps_after change old new kept since none = record {
 -- ---- both epochs
 
 -- one that breaks the root's epoch breaks both
-pub older_fails : (f : MountFault) (c : Contents) (from : Tree) (n epoch : ℕ) → Breaks f c from n epoch → BothBreak f c from n epoch
-older_fails (fault.Damaged damage block) c from n epoch b = (b.0, in_older b.1)
-older_fails fault.NotFormatted c from n epoch b = b
-older_fails fault.Version c from n epoch b = b
-older_fails fault.NoRoot c from n epoch b = b
-older_fails fault.Memory c from n epoch b = tt
-older_fails fault.Device c from n epoch b = tt
+pub older_fails : (limits : Limits) (f : MountFault) (c : Contents) (from : Tree) (n epoch : ℕ) → Breaks limits f c from n epoch → BothBreak limits f c from n epoch
+older_fails limits (fault.Damaged damage block) c from n epoch b = (b.0, in_older b.1)
+older_fails limits fault.NotFormatted c from n epoch b = b
+older_fails limits fault.Version c from n epoch b = b
+older_fails limits fault.NoRoot c from n epoch b = b
+older_fails limits fault.Memory c from n epoch b = tt
+older_fails limits fault.Device c from n epoch b = tt

@@ -4,7 +4,7 @@ use Rattle.sn_check_log.specs.declared.replaying.Tried.{Tried}
 use Rattle.sn_device.specs.Sectors.{Contents}
 use Rattle.sn_examine.specs.Both.{BothBreak, HasBoth}
 use Rattle.sn_examine.specs.Replaying.{Breaks, HasAll}
-use Rattle.sn_limits.specs.Versions.{version_1}
+use Rattle.sn_limits.specs.declared.limits.Limits.{Limits}
 use Rattle.sn_live.specs.Live.{HasNoPoint, IsLive, changes_of, kept_back_of, kept_since_of, shown_of}
 use Rattle.sn_live.specs.declared.live.LiveTree.{LiveTree}
 use Rattle.sn_model.specs.Changes.{apply}
@@ -50,25 +50,25 @@ KeepsNoneIf (Some live) = KeepsNone live
 
 -- ---- one change
 
--- A change was made of what is shown, is charged so much, and lies over what changed before.
-pub record MakesChange (charge : ℕ) (live : Option LiveTree) (below : Tree) (change : Change) (after : Option LiveTree) : Type 0 where
-  pub applied : apply version_1 change (tree_of live below) ≡ Some (tree_of after below)
-  pub charged : charge ≡ charge_for version_1 (tree_of live below) change
+-- A change was made of what is shown under these limits, is charged so much by them, and lies over what changed before.
+pub record MakesChange (limits : Limits) (charge : ℕ) (live : Option LiveTree) (below : Tree) (change : Change) (after : Option LiveTree) : Type 0 where
+  pub applied : apply limits change (tree_of live below) ≡ Some (tree_of after below)
+  pub charged : charge ≡ charge_for limits (tree_of live below) change
   pub merged : changes_if after ≡ merge (changes_if live) (layer_of_change (tree_of live below) change)
 
 -- or it can't be applied
-abbrev pub TriesChange : Option ℕ → Option LiveTree → Tree → Change → Option LiveTree → Type 0
-TriesChange None live below change after = apply version_1 change (tree_of live below) ≡ None
-TriesChange (Some charge) live below change after = MakesChange charge live below change after
+abbrev pub TriesChange : Limits → Option ℕ → Option LiveTree → Tree → Change → Option LiveTree → Type 0
+TriesChange limits None live below change after = apply limits change (tree_of live below) ≡ None
+TriesChange limits (Some charge) live below change after = MakesChange limits charge live below change after
 
 -- ---- the records of an epoch, and of two
 
 -- The records of an epoch were replayed, all of them, up to the tree that is shown; or replay fails.
-abbrev pub TriesAll : Result Tried MountFault → Contents → Tree → ℕ → ℕ → Tree → Type 0
-TriesAll (Ok r) c from n epoch below = HasAll c from r.at (tree_of r.live below) r.charges
-TriesAll (Err f) c from n epoch below = Breaks f c from n epoch
+abbrev pub TriesAll : Limits → Result Tried MountFault → Contents → Tree → ℕ → ℕ → Tree → Type 0
+TriesAll limits (Ok r) c from n epoch below = HasAll limits c from r.at (tree_of r.live below) r.charges
+TriesAll limits (Err f) c from n epoch below = Breaks limits f c from n epoch
 
 -- the same of both epochs
-abbrev pub TriesBoth : Result Tried MountFault → Contents → Tree → ℕ → ℕ → Type 0
-TriesBoth (Ok r) c image n epoch = HasBoth c image n epoch r.at (tree_of r.live image) r.charges
-TriesBoth (Err f) c image n epoch = BothBreak f c image n epoch
+abbrev pub TriesBoth : Limits → Result Tried MountFault → Contents → Tree → ℕ → ℕ → Type 0
+TriesBoth limits (Ok r) c image n epoch = HasBoth limits c image n epoch r.at (tree_of r.live image) r.charges
+TriesBoth limits (Err f) c image n epoch = BothBreak limits f c image n epoch

@@ -1,10 +1,11 @@
 //! The records of the root's epoch, and those of the next one.
-ghost use Rattle.std.specs.Prelude.{◌≡◌, ◌⊎◌, ◌*◌, ◌≤◌, ◌^◌, IsTrue, IfOk, OnOk};
+ghost use Rattle.std.specs.Prelude.{◌≡◌, ◌⊎◌, ◌*◌, ◌≤◌, ◌^◌, Some, IsTrue, IfOk, OnOk};
 ghost use Rattle.sn_block.specs.Lending.{device_of};
 ghost use Rattle.sn_check_log.specs.Trying.{HasNoPointIf, IsTried, KeepsNoneIf, TriesBoth, changes_if, tree_of};
 ghost use Rattle.sn_device.specs.Disk.{reads};
 ghost use Rattle.sn_examine.specs.Failing.{FailsAs, WritesNothing};
 ghost use Rattle.sn_examine.specs.Replaying.{LeadsOn};
+ghost use Rattle.sn_limits.specs.Versions.{limits_of};
 ghost use Rattle.sn_overlay.specs.Overlays.{no_changes};
 ghost use Rattle.sn_rooted.specs.Roots.{IsSoundOn, tree_on};
 
@@ -24,20 +25,21 @@ fn last_of(older: Position, newer: Position) -> Position
     if newer.count() == 0 { older } else { newer }
 }
 
-/// Tries the records of the root's epoch and then those of the next one on the root's tree. Answers where the log goes on,
-/// behind the last of them, what they are charged together, and the live tree behind them, `None` where there is no record:
-/// then it is the root's tree. What changed of that is what they changed. Damaged is a record that is misspelt or can't be
-/// applied, told of the block of its gate.
+/// Tries the records of the root's epoch and then those of the next one on the root's tree, by the limits of the root.
+/// Answers where the log goes on, behind the last of them, what they are charged together, and the live tree behind them,
+/// `None` where there is no record: then it is the root's tree. What changed of that is what they changed. Damaged is a
+/// record that is misspelt or can't be applied, told of the block of its gate.
 pub fn try_both<D: Device>(
     alloc: Global,
     blocks: &mut Blocks<D>,
     it: &CheckedRoot<'_>,
 ) -> Result<Tried, MountFault>
+    requires version { limits_of it.now.root.now.limits.version ≡ Some it.now.root.now.limits }
     requires sound { IsTrue D.tells_bytes → IsSoundOn blocks.old it.now.root.now.limits it.now.root.now.inode_file }
     requires disk { 8 * it.now.geometry ≤ (D.status (device_of blocks.old)).sectors }
     requires epoch { it.now.root.now.epoch ≤ 2 ^ 62 }
-    ensures replayed { IsTrue D.tells_bytes → TriesBoth result (reads (D.disk (device_of blocks.old))) (tree_on blocks.old it.now.root.now.inode_file) it.now.geometry it.now.root.now.epoch }
-    ensures changed { IsTrue D.tells_bytes → IfOk result (λ r. LeadsOn no_changes (tree_on blocks.old it.now.root.now.inode_file) 0
+    ensures replayed { IsTrue D.tells_bytes → TriesBoth it.now.root.now.limits result (reads (D.disk (device_of blocks.old))) (tree_on blocks.old it.now.root.now.inode_file) it.now.geometry it.now.root.now.epoch }
+    ensures changed { IsTrue D.tells_bytes → IfOk result (λ r. LeadsOn it.now.root.now.limits no_changes (tree_on blocks.old it.now.root.now.inode_file) 0
         (changes_if r.live) (tree_of r.live (tree_on blocks.old it.now.root.now.inode_file)) r.charges) }
     ensures live { IsTrue D.tells_bytes → IfOk result (λ r. IsTried r.live (tree_on blocks.old it.now.root.now.inode_file)) }
     ensures point { IfOk result (λ r. HasNoPointIf r.live) }

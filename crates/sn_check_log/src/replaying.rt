@@ -1,10 +1,11 @@
 //! The records of one epoch, tried one after the other.
-ghost use Rattle.std.specs.Prelude.{◌≡◌, ◌*◌, ◌≤◌, ◌<◌, ◌^◌, true, IsTrue, IfOk, OnOk};
+ghost use Rattle.std.specs.Prelude.{◌≡◌, ◌*◌, ◌≤◌, ◌<◌, ◌^◌, true, Some, IsTrue, IfOk, OnOk};
 ghost use Rattle.sn_block.specs.Lending.{device_of};
 ghost use Rattle.sn_device.specs.Disk.{reads};
 ghost use Rattle.sn_examine.specs.Failing.{FailsAs, WritesNothing};
 ghost use Rattle.sn_examine.specs.Replaying.{HasReplayed, LeadsOn, ReplaysOne};
 ghost use Rattle.sn_check_log.specs.Trying.{HasNoPointIf, IsTried, KeepsNoneIf, TriesAll, changes_if, tree_of};
+ghost use Rattle.sn_limits.specs.Versions.{limits_of};
 ghost use Rattle.sn_model.specs.Tree.{Tree};
 ghost use Rattle.sn_rooted.specs.Roots.{IsSoundOn, tree_on};
 
@@ -17,6 +18,7 @@ use sn_examine::fault_of;
 use sn_live::LiveTree;
 use sn_log::{Buffer, NextRecord, Position, Replay};
 use sn_model::{Damage, MountFault};
+use sn_overlay::versions_are_charged;
 use std::alloc::Global;
 
 /// What trying records comes to.
@@ -41,16 +43,17 @@ pub(crate) fn try_next<D: Device>(
     live: &mut Option<LiveTree>,
 ) -> Result<bool, MountFault>
     requires few { charges.old ≤ 2 ^ 64 * replay.old.place }
+    requires version { limits_of it.now.root.now.limits.version ≡ Some it.now.root.now.limits }
     requires sound { IsTrue D.tells_bytes → IsSoundOn blocks.old it.now.root.now.limits it.now.root.now.inode_file }
     requires tried { IsTrue D.tells_bytes → IsTried live.old (tree_on blocks.old it.now.root.now.inode_file) }
     requires point { HasNoPointIf live.old }
     requires keeps { IsTrue D.tells_bytes → KeepsNoneIf live.old }
     requires disk { 8 * replay.old.blocks ≤ (D.status (device_of blocks.old)).sectors }
     ensures replayed { IsTrue D.tells_bytes → (from : Tree)
-        → HasReplayed (reads (D.disk (device_of blocks.old))) from replay.old (tree_of live.old (tree_on blocks.old it.now.root.now.inode_file)) charges.old
-        → ReplaysOne result (reads (D.disk (device_of blocks.old))) from replay.old (tree_of live.old (tree_on blocks.old it.now.root.now.inode_file)) charges.old
+        → HasReplayed it.now.root.now.limits (reads (D.disk (device_of blocks.old))) from replay.old (tree_of live.old (tree_on blocks.old it.now.root.now.inode_file)) charges.old
+        → ReplaysOne it.now.root.now.limits result (reads (D.disk (device_of blocks.old))) from replay.old (tree_of live.old (tree_on blocks.old it.now.root.now.inode_file)) charges.old
         replay.new (tree_of live.new (tree_on blocks.old it.now.root.now.inode_file)) charges.new }
-    ensures changed { IsTrue D.tells_bytes → OnOk result (LeadsOn (changes_if live.old) (tree_of live.old (tree_on blocks.old it.now.root.now.inode_file)) charges.old
+    ensures changed { IsTrue D.tells_bytes → OnOk result (LeadsOn it.now.root.now.limits (changes_if live.old) (tree_of live.old (tree_on blocks.old it.now.root.now.inode_file)) charges.old
         (changes_if live.new) (tree_of live.new (tree_on blocks.old it.now.root.now.inode_file)) charges.new) }
     ensures tried { IsTrue D.tells_bytes → OnOk result (IsTried live.new (tree_on blocks.old it.now.root.now.inode_file)) }
     ensures point { HasNoPointIf live.new }
@@ -68,6 +71,7 @@ pub(crate) fn try_next<D: Device>(
 {
     // What changed leads on with each record.
     changed_laws();
+    versions_are_charged();
     let at = replay.position();
     // It bounds the place.
     let _place = at.place();
@@ -101,13 +105,14 @@ pub(crate) fn try_epoch<D: Device>(
     mut live: Option<LiveTree>,
     epoch: u64,
 ) -> Result<Tried, MountFault>
+    requires version { limits_of it.now.root.now.limits.version ≡ Some it.now.root.now.limits }
     requires sound { IsTrue D.tells_bytes → IsSoundOn blocks.old it.now.root.now.limits it.now.root.now.inode_file }
     requires tried { IsTrue D.tells_bytes → IsTried live (tree_on blocks.old it.now.root.now.inode_file) }
     requires point { HasNoPointIf live }
     requires keeps { IsTrue D.tells_bytes → KeepsNoneIf live }
     requires disk { 8 * it.now.geometry ≤ (D.status (device_of blocks.old)).sectors }
-    ensures replayed { IsTrue D.tells_bytes → TriesAll result (reads (D.disk (device_of blocks.old))) (tree_of live (tree_on blocks.old it.now.root.now.inode_file)) it.now.geometry epoch (tree_on blocks.old it.now.root.now.inode_file) }
-    ensures changed { IsTrue D.tells_bytes → IfOk result (λ r. LeadsOn (changes_if live) (tree_of live (tree_on blocks.old it.now.root.now.inode_file)) 0
+    ensures replayed { IsTrue D.tells_bytes → TriesAll it.now.root.now.limits result (reads (D.disk (device_of blocks.old))) (tree_of live (tree_on blocks.old it.now.root.now.inode_file)) it.now.geometry epoch (tree_on blocks.old it.now.root.now.inode_file) }
+    ensures changed { IsTrue D.tells_bytes → IfOk result (λ r. LeadsOn it.now.root.now.limits (changes_if live) (tree_of live (tree_on blocks.old it.now.root.now.inode_file)) 0
         (changes_if r.live) (tree_of r.live (tree_on blocks.old it.now.root.now.inode_file)) r.charges) }
     ensures tried { IsTrue D.tells_bytes → IfOk result (λ r. IsTried r.live (tree_on blocks.old it.now.root.now.inode_file)) }
     ensures point { IfOk result (λ r. HasNoPointIf r.live) }

@@ -4,6 +4,8 @@ ghost use Rattle.sn_block.specs.Lending.{device_of};
 ghost use Rattle.sn_check_log.specs.Trying.{HasNoPointIf, IsTried, KeepsNone, KeepsNoneIf, TriesChange, changes_if, tree_of};
 ghost use Rattle.sn_examine.specs.Failing.{FailsAs, WritesNothing};
 ghost use Rattle.sn_examine.specs.Rooms.{IsNoDamage};
+ghost use Rattle.sn_limits.specs.Versions.{limits_of};
+ghost use Rattle.sn_limits.specs.declared.limits.Limits.{Limits as TheLimits};
 ghost use Rattle.sn_live.specs.Live.{HasNoPoint, IsLive, changes_of, point_of, shown_of};
 ghost use Rattle.sn_live.specs.Prepared.{CanBeMade, HasRoomFor, charge_of};
 ghost use Rattle.sn_model.specs.Tree.{Tree};
@@ -33,10 +35,10 @@ pub struct CheckedRoot<'a> {
 // Makes a change that was prepared, and answers what it is charged.
 fn make_change(live: &mut LiveTree, prepared: PreparedLive) -> u128
     requires { HasRoomFor live.old prepared 0 }
-    ensures live { (below : Tree) (change : TheChange) → IsLive live.old below → CanBeMade prepared (shown_of live.old below) change → IsLive live.new below }
-    ensures made { (below : Tree) (change : TheChange) → IsLive live.old below → CanBeMade prepared (shown_of live.old below) change
-        → TriesChange (Some result) (Some live.old) below change (Some live.new) }
-    ensures keeps { (tree : Tree) (change : TheChange) → CanBeMade prepared tree change → KeepsNone live.old → KeepsNone live.new }
+    ensures live { (limits : TheLimits) (below : Tree) (change : TheChange) → limits_of limits.version ≡ Some limits → IsLive live.old below → CanBeMade limits prepared (shown_of live.old below) change → IsLive live.new below }
+    ensures made { (limits : TheLimits) (below : Tree) (change : TheChange) → limits_of limits.version ≡ Some limits → IsLive live.old below → CanBeMade limits prepared (shown_of live.old below) change
+        → TriesChange limits (Some result) (Some live.old) below change (Some live.new) }
+    ensures keeps { (limits : TheLimits) (tree : Tree) (change : TheChange) → limits_of limits.version ≡ Some limits → CanBeMade limits prepared tree change → KeepsNone live.old → KeepsNone live.new }
     ensures point { point_of live.new ≡ point_of live.old }
     ensures charge { result ≡ charge_of prepared }
 {
@@ -45,8 +47,8 @@ fn make_change(live: &mut LiveTree, prepared: PreparedLive) -> u128
     charge
 }
 
-// Makes a change of what is shown of a root's tree, where it can be applied, and answers what it is charged. `None` where it
-// can't be applied.
+// Makes a change of what is shown of a root's tree, where it can be applied under the root's limits, and answers what it is
+// charged by them. `None` where it can't be applied.
 fn try_change<D: Device>(
     alloc: Global,
     blocks: &mut Blocks<D>,
@@ -54,10 +56,11 @@ fn try_change<D: Device>(
     live: &mut LiveTree,
     change: &Change<'_>,
 ) -> Result<Option<u128>, MountFault>
+    requires version { limits_of it.now.root.now.limits.version ≡ Some it.now.root.now.limits }
     requires sound { IsTrue D.tells_bytes → IsSoundOn blocks.old it.now.root.now.limits it.now.root.now.inode_file }
     requires live { IsTrue D.tells_bytes → IsLive live.old (tree_on blocks.old it.now.root.now.inode_file) }
     ensures live { IsTrue D.tells_bytes → OnOk result (IsLive live.new (tree_on blocks.old it.now.root.now.inode_file)) }
-    ensures tries { IsTrue D.tells_bytes → IfOk result (λ charge. TriesChange charge (Some live.old) (tree_on blocks.old it.now.root.now.inode_file) change.now (Some live.new)) }
+    ensures tries { IsTrue D.tells_bytes → IfOk result (λ charge. TriesChange it.now.root.now.limits charge (Some live.old) (tree_on blocks.old it.now.root.now.inode_file) change.now (Some live.new)) }
     ensures keeps { IsTrue D.tells_bytes → OnOk result (KeepsNone live.old → KeepsNone live.new) }
     ensures point { point_of live.new ≡ point_of live.old }
     ensures undamaged { IsTrue D.tells_bytes → IfErr result IsNoDamage }
@@ -73,7 +76,7 @@ fn try_change<D: Device>(
         root: it.root,
         fault: None,
     };
-    let prepared = live.prepare(alloc, &mut tree, change, 0);
+    let prepared = live.prepare(alloc, &it.root.limits, &mut tree, change, 0);
     match tree.fault {
         Some(fault) => Err(fault_of_tree(fault, it.body)),
         None => match prepared {
@@ -113,8 +116,9 @@ fn opened<D: Device>(
     }
 }
 
-/// Makes a change of what is shown of a root's tree, where it can be applied, and answers what it is charged. `None` where it
-/// can't be applied. The tree's tables are counted once a change asks for them: an empty log needs none.
+/// Makes a change of what is shown of a root's tree, where it can be applied under the root's limits, and answers what it is
+/// charged by them. `None` where it can't be applied. The tree's tables are counted once a change asks for them: an empty
+/// log needs none.
 pub(crate) fn try_opened<D: Device>(
     alloc: Global,
     blocks: &mut Blocks<D>,
@@ -122,12 +126,13 @@ pub(crate) fn try_opened<D: Device>(
     live: &mut Option<LiveTree>,
     change: &Change<'_>,
 ) -> Result<Option<u128>, MountFault>
+    requires version { limits_of it.now.root.now.limits.version ≡ Some it.now.root.now.limits }
     requires sound { IsTrue D.tells_bytes → IsSoundOn blocks.old it.now.root.now.limits it.now.root.now.inode_file }
     requires tried { IsTrue D.tells_bytes → IsTried live.old (tree_on blocks.old it.now.root.now.inode_file) }
     requires point { HasNoPointIf live.old }
     requires keeps { IsTrue D.tells_bytes → KeepsNoneIf live.old }
     ensures tried { IsTrue D.tells_bytes → OnOk result (IsTried live.new (tree_on blocks.old it.now.root.now.inode_file)) }
-    ensures tries { IsTrue D.tells_bytes → IfOk result (λ charge. TriesChange charge live.old (tree_on blocks.old it.now.root.now.inode_file) change.now live.new) }
+    ensures tries { IsTrue D.tells_bytes → IfOk result (λ charge. TriesChange it.now.root.now.limits charge live.old (tree_on blocks.old it.now.root.now.inode_file) change.now live.new) }
     ensures point { HasNoPointIf live.new }
     ensures keeps { IsTrue D.tells_bytes → OnOk result (KeepsNoneIf live.new) }
     ensures undamaged { IsTrue D.tells_bytes → IfErr result IsNoDamage }

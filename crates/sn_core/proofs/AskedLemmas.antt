@@ -4,7 +4,7 @@ use Rattle.std.specs.FinMap as map
 use Rattle.std.specs.Cmp.Lexicographic.{nat_list_cmp_total, slice_cmp}
 use Rattle.std.specs.Ordering.{nat_cmp}
 use Rattle.std.specs.Prelude.{IsOk}
-use Rattle.sn_limits.specs.Versions.{version_1}
+use Rattle.sn_limits.specs.Versions.{limits_written}
 use Rattle.sn_model.specs.declared.call.Call.{Call}
 use Rattle.sn_model.specs.declared.call.Call.TheVariants as call
 use Rattle.sn_model.specs.declared.change.Change.{Change}
@@ -35,8 +35,8 @@ unasked_stays Plain w e = refl
 unasked_stays (Freezes name) w e = cc
 unasked_stays (Thaws name) w e = cc
 
-pub alone_stays : (old : World) (session : ℕ) (c : Call) (o : Outcome) → decision version_1 old session c ≡ Ok o → asks_for_point c ≡ false → (w : World) → pointed o.point w ≡ w
-alone_stays old session c o e alone w = unasked_stays o.point w ((decided_is version_1 old session c o e).points.asks ∙ alone)
+pub alone_stays : (old : World) (session : ℕ) (c : Call) (o : Outcome) → decision limits_written old session c ≡ Ok o → asks_for_point c ≡ false → (w : World) → pointed o.point w ≡ w
+alone_stays old session c o e alone w = unasked_stays o.point w ((decided_is limits_written old session c o e).points.asks ∙ alone)
 
 -- where something else changes
 beside_stays : (p : AskedPoint) (change : Pending) (caller : Caller) (w : World) → IsAlone p change caller → (change ≡ Nothing → ⊥) → pointed p w ≡ w
@@ -45,8 +45,8 @@ beside_stays Plain change caller w alone some = refl
 beside_stays (Freezes name) change caller w alone some = absurd (some alone.0)
 beside_stays (Thaws name) change caller w alone some = absurd (some alone.0)
 
-pub chosen_stays : (old : World) (kept : ℕ → Bool) (session : ℕ) (c : Call) (o : Outcome) (chosen : Chosen) (change : Change) → decision version_1 old session c ≡ Ok o → Chooses old.live kept o.change o.caller chosen → chosen.change ≡ Some change → (w : World) → pointed o.point w ≡ w
-chosen_stays old kept session c o chosen change e is some w = beside_stays o.point o.change o.caller w (decided_is version_1 old session c o e).points.alone (told o.change is)
+pub chosen_stays : (old : World) (kept : ℕ → Bool) (session : ℕ) (c : Call) (o : Outcome) (chosen : Chosen) (change : Change) → decision limits_written old session c ≡ Ok o → Chooses old.live kept o.change o.caller chosen → chosen.change ≡ Some change → (w : World) → pointed o.point w ≡ w
+chosen_stays old kept session c o chosen change e is some w = beside_stays o.point o.change o.caller w (decided_is limits_written old session c o e).points.alone (told o.change is)
   where
     told : (pending : Pending) → Chooses old.live kept pending o.caller chosen → pending ≡ Nothing → ⊥
     told Nothing is none = let never : None ≡ Some change = sym (ap (λ (x : Chosen). x.change) is) ∙ some in cc never
@@ -106,7 +106,7 @@ lacks_memory (Freezes name) e is = (refl, cc)
 lacks_memory (Thaws name) e is = cc
 
 -- a call whose point finds no memory is one that may find none
-pub point_takes : (old : World) (session : ℕ) (c : Call) (o : Outcome) (e : WorldError) → decision version_1 old session c ≡ Ok o → Err e ≡ memory_for o.point → TakesMemory c × IsOk (ready old session c) × (e ≡ Memory)
+pub point_takes : (old : World) (session : ℕ) (c : Call) (o : Outcome) (e : WorldError) → decision limits_written old session c ≡ Ok o → Err e ≡ memory_for o.point → TakesMemory c × IsOk (ready old session c) × (e ≡ Memory)
 point_takes old session c o e decided is =
     let lacks = lacks_memory o.point e is in
-    (asking_takes c (sym (decided_is version_1 old session c o decided).points.asks ∙ lacks.0), ready_passed old session c o decided, lacks.1)
+    (asking_takes c (sym (decided_is limits_written old session c o decided).points.asks ∙ lacks.0), ready_passed old session c o decided, lacks.1)

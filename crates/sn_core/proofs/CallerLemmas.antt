@@ -5,7 +5,7 @@ use Rattle.std.specs.Cmp.{nat_cmp_total}
 use Rattle.std.specs.Prelude.{IsSomeAnd, slice_get}
 use Rattle.std.proofs.lemmas.Map.Lookups.{exact_unsigned}
 use Rattle.sn_limits.specs.declared.kind.Kind.TheVariants.{File}
-use Rattle.sn_limits.specs.Versions.{version_1}
+use Rattle.sn_limits.specs.Versions.{limits_written}
 use Rattle.sn_model.specs.declared.outcome.Caller.{Caller}
 use Rattle.sn_model.specs.declared.outcome.Caller.TheVariants.{Stays, LogsIn, SetsUmask, LogsOut, Opens, OpensNew, Closes, Moves}
 use Rattle.sn_model.specs.declared.outcome.Pending.{Pending}
@@ -68,7 +68,7 @@ module _ (world : World) (session room : ℕ) (count : length world.sessions ≡
   seat_within : IsLoggedIn world session → session < 64
   seat_within h = omega (arith, count, some_within world.sessions session h)
 
-  pub can_turn : (change : Pending) (caller : Caller) → FitsCaller version_1 world session change caller → HasRoom caller room → CanTurn world.descriptors room session caller
+  pub can_turn : (change : Pending) (caller : Caller) → FitsCaller limits_written world session change caller → HasRoom caller room → CanTurn world.descriptors room session caller
   can_turn change Stays fits has = tt
   can_turn change (LogsIn s) fits has = tt
   can_turn change (SetsUmask mask) fits has = tt
@@ -79,7 +79,7 @@ module _ (world : World) (session room : ℕ) (count : length world.sessions ≡
   can_turn change (Moves fd offset) fits has = tt
 
   -- the same with a new file's number
-  pub can_turn_filled : (change : Pending) (caller : Caller) (n : ℕ) → FitsCaller version_1 world session change caller → HasRoom caller room → CanTurn world.descriptors room session (filled n caller)
+  pub can_turn_filled : (change : Pending) (caller : Caller) (n : ℕ) → FitsCaller limits_written world session change caller → HasRoom caller room → CanTurn world.descriptors room session (filled n caller)
   can_turn_filled change Stays n fits has = tt
   can_turn_filled change (LogsIn s) n fits has = tt
   can_turn_filled change (SetsUmask mask) n fits has = tt
@@ -92,7 +92,7 @@ module _ (world : World) (session room : ℕ) (count : length world.sessions ≡
 -- ---- files that are left to nobody
 
 -- what may be dropped is a node's number
-pub abandoned_numbers : (world : World) → IsTree version_1 world.live → AreNumbers world
+pub abandoned_numbers : (world : World) → IsTree limits_written world.live → AreNumbers world
 abandoned_numbers world whole n e = let s = some_node _ File (abandoned_is world n e).file in (whole.nodes.nodes n s.0 s.1).first
 
 -- a name tree without one of its nameless files is one
@@ -120,10 +120,10 @@ module _ (tree : Tree) (n : ℕ) (nameless : is_nameless tree n (map.get tree.no
           ∙ sym (ap (map.get (take_node tree n).nodes) q ∙ get_removed nat_cmp_total tree.nodes n)
       told false e = ap shown e ∙ kept _ ∙ sym (get_left nat_cmp_total exact_unsigned tree.nodes n k (λ q. true≢false (sym (eq-eqb k n q) ∙ e)))
 
-  pub taken_tree : IsTree version_1 tree → IsTree version_1 (take_node tree n)
+  pub taken_tree : IsTree limits_written tree → IsTree limits_written (take_node tree n)
   taken_tree whole =
       let nodes = map.same_map nat_cmp_total exact_unsigned _ _ left_nodes in
-      subst (IsTree version_1) (λ i. record tree { nodes = nodes i }) (dropping_tree version_1 tree others whole)
+      subst (IsTree limits_written) (λ i. record tree { nodes = nodes i }) (dropping_tree limits_written tree others whole)
 
 -- what nobody has and no name stands for has no name
 pub is_left_nameless : (world : World) (n : ℕ) → is_abandoned world n ≡ true → is_nameless world.live n (map.get world.live.nodes n) ≡ true
@@ -145,11 +145,11 @@ module _ (old new : World) (live : new.live ≡ old.live) where
 
 -- what lost its name is looked at last
 pub none_more : (world : World) → OnlyLost world None → world ≡ dropped world
-none_more world only = sym (none_dropped version_1 world (λ n e. let never : None ≡ Some n = only n e in cc))
+none_more world only = sym (none_dropped limits_written world (λ n e. let never : None ≡ Some n = only n e in cc))
 
 pub one_more : (world : World) (number : ℕ) → OnlyLost world (Some number) → dropped_if world number ≡ dropped world
 one_more world number only =
-    sym (none_dropped version_1 (dropped_if world number) (λ n e.
+    sym (none_dropped limits_written (dropped_if world number) (λ n e.
     let s = still_abandoned world number n e in
     s.1 (sym (some_same number n (only n s.0)))))
     ∙ dropped_once world number
@@ -164,8 +164,8 @@ module _ (old new : World) (session : ℕ) (caller : Caller) (turned : new ≡ w
   pub live_after : new.live ≡ old.live
   live_after = ap (λ (w : World). w.live) turned ∙ caller_live old session caller
 
-  pub turned_numbers : IsTree version_1 old.live → AreNumbers new
-  turned_numbers whole = abandoned_numbers new (subst (IsTree version_1) (sym live_after) whole)
+  pub turned_numbers : IsTree limits_written old.live → AreNumbers new
+  turned_numbers whole = abandoned_numbers new (subst (IsTree limits_written) (sym live_after) whole)
 
   -- once each that was released is looked at, only what lost its name is left
   pub turned_lost : (mid : World) (numbers seen : List ℕ) (lost : Option ℕ) → seen ≡ numbers → TellsReleased old new numbers → OnlyLost old lost → ((n : ℕ) → is_abandoned mid n ≡ true → (is_abandoned new n ≡ true) × (Contains seen n → ⊥)) → OnlyLost mid lost

@@ -6,7 +6,7 @@ use Rattle.std.proofs.lemmas.Bool.{false_from_ne_true, true≢false}
 use Rattle.std.proofs.lemmas.Map.Lookups.{exact_unsigned}
 use Rattle.sn_limits.specs.declared.kind.Kind.{Kind}
 use Rattle.sn_limits.specs.declared.kind.Kind.TheVariants.{File}
-use Rattle.sn_limits.specs.Versions.{version_1}
+use Rattle.sn_limits.specs.Versions.{limits_written}
 use Rattle.std.specs.Prelude.{IsSomeAnd}
 use Rattle.sn_walk.specs.declared.object.Home.{Home}
 use Rattle.sn_model.specs.declared.call.Call.{Call}
@@ -69,7 +69,7 @@ step_numbers world kept = record { next = λ n g. absurd (none_given world n g);
 -- ---- what is there before a change and after it
 
 -- what is held is a file
-held_file : (world : World) (n : ℕ) → IsWorld version_1 world → is_held world n ≡ true → HasKind world.live n File
+held_file : (world : World) (n : ℕ) → IsWorld limits_written world → is_held world n ≡ true → HasKind world.live n File
 held_file world n whole e =
     let b = held_by world.descriptors n e in
     let x = some_descriptor (map.get world.descriptors (b.0, b.1)) b.2 in
@@ -86,11 +86,11 @@ there tree n h = ap is_some (some_node _ File h).1
 pub same_stay : (old new : Tree) → new ≡ old → FilesStay old new
 same_stay old new same n h = ap (λ (t : Tree). is_some (map.get t.nodes n)) same ∙ there old n h
 
-pub done_stay : (change : Change) (old new : Tree) → IsOfOld change → apply version_1 change old ≡ Some new → FilesStay old new
-done_stay change old new of_old e n h = there new n (file_stays old new n (change_stays version_1 change old new of_old e n) h)
+pub done_stay : (change : Change) (old new : Tree) → IsOfOld change → apply limits_written change old ≡ Some new → FilesStay old new
+done_stay change old new of_old e n h = there new n (file_stays old new n (change_stays limits_written change old new of_old e n) h)
 
 -- what was held and has gone by the end was there after the change
-pub closed_same : (old new : World) (tree : Tree) (n : ℕ) → IsWorld version_1 old → FilesStay old.live tree → has_closed (with_live old tree) new n ≡ has_closed old new n
+pub closed_same : (old new : World) (tree : Tree) (n : ℕ) → IsWorld limits_written old → FilesStay old.live tree → has_closed (with_live old tree) new n ≡ has_closed old new n
 closed_same old new tree n whole stay = told (is_held old n) refl
   where
     told : (b : Bool) → is_held old n ≡ b → (b && has_gone (with_live old tree) new n) ≡ (b && has_gone old new n)
@@ -112,9 +112,9 @@ was_there old session tree caller n some =
 named_stays : (held : ℕ → Bool) (tree : Tree) (n : ℕ) → is_nameless tree n (map.get tree.nodes n) ≡ false → is_some (map.get tree.nodes n) ≡ true → is_some (map.get (without_nameless held tree).nodes n) ≡ true
 named_stays held tree n named some = ap is_some (get_without held tree n ∙ ap (λ (b : Bool). cond (not b || held n) (map.get tree.nodes n) None) named) ∙ some
 
-module _ (old : World) (link : Link) (number : ℕ) (kind : Kind) (own : Ownership) (tree : Tree) (e : made version_1 old.live link number kind own ≡ Some tree) where
-  m : Made version_1 old.live link number kind own tree
-  m = made_is version_1 old.live link number kind own tree e
+module _ (old : World) (link : Link) (number : ℕ) (kind : Kind) (own : Ownership) (tree : Tree) (e : made limits_written old.live link number kind own ≡ Some tree) where
+  m : Made limits_written old.live link number kind own tree
+  m = made_is limits_written old.live link number kind own tree e
 
   is_there : map.get tree.nodes number ≡ Some (node_with kind own [])
   is_there = ap (λ (t : Tree). map.get t.nodes number) (sym m.gives) ∙ get_inserted nat_cmp_total old.live.nodes number (node_with kind own [])

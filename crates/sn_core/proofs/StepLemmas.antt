@@ -3,7 +3,7 @@ use Rattle.std.proofs.Common.{◌≡◌, ℕ, Bool, true, false, not, ◌&&◌, 
 use Rattle.std.specs.FinMap as map
 use Rattle.std.specs.Prelude.{IsOk}
 use Rattle.std.proofs.lemmas.Bool.{true≢false}
-use Rattle.sn_limits.specs.Versions.{version_1}
+use Rattle.sn_limits.specs.Versions.{limits_written}
 use Rattle.sn_model.specs.declared.call.Call.{Call}
 use Rattle.sn_model.specs.declared.call.Event.{Event}
 use Rattle.sn_model.specs.declared.call.Event.TheVariants as event
@@ -53,13 +53,13 @@ use Rattle.sn_core.specs.Served.{Chooses, HasNumber, MakesChange}
 
 -- a reply and a world, where a call was decided, and the numbers that are kept back
 abbrev pub IsServed : World → (ℕ → Bool) → ℕ → Call → Reply → World → (ℕ → Bool) → Type 0
-IsServed old kept session c answer new after = Becomes version_1 old session (decision version_1 old session c) answer new × Numbers (event.Call session c) old kept new after
+IsServed old kept session c answer new after = Becomes limits_written old session (decision limits_written old session c) answer new × Numbers (event.Call session c) old kept new after
 
-becomes_told : (old new : World) (session : ℕ) (c : Call) (o : Outcome) → decision version_1 old session c ≡ Ok o → Comes version_1 old session o new → Becomes version_1 old session (decision version_1 old session c) o.told new
-becomes_told old new session c o e comes = subst (λ (d : Result Outcome Refusal). Becomes version_1 old session d o.told new) (sym e) (refl, comes)
+becomes_told : (old new : World) (session : ℕ) (c : Call) (o : Outcome) → decision limits_written old session c ≡ Ok o → Comes limits_written old session o new → Becomes limits_written old session (decision limits_written old session c) o.told new
+becomes_told old new session c o e comes = subst (λ (d : Result Outcome Refusal). Becomes limits_written old session d o.told new) (sym e) (refl, comes)
 
 -- a change of the tree is one of the world
-pub made_so : (r : Result (Unit {0}) ApplyError) (c : Change) (old new : World) (tree : Tree) → new ≡ with_live old tree → Applies r (apply version_1 c old.live) old.live tree → MakesChange r c old new
+pub made_so : (r : Result (Unit {0}) ApplyError) (c : Change) (old new : World) (tree : Tree) → new ≡ with_live old tree → Applies r (apply limits_written c old.live) old.live tree → MakesChange r c old new
 made_so (Ok u) c old new tree e h = (tree, h, e)
 made_so (Err lack.CannotApply) c old new tree e h = (h.0, e ∙ ap (with_live old) h.1)
 made_so (Err lack.Memory) c old new tree e h = e ∙ ap (with_live old) h
@@ -70,26 +70,26 @@ lacking lack.CannotApply c old new h = h.1
 lacking lack.Memory c old new h = h
 
 -- a call that was decided has a number left for the node that it makes
-pub has_number : (world : World) (session : ℕ) (c : Call) (o : Outcome) → decision version_1 world session c ≡ Ok o → HasNumber world.live o.change
-has_number world session c o e = told o.change (decided_is version_1 world session c o e).left
+pub has_number : (world : World) (session : ℕ) (c : Call) (o : Outcome) → decision limits_written world session c ≡ Ok o → HasNumber world.live o.change
+has_number world session c o e = told o.change (decided_is limits_written world session c o e).left
   where
-    told : (change : Pending) → HasLeft version_1 world.live change → HasNumber world.live change
+    told : (change : Pending) → HasLeft limits_written world.live change → HasNumber world.live change
     told Nothing h = tt
     told (Makes directory name kind own) h = λ none. true≢false (sym (ap is_none none) ∙ h)
     told (Does c) h = tt
 
 -- the tests of the session and of the arguments have passed
-pub ready_passed : (old : World) (session : ℕ) (c : Call) (o : Outcome) → decision version_1 old session c ≡ Ok o → IsOk (ready old session c)
-ready_passed old session c o e = let r = bind_ok (ready old session c) (outcome_of version_1 old) o e in subst (λ (x : Result Ready Refusal). IsOk x) (sym r.1) refl
+pub ready_passed : (old : World) (session : ℕ) (c : Call) (o : Outcome) → decision limits_written old session c ≡ Ok o → IsOk (ready old session c)
+ready_passed old session c o e = let r = bind_ok (ready old session c) (outcome_of limits_written old) o e in subst (λ (x : Result Ready Refusal). IsOk x) (sym r.1) refl
 
 -- a call that opens something may find no memory
-pub opening_takes : (old : World) (session : ℕ) (c : Call) (o : Outcome) → decision version_1 old session c ≡ Ok o → is_opening o.caller ≡ true → TakesMemory c × IsOk (ready old session c)
-opening_takes old session c o e opens = ((decided_is version_1 old session c o e).opens opens, ready_passed old session c o e)
+pub opening_takes : (old : World) (session : ℕ) (c : Call) (o : Outcome) → decision limits_written old session c ≡ Ok o → is_opening o.caller ≡ true → TakesMemory c × IsOk (ready old session c)
+opening_takes old session c o e opens = ((decided_is limits_written old session c o e).opens opens, ready_passed old session c o e)
 
 -- the tree after the change that was chosen, if one was
 abbrev pub MadeBy : Option Change → Tree → Tree → Type 0
 MadeBy None old new = new ≡ old
-MadeBy (Some c) old new = apply version_1 c old ≡ Some new
+MadeBy (Some c) old new = apply limits_written c old ≡ Some new
 
 -- what was chosen has been made over a world
 pub record IsMade (old : World) (kept : ℕ → Bool) (chosen : Chosen) (room : ℕ) (mid : PlainWorld) : Type 0 where
@@ -104,7 +104,7 @@ pub some_made : (old before : World) (kept first : ℕ → Bool) (chosen : Chose
 some_made old before kept first chosen room mid change same none is made keeps room_is = record {
   tree = made.0;
   world = made.2 ∙ ap (λ (w : World). with_live w made.0) same;
-  done = subst (λ (x : Option Change). MadeBy x old.live made.0) (sym is) (ap (λ (w : World). apply version_1 change w.live) (sym same) ∙ made.1);
+  done = subst (λ (x : Option Change). MadeBy x old.live made.0) (sym is) (ap (λ (w : World). apply limits_written change w.live) (sym same) ∙ made.1);
   kept_is = λ n. keeps n ∙ ap (λ (k : ℕ → Bool). kept_after change k n) none ∙ ap (λ (x : Option Change). kept_by x kept n) (sym is);
   room_is = room_is;
 }
@@ -124,8 +124,8 @@ choosing before old first kept o chosen same none is =
     subst (λ (k : ℕ → Bool). Chooses old.live k o.change o.caller chosen) none (subst (λ (w : World). Chooses w.live first o.change o.caller chosen) same is)
 
 -- a call that changes something may find no memory
-pub change_takes : (old : World) (kept : ℕ → Bool) (session : ℕ) (c : Call) (o : Outcome) (chosen : Chosen) (change : Change) → decision version_1 old session c ≡ Ok o → Chooses old.live kept o.change o.caller chosen → chosen.change ≡ Some change → TakesMemory c × IsOk (ready old session c)
-change_takes old kept session c o chosen change e is some = (told o.change (decided_is version_1 old session c o e).takes is, ready_passed old session c o e)
+pub change_takes : (old : World) (kept : ℕ → Bool) (session : ℕ) (c : Call) (o : Outcome) (chosen : Chosen) (change : Change) → decision limits_written old session c ≡ Ok o → Chooses old.live kept o.change o.caller chosen → chosen.change ≡ Some change → TakesMemory c × IsOk (ready old session c)
+change_takes old kept session c o chosen change e is some = (told o.change (decided_is limits_written old session c o e).takes is, ready_passed old session c o e)
   where
     told : (pending : Pending) → OnChange (TakesMemory c) pending → Chooses old.live kept pending o.caller chosen → TakesMemory c
     told Nothing takes is = let never : None ≡ Some change = sym (ap (λ (x : Chosen). x.change) is) ∙ some in absurd cc
@@ -133,7 +133,7 @@ change_takes old kept session c o chosen change e is some = (told o.change (deci
     told (Does d) takes is = takes
 
 -- a number isn't filled in where nothing is made
-unfilled : (old : World) (session number : ℕ) (change : Pending) (caller : Caller) → FitsCaller version_1 old session change caller → (MakesFile change → ⊥) → filled number caller ≡ caller
+unfilled : (old : World) (session number : ℕ) (change : Pending) (caller : Caller) → FitsCaller limits_written old session change caller → (MakesFile change → ⊥) → filled number caller ≡ caller
 unfilled old session number change Stays fits none = refl
 unfilled old session number change (LogsIn s) fits none = refl
 unfilled old session number change (SetsUmask mask) fits none = refl
@@ -144,9 +144,9 @@ unfilled old session number change (Closes fd) fits none = refl
 unfilled old session number change (Moves fd offset) fits none = refl
 
 -- a call whose change was chosen and made was served
-module _ (old : World) (kept : ℕ → Bool) (session : ℕ) (c : Call) (o : Outcome) (chosen : Chosen) (tree : Tree) (numbers : IsCall c) (whole : IsWorld version_1 old) (decided : decision version_1 old session c ≡ Ok o) (is : Chooses old.live kept o.change o.caller chosen) (done : MadeBy chosen.change old.live tree) where
-  d : IsDecided version_1 old session c o
-  d = decided_is version_1 old session c o decided
+module _ (old : World) (kept : ℕ → Bool) (session : ℕ) (c : Call) (o : Outcome) (chosen : Chosen) (tree : Tree) (numbers : IsCall c) (whole : IsWorld limits_written old) (decided : decision limits_written old session c ≡ Ok o) (is : Chooses old.live kept o.change o.caller chosen) (done : MadeBy chosen.change old.live tree) where
+  d : IsDecided limits_written old session c o
+  d = decided_is limits_written old session c o decided
 
   abbrev after : World
   after = dropped (with_caller (with_live old tree) session chosen.caller)
@@ -157,29 +157,29 @@ module _ (old : World) (kept : ℕ → Bool) (session : ℕ) (c : Call) (o : Out
 
   -- the world that the call comes to
   abbrev End : Type 0
-  End = Comes version_1 old session o (pointed o.point after)
+  End = Comes limits_written old session o (pointed o.point after)
 
-  comes : (number : ℕ) → IsNumberFor version_1 old.live number o.change → changed version_1 number o.change old.live ≡ Some tree → chosen.caller ≡ filled number o.caller → End
+  comes : (number : ℕ) → IsNumberFor limits_written old.live number o.change → changed limits_written number o.change old.live ≡ Some tree → chosen.caller ≡ filled number o.caller → End
   comes number free applied caller = record { number = number; free = free; tree = tree; applied = applied; world = ap (pointed o.point) (called number caller) }
 
-  by_change : (change : Pending) → o.change ≡ change → Chooses old.live kept change o.caller chosen → FitsCaller version_1 old session change o.caller → End
+  by_change : (change : Pending) → o.change ≡ change → Chooses old.live kept change o.caller chosen → FitsCaller limits_written old session change o.caller → End
   by_change Nothing e is fits =
       let same : tree ≡ old.live = subst (λ (x : Option Change). MadeBy x old.live tree) (ap (λ (x : Chosen). x.change) is) done in
-      comes 0 (subst (λ (x : Pending). IsNumberFor version_1 old.live 0 x) (sym e) tt) (ap (λ (x : Pending). changed version_1 0 x old.live) e ∙ ap (λ (t : Tree). Some t) (sym same))
+      comes 0 (subst (λ (x : Pending). IsNumberFor limits_written old.live 0 x) (sym e) tt) (ap (λ (x : Pending). changed limits_written 0 x old.live) e ∙ ap (λ (t : Tree). Some t) (sym same))
       (ap (λ (x : Chosen). x.caller) is ∙ sym (unfilled old session 0 Nothing o.caller fits (λ h. h)))
   by_change (Makes directory name kind own) e is fits =
       let number = is.0 in
-      let applied : made version_1 old.live (link_to directory name) number kind own ≡ Some tree = subst (λ (x : Option Change). MadeBy x old.live tree) (ap (λ (x : Chosen). x.change) is.2) done in
-      comes number (subst (λ (x : Pending). IsNumberFor version_1 old.live number x) (sym e) (next_is_number version_1 old.live kept number whole.live.hierarchy.root (lit≤ tt) is.1))
-      (ap (λ (x : Pending). changed version_1 number x old.live) e ∙ applied) (ap (λ (x : Chosen). x.caller) is.2)
+      let applied : made limits_written old.live (link_to directory name) number kind own ≡ Some tree = subst (λ (x : Option Change). MadeBy x old.live tree) (ap (λ (x : Chosen). x.change) is.2) done in
+      comes number (subst (λ (x : Pending). IsNumberFor limits_written old.live number x) (sym e) (next_is_number limits_written old.live kept number whole.live.hierarchy.root (lit≤ tt) is.1))
+      (ap (λ (x : Pending). changed limits_written number x old.live) e ∙ applied) (ap (λ (x : Chosen). x.caller) is.2)
   by_change (Does change) e is fits =
-      let applied : apply version_1 change old.live ≡ Some tree = subst (λ (x : Option Change). MadeBy x old.live tree) (ap (λ (x : Chosen). x.change) is) done in
-      comes 0 (subst (λ (x : Pending). IsNumberFor version_1 old.live 0 x) (sym e) tt) (ap (λ (x : Pending). changed version_1 0 x old.live) e ∙ applied)
+      let applied : apply limits_written change old.live ≡ Some tree = subst (λ (x : Option Change). MadeBy x old.live tree) (ap (λ (x : Chosen). x.change) is) done in
+      comes 0 (subst (λ (x : Pending). IsNumberFor limits_written old.live 0 x) (sym e) tt) (ap (λ (x : Pending). changed limits_written 0 x old.live) e ∙ applied)
       (ap (λ (x : Chosen). x.caller) is ∙ sym (unfilled old session 0 (Does change) o.caller fits (λ h. h)))
 
   -- where no snapshot is made or goes
-  pub chosen_becomes : pointed o.point after ≡ after → Becomes version_1 old session (decision version_1 old session c) o.told after
-  chosen_becomes stays = becomes_told old after session c o decided (subst (Comes version_1 old session o) stays (by_change o.change refl is (d.fits numbers whole)))
+  pub chosen_becomes : pointed o.point after ≡ after → Becomes limits_written old session (decision limits_written old session c) o.told after
+  chosen_becomes stays = becomes_told old after session c o decided (subst (Comes limits_written old session o) stays (by_change o.change refl is (d.fits numbers whole)))
 
   -- files stay
   stay_by : (change : Pending) → Chooses old.live kept change o.caller chosen → DoesToOld change → FilesStay old.live tree
@@ -217,8 +217,8 @@ module _ (old : World) (kept : ℕ → Bool) (session : ℕ) (c : Call) (o : Out
     by_kind (Makes directory name kind own) is of_old =
         let number = is.0 in
         let some = ap (λ (x : Chosen). x.change) is.2 in
-        let applied : made version_1 old.live (link_to directory name) number kind own ≡ Some tree = subst (λ (x : Option Change). MadeBy x old.live tree) some done in
-        let unused = (next_is_number version_1 old.live kept number whole.live.hierarchy.root (lit≤ tt) is.1).unused in
+        let applied : made limits_written old.live (link_to directory name) number kind own ≡ Some tree = subst (λ (x : Option Change). MadeBy x old.live tree) some done in
+        let unused = (next_is_number limits_written old.live kept number whole.live.hierarchy.root (lit≤ tt) is.1).unused in
         let only = λ (n : ℕ) (g : GivesOut old after n). only_made old (link_to directory name) number kind own tree applied n g.unused (new_in n g) in
         let given : GivesOut old after number = record { unused = unused; used = made_stays old (link_to directory name) number kind own tree applied session chosen.caller } in
         let by : (n : ℕ) → kept_by chosen.change kept n ≡ (kept n && not (kept number)) = (λ n. ap (λ (x : Option Change). kept_by x kept n) some) in
@@ -232,9 +232,9 @@ module _ (old : World) (kept : ℕ → Bool) (session : ℕ) (c : Call) (o : Out
         }
     by_kind (Does change) is of_old =
         let some = ap (λ (x : Chosen). x.change) is in
-        let applied : apply version_1 change old.live ≡ Some tree = subst (λ (x : Option Change). MadeBy x old.live tree) some done in
+        let applied : apply limits_written change old.live ≡ Some tree = subst (λ (x : Option Change). MadeBy x old.live tree) some done in
         without_new (done_stay change old.live tree of_old applied)
-        (λ n g. true≢false (sym (new_in n g) ∙ ap is_some (none_stays (map.get old.live.nodes n) (map.get tree.nodes n) (change_stays version_1 change old.live tree of_old applied n) g.unused)))
+        (λ n g. true≢false (sym (new_in n g) ∙ ap is_some (none_stays (map.get old.live.nodes n) (map.get tree.nodes n) (change_stays limits_written change old.live tree of_old applied n) g.unused)))
         (λ n. ap (λ (x : Option Change). kept_by x kept n) some ∙ old_keeps change kept n of_old)
 
     pub chosen_served : pointed o.point after ≡ after → IsServed old kept session c o.told after last
@@ -244,13 +244,13 @@ module _ (old : World) (kept : ℕ → Bool) (session : ℕ) (c : Call) (o : Out
   lost_by : (change : Pending) → Chooses old.live kept change o.caller chosen → DoesToOld change → OnlyLost (with_live old tree) chosen.lost
   lost_by Nothing is of_old =
       let same : tree ≡ old.live = subst (λ (x : Option Change). MadeBy x old.live tree) (ap (λ (x : Chosen). x.change) is) done in
-      subst (λ (x : Option ℕ). OnlyLost (with_live old tree) x) (sym (ap (λ (x : Chosen). x.lost) is)) (subst (λ (t : Tree). OnlyLost (with_live old t) None) (sym same) (no_loss version_1 old whole))
+      subst (λ (x : Option ℕ). OnlyLost (with_live old tree) x) (sym (ap (λ (x : Chosen). x.lost) is)) (subst (λ (t : Tree). OnlyLost (with_live old t) None) (sym same) (no_loss limits_written old whole))
   lost_by (Makes directory name kind own) is of_old =
-      let applied : made version_1 old.live (link_to directory name) is.0 kind own ≡ Some tree = subst (λ (x : Option Change). MadeBy x old.live tree) (ap (λ (x : Chosen). x.change) is.2) done in
-      subst (λ (x : Option ℕ). OnlyLost (with_live old tree) x) (sym (ap (λ (x : Chosen). x.lost) is.2)) (made_loss version_1 old tree whole directory name is.0 kind own applied)
+      let applied : made limits_written old.live (link_to directory name) is.0 kind own ≡ Some tree = subst (λ (x : Option Change). MadeBy x old.live tree) (ap (λ (x : Chosen). x.change) is.2) done in
+      subst (λ (x : Option ℕ). OnlyLost (with_live old tree) x) (sym (ap (λ (x : Chosen). x.lost) is.2)) (made_loss limits_written old tree whole directory name is.0 kind own applied)
   lost_by (Does change) is of_old =
-      let applied : apply version_1 change old.live ≡ Some tree = subst (λ (x : Option Change). MadeBy x old.live tree) (ap (λ (x : Chosen). x.change) is) done in
-      subst (λ (x : Option ℕ). OnlyLost (with_live old tree) x) (sym (ap (λ (x : Chosen). x.lost) is)) (done_loss version_1 old tree whole change of_old applied)
+      let applied : apply limits_written change old.live ≡ Some tree = subst (λ (x : Option Change). MadeBy x old.live tree) (ap (λ (x : Chosen). x.change) is) done in
+      subst (λ (x : Option ℕ). OnlyLost (with_live old tree) x) (sym (ap (λ (x : Chosen). x.lost) is)) (done_loss limits_written old tree whole change of_old applied)
 
   pub chosen_lost : OnlyLost (with_live old tree) chosen.lost
   chosen_lost = lost_by o.change is d.of_old
@@ -259,22 +259,22 @@ module _ (old : World) (kept : ℕ → Bool) (session : ℕ) (c : Call) (o : Out
   pub chosen_turns : (room : ℕ) → HasRoom o.caller room → CanTurn old.descriptors room session chosen.caller
   chosen_turns room has = told o.change is (d.fits numbers whole)
     where
-      told : (change : Pending) → Chooses old.live kept change o.caller chosen → FitsCaller version_1 old session change o.caller → CanTurn old.descriptors room session chosen.caller
+      told : (change : Pending) → Chooses old.live kept change o.caller chosen → FitsCaller limits_written old session change o.caller → CanTurn old.descriptors room session chosen.caller
       told Nothing is fits = subst (CanTurn old.descriptors room session) (sym (ap (λ (x : Chosen). x.caller) is)) (can_turn old session room whole.count Nothing o.caller fits has)
       told (Makes directory name kind own) is fits = subst (CanTurn old.descriptors room session) (sym (ap (λ (x : Chosen). x.caller) is.2)) (can_turn_filled old session room whole.count (Makes directory name kind own) o.caller is.0 fits has)
       told (Does change) is fits = subst (CanTurn old.descriptors room session) (sym (ap (λ (x : Chosen). x.caller) is)) (can_turn old session room whole.count (Does change) o.caller fits has)
 
   -- the tree is a name tree still
-  pub chosen_whole : IsTree version_1 tree
+  pub chosen_whole : IsTree limits_written tree
   chosen_whole = told chosen.change done
     where
-      told : (change : Option Change) → MadeBy change old.live tree → IsTree version_1 tree
-      told None e = subst (IsTree version_1) (sym e) whole.live
-      told (Some change) e = tree_kept version_1 change old.live tree whole.live e
+      told : (change : Option Change) → MadeBy change old.live tree → IsTree limits_written tree
+      told None e = subst (IsTree limits_written) (sym e) whole.live
+      told (Some change) e = tree_kept limits_written change old.live tree whole.live e
 
 -- what was served leaves a world
-pub served_whole : (old new : World) (session : ℕ) (c : Call) (answer : Reply) → Becomes version_1 old session (decision version_1 old session c) answer new → IsCall c → IsWorld version_1 old → IsWorld version_1 new
-served_whole old new session c answer h numbers whole = step_world version_1 old new session c answer (inl h) numbers whole
+pub served_whole : (old new : World) (session : ℕ) (c : Call) (answer : Reply) → Becomes limits_written old session (decision limits_written old session c) answer new → IsCall c → IsWorld limits_written old → IsWorld limits_written new
+served_whole old new session c answer h numbers whole = step_world limits_written old new session c answer (inl h) numbers whole
 
 -- a run goes on by one step
 pub run_more : {S : Type 0} (By : S → Event → Reply → S → Type 0) (old mid new : S) (events : List Event) (replies : List Reply) (e : Event) (reply : Reply) → RunBy By old events replies mid → By mid e reply new → RunBy By old (events ++ e ∷ []) (replies ++ reply ∷ []) new
@@ -284,7 +284,7 @@ run_more By old mid new (f ∷ events) [] e reply run step = absurd run
 run_more By old mid new (f ∷ events) (r ∷ replies) e reply run step = (run.0, run.1, run_more By run.0 mid new events replies e reply run.2 step)
 
 -- it is one of the machine
-pub machine_run : (old new : Numbered) (events : List Event) (replies : List Reply) → PlainRun old events replies new → Run OfMemory version_1 (Running old.world) events replies (Running new.world)
+pub machine_run : (old new : Numbered) (events : List Event) (replies : List Reply) → PlainRun old events replies new → Run OfMemory limits_written (Running old.world) events replies (Running new.world)
 machine_run old new [] [] run = ap (λ (n : Numbered). Running n.world) run
 machine_run old new [] (r ∷ replies) run = absurd run
 machine_run old new (e ∷ events) [] run = absurd run
@@ -294,9 +294,9 @@ machine_run old new (e ∷ events) (r ∷ replies) run = (Running run.0.world, r
 pub answered_step : (old new : Numbered) (session : ℕ) (c : Call) (reply : Reply) → IsServed old.world old.kept session c reply new.world new.kept → PlainStep old (event.Call session c) reply new
 answered_step old new session c reply h = record { step = (None, tt, record { next = new.world; becomes = h.0; runs = refl }); numbers = h.1 }
 
-pub refused_step : (old new : Numbered) (session : ℕ) (c : Call) (refusal : Refusal) → decision version_1 old.world session c ≡ Err refusal → new.world ≡ old.world → new.kept ≡ old.kept → PlainStep old (event.Call session c) (Refused refusal) new
+pub refused_step : (old new : Numbered) (session : ℕ) (c : Call) (refusal : Refusal) → decision limits_written old.world session c ≡ Err refusal → new.world ≡ old.world → new.kept ≡ old.kept → PlainStep old (event.Call session c) (Refused refusal) new
 refused_step old new session c refusal e same none = record {
-  step = (None, tt, record { next = new.world; becomes = subst (λ (d : Result Outcome Refusal). Becomes version_1 old.world session d (Refused refusal) new.world) (sym e) (refl, same); runs = refl });
+  step = (None, tt, record { next = new.world; becomes = subst (λ (d : Result Outcome Refusal). Becomes limits_written old.world session d (Refused refusal) new.world) (sym e) (refl, same); runs = refl });
   numbers = same_numbers session c old.world new.world old.kept new.kept same none;
 }
 
@@ -310,7 +310,7 @@ pub restart_step : (old new : Numbered) → new.world ≡ settle old.world → (
 restart_step old new settled none = record { step = (None, tt, (refl, ap (λ (w : World). Running w) settled)); numbers = restart_numbers old.world new.world old.kept new.kept settled none }
 
 -- a change that was tried leaves a name tree
-pub applied_tree : (result : Result (Unit {0}) ApplyError) (change : Change) (old new : Tree) → IsTree version_1 old → Applies result (apply version_1 change old) old new → IsTree version_1 new
-applied_tree (Ok _) change old new whole e = tree_kept version_1 change old new whole e
-applied_tree (Err lack.CannotApply) change old new whole e = subst (IsTree version_1) (sym e.1) whole
-applied_tree (Err lack.Memory) change old new whole e = subst (IsTree version_1) (sym e) whole
+pub applied_tree : (result : Result (Unit {0}) ApplyError) (change : Change) (old new : Tree) → IsTree limits_written old → Applies result (apply limits_written change old) old new → IsTree limits_written new
+applied_tree (Ok _) change old new whole e = tree_kept limits_written change old new whole e
+applied_tree (Err lack.CannotApply) change old new whole e = subst (IsTree limits_written) (sym e.1) whole
+applied_tree (Err lack.Memory) change old new whole e = subst (IsTree limits_written) (sym e) whole

@@ -7,7 +7,7 @@ use Rattle.std.specs.FinMap as fin
 use Rattle.sn_walk.specs.declared.object.Home.{Home}
 use Rattle.sn_walk.specs.declared.object.Home.TheVariants.{Frozen}
 use Rattle.sn_walk.specs.Views.{nothing}
-use Rattle.sn_limits.specs.Versions.{version_1}
+use Rattle.sn_limits.specs.Versions.{limits_written}
 use Rattle.sn_model.specs.declared.call.Call.{Call}
 use Rattle.sn_model.specs.FileCalls.{bytes_of}
 use Rattle.sn_model.specs.Seen.{names_if, seen_names}
@@ -54,13 +54,13 @@ pub no_keys : (tree : Tree) → fin.keys (plain_trees tree).frozen ≡ []
 no_keys tree = ap (list_map (λ (e : List ℕ × Tree). e.0)) (no_items (fin.entries (plain_trees tree).frozen) (sym (fin.len-entries (plain_trees tree).frozen) ∙ fin.len-empty (slice_cmp nat_cmp) Tree))
 
 -- what is shown of the tree in memory, with the sessions, is the world
-pub plain_shows : (w : PlainWorld) (v : PlainView) → v.tree.now ≡ w.tree → Shows (world_of w) (in_use_of w.sessions) (viewed_trees (plain_trees (live_of v.tree.now))) (has_room version_1 (live_of v.tree.now)) (seen_names version_1 (plain_trees (live_of v.tree.now))) (bytes_in (plain_trees (live_of v.tree.now)))
+pub plain_shows : (w : PlainWorld) (v : PlainView) → v.tree.now ≡ w.tree → Shows (world_of w) (in_use_of w.sessions) (viewed_trees (plain_trees (live_of v.tree.now))) (has_room limits_written (live_of v.tree.now)) (seen_names limits_written (plain_trees (live_of v.tree.now))) (bytes_in (plain_trees (live_of v.tree.now)))
 plain_shows w v e = record {
   sessions_are = refl;
   descriptors_are = refl;
   trees_are = ap (λ (t : NumberedTree). viewed_trees (plain_trees (live_of t))) e;
-  room_is = ap (λ (t : NumberedTree). has_room version_1 (live_of t)) e;
-  names_are = ap (λ (t : NumberedTree). seen_names version_1 (plain_trees (live_of t))) e;
+  room_is = ap (λ (t : NumberedTree). has_room limits_written (live_of t)) e;
+  names_are = ap (λ (t : NumberedTree). seen_names limits_written (plain_trees (live_of t))) e;
   bytes_are = ap (λ (t : NumberedTree). bytes_in (plain_trees (live_of t))) e;
 }
 

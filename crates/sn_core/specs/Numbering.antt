@@ -1,7 +1,7 @@
 -- Which number a new node gets from one event to the next, and which numbers are kept back.
 use Rattle.std.specs.Prelude.{◌≡◌, ℕ, Bool, true, false, ◌&&◌, ◌||◌, None, Some, is_some, is_none}
 use Rattle.std.specs.FinMap as map
-use Rattle.sn_limits.specs.Versions.{version_1}
+use Rattle.sn_limits.specs.Versions.{limits_written}
 use Rattle.sn_model.specs.declared.call.Event.{Event}
 use Rattle.sn_model.specs.declared.call.Event.TheVariants.{Call, Step, Restart}
 use Rattle.sn_model.specs.declared.change.Change.{Change}
@@ -27,7 +27,7 @@ gives_kept (SetAttributes number o) kept = false
 
 -- a new node has the least number that no node has and that isn't kept back, or where there is no other the least that no node has
 abbrev pub TakesNext : World → (ℕ → Bool) → World → Type 0
-TakesNext old kept new = (number : ℕ) → GivesOut old new number → next_number version_1 old.live kept ≡ Some number
+TakesNext old kept new = (number : ℕ) → GivesOut old new number → next_number limits_written old.live kept ≡ Some number
 
 -- a number whose node has gone
 abbrev pub has_gone : World → World → ℕ → Bool

@@ -1,6 +1,6 @@
 -- Runs of the machine that say which numbers new nodes get.
 use Rattle.std.specs.Prelude.{ℕ, Bool, false, List}
-use Rattle.sn_limits.specs.Versions.{version_1}
+use Rattle.sn_limits.specs.Versions.{limits_written}
 use Rattle.sn_model.specs.declared.call.Event.{Event}
 use Rattle.sn_model.specs.declared.reply.Reply.{Reply}
 use Rattle.sn_model.specs.World.{World, new_world}
@@ -17,7 +17,7 @@ abbrev pub new_numbered : Numbered
 new_numbered = record { world = new_world; kept = λ number. false }
 
 pub record PlainStep (old : Numbered) (e : Event) (reply : Reply) (new : Numbered) : Type 0 where
-  pub step : StepOf OfMemory version_1 (Running old.world) e reply (Running new.world)
+  pub step : StepOf OfMemory limits_written (Running old.world) e reply (Running new.world)
   pub numbers : Numbers e old.world old.kept new.world new.kept
 
 abbrev pub PlainRun : Numbered → List Event → List Reply → Numbered → Type 0

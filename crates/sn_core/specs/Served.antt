@@ -14,7 +14,7 @@ use Rattle.sn_model.specs.declared.outcome.Pending.{Pending}
 use Rattle.sn_model.specs.declared.outcome.Pending.TheVariants.{Nothing, Makes, Does}
 use Rattle.sn_model.specs.Tree.{Tree, least_unused}
 use Rattle.sn_model.specs.World.{World}
-use Rattle.sn_limits.specs.Versions.{version_1}
+use Rattle.sn_limits.specs.Versions.{limits_written}
 use Rattle.sn_model.specs.Calls.{ready}
 use Rattle.sn_model.specs.Settling.{loses}
 use Rattle.sn_model.specs.Steps.{Becomes, TakesMemory, decision, filled, with_live}
@@ -37,12 +37,12 @@ as_error (undecided.View f) = Memory
 
 -- why a call has no outcome
 abbrev pub HasNone : WorldError → World → ℕ → Call → Type 0
-HasNone (Refused r) world session c = decision version_1 world session c ≡ Err r
+HasNone (Refused r) world session c = decision limits_written world session c ≡ Err r
 HasNone Memory world session c = TakesMemory c × IsOk (ready world session c)
 
 -- what a call comes to
 abbrev pub Decides : World → ℕ → Call → Result Outcome WorldError → Type 0
-Decides world session c (Ok o) = decision version_1 world session c ≡ Ok o
+Decides world session c (Ok o) = decision limits_written world session c ≡ Ok o
 Decides world session c (Err e) = HasNone e world session c
 
 -- a run in memory keeps no tree but the live one, as if it found no memory for a snapshot's
@@ -55,29 +55,29 @@ memory_for (Thaws name) = Ok tt
 -- a number is left for a node that is to be made
 abbrev pub HasNumber : Tree → Pending → Type 0
 HasNumber tree Nothing = Unit {0}
-HasNumber tree (Makes directory name kind o) = least_unused version_1 tree ≢ None
+HasNumber tree (Makes directory name kind o) = least_unused limits_written tree ≢ None
 HasNumber tree (Does c) = Unit {0}
 
 -- what is pending, where a new node has the next number
 abbrev pub Chooses : Tree → (ℕ → Bool) → Pending → Caller → Chosen → Type 0
 Chooses tree kept Nothing caller chosen = chosen ≡ record { change = None; caller = caller; lost = None }
-Chooses tree kept (Makes directory name kind o) caller chosen = (number : ℕ) × (next_number version_1 tree kept ≡ Some number) × (chosen ≡ record { change = Some (Make directory name number kind o); caller = filled number caller; lost = None })
+Chooses tree kept (Makes directory name kind o) caller chosen = (number : ℕ) × (next_number limits_written tree kept ≡ Some number) × (chosen ≡ record { change = Some (Make directory name number kind o); caller = filled number caller; lost = None })
 Chooses tree kept (Does c) caller chosen = chosen ≡ record { change = Some c; caller = caller; lost = loses c tree }
 
 -- why a change isn't made
 abbrev pub LacksFor : ApplyError → Change → World → World → Type 0
-LacksFor lack.CannotApply c old new = (apply version_1 c old.live ≡ None) × (new ≡ old)
+LacksFor lack.CannotApply c old new = (apply limits_written c old.live ≡ None) × (new ≡ old)
 LacksFor lack.Memory c old new = new ≡ old
 
 -- a change of the live tree is made, or the world stays
 abbrev pub MakesChange : Result (Unit {0}) ApplyError → Change → World → World → Type 0
-MakesChange (Ok _) c old new = (tree : Tree) × (apply version_1 c old.live ≡ Some tree) × (new ≡ with_live old tree)
+MakesChange (Ok _) c old new = (tree : Tree) × (apply limits_written c old.live ≡ Some tree) × (new ≡ with_live old tree)
 MakesChange (Err e) c old new = LacksFor e c old new
 
 abbrev pub FailsTo : WorldError → World → ℕ → Call → World → Type 0
-FailsTo (Refused r) old session c new = (decision version_1 old session c ≡ Err r) × (new ≡ old)
+FailsTo (Refused r) old session c new = (decision limits_written old session c ≡ Err r) × (new ≡ old)
 FailsTo Memory old session c new = TakesMemory c × IsOk (ready old session c) × (new ≡ old)
 
 abbrev pub Serves : Numbered → ℕ → Call → Result Reply WorldError → Numbered → Type 0
-Serves old session c (Ok reply) new = Becomes version_1 old.world session (decision version_1 old.world session c) reply new.world × Numbers (event.Call session c) old.world old.kept new.world new.kept
+Serves old session c (Ok reply) new = Becomes limits_written old.world session (decision limits_written old.world session c) reply new.world × Numbers (event.Call session c) old.world old.kept new.world new.kept
 Serves old session c (Err e) new = FailsTo e old.world session c new.world × (new.kept ≡ old.kept)

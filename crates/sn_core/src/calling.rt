@@ -3,7 +3,7 @@ ghost use Rattle.std.specs.Prelude.{◌≡◌, ◌+◌, ◌<◌, ◌≤◌, ◌=
 ghost use Rattle.arrayvec.specs.ArrayVec.{array_vec_len};
 ghost use Rattle.sn_changed.specs.Dropped.{TellsGone};
 ghost use Rattle.sn_desc.specs.InUse.{live_in};
-ghost use Rattle.sn_limits.specs.Versions.{version_1};
+ghost use Rattle.sn_limits.specs.Versions.{limits_written};
 ghost use Rattle.sn_model.specs.NameTree.{IsTree};
 ghost use Rattle.sn_model.specs.Outcomes.{is_opening};
 ghost use Rattle.sn_model.specs.Settling.{OnlyLost, dropped, dropped_if, is_abandoned, is_held};
@@ -135,7 +135,7 @@ impl PlainWorld {
     /// change that was made. Only those are looked at. The numbers of the former are kept back. It tells
     /// the files that went, each once, and whether with the last descriptor.
     pub fn set_caller(&mut self, session: u32, caller: Caller, lost: Option<u16>) -> DroppedFiles
-        requires whole { IsTree version_1 (world_of self.old).live }
+        requires whole { IsTree limits_written (world_of self.old).live }
         requires opens { CanTurn (world_of self.old).descriptors (room_of self.old) session caller }
         requires lost { OnlyLost (world_of self.old) lost }
         ensures world { world_of self.new ≡ dropped (with_caller (world_of self.old) session caller) }

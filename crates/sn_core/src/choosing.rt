@@ -53,7 +53,7 @@ impl PlainWorld {
                 name,
                 kind,
                 ownership,
-            } => match self.tree.next_number(&Limits::VERSION_1) {
+            } => match self.tree.next_number(&Limits::WRITTEN) {
                 Some(number) => Chosen {
                     change: Some(Change::Make {
                         directory,

@@ -2,7 +2,7 @@ ghost use Rattle.std.specs.Prelude.{◌≡◌, ◌≢◌, ◌≤◌, [], IfOk, l
 ghost use Rattle.sn_core.specs.Plain.{numbered_of, world_of};
 ghost use Rattle.sn_model.specs.Machine.{Holds, OfMemory, WholeRun};
 ghost use Rattle.sn_model.specs.World.{new_world};
-ghost use Rattle.sn_limits.specs.Versions.{version_1};
+ghost use Rattle.sn_limits.specs.Versions.{limits_written};
 ghost use Rattle.sn_model.specs.Worlds.{IsWorld};
 ghost use Rattle.sn_core.specs.PlainRuns.{Numbered, PlainRun, new_numbered};
 
@@ -19,7 +19,7 @@ fn room_for(alloc: Global, count: usize) -> Result<Vec<Reply>, AllocError>
 
 /// Answers events in their order, into a list that has room for the replies.
 fn answer(alloc: Global, world: &mut PlainWorld, events: &[Event], replies: &mut Vec<Reply>)
-    requires whole { IsWorld version_1 (world_of world.old) }
+    requires whole { IsWorld limits_written (world_of world.old) }
     requires empty { replies.old.items ≡ [] }
     requires room { length events.now ≤ vec_capacity replies.old }
     ensures { PlainRun (numbered_of world.old) events.now replies.new.items (numbered_of world.new) }
@@ -40,7 +40,7 @@ fn answer(alloc: Global, world: &mut PlainWorld, events: &[Event], replies: &mut
 /// without either nothing is done. A run that finds none for the tree hands back the list with the
 /// room for all replies.
 pub fn run_plain(alloc: Global, events: &[Event]) -> (Vec<Reply>, End)
-    ensures run { WholeRun OfMemory version_1 (Holds new_world) events.now result.0.items result.1 }
+    ensures run { WholeRun OfMemory limits_written (Holds new_world) events.now result.0.items result.1 }
     ensures numbers { result.1 ≡ End.Clean → (last : Numbered) × PlainRun new_numbered events.now result.0.items last }
     ensures nothing { result.1 ≢ End.Clean → result.0.items ≡ [] }
     ensures mount { result.1 ≡ End.Mount MountFault.Memory → length events.now ≤ vec_capacity result.0 }

@@ -1,4 +1,4 @@
-ghost use Rattle.sn_limits.specs.Versions.{version_1};
+ghost use Rattle.sn_limits.specs.Versions.{limits_written};
 ghost use Rattle.sn_model.specs.NameTree.{IsTree};
 ghost use Rattle.sn_numbers.specs.Live.{live_of};
 
@@ -18,7 +18,7 @@ use std::convert::Infallible;
 #[derive(Drop)]
 pub(crate) struct PlainView<'a> {
     pub tree: &'a NumberedTree,
-    ghost whole: { ∥ IsTree version_1 (live_of tree.now) ∥₁ },
+    ghost whole: { ∥ IsTree limits_written (live_of tree.now) ∥₁ },
 }
 
 impl<'a> TreeView for PlainView<'a> {
@@ -90,22 +90,22 @@ impl<'a> CallView for PlainView<'a> {
     ghost use Rattle.sn_model.specs.Tests.{has_room};
     ghost use Rattle.sn_core.specs.Plain.{plain_trees};
 
-    ghost room = { λ v. has_room version_1 (live_of v.tree.now) };
+    ghost room = { λ v. has_room limits_written (live_of v.tree.now) };
 
     fn has_room(&mut self, directory: u16) -> Result<(), Failure<Refusal, Infallible>> {
-        match self.tree.has_room(&Limits::VERSION_1, directory) {
+        match self.tree.has_room(&Limits::WRITTEN, directory) {
             Ok(_) => Ok(()),
             Err(refusal) => Err(Failure::Refused(refusal)),
         }
     }
 
-    ghost names = { λ v. seen_names version_1 (plain_trees (live_of v.tree.now)) };
+    ghost names = { λ v. seen_names limits_written (plain_trees (live_of v.tree.now)) };
 
     fn has_room_for_name(&mut self, directory: u16) -> Result<(), Failure<Refusal, Infallible>> {
         match self
             .tree
             .tree()
-            .has_room_for_name(&Limits::VERSION_1, directory)
+            .has_room_for_name(&Limits::WRITTEN, directory)
         {
             Ok(()) => Ok(()),
             Err(refusal) => Err(Failure::Refused(refusal)),
@@ -116,9 +116,9 @@ impl<'a> CallView for PlainView<'a> {
         Ok(self.tree.tree().names_in(directory) == 0)
     }
 
-    ghost room_stays = { λ u v told e. ap (λ w. has_room version_1 (live_of w.tree.now)) e };
+    ghost room_stays = { λ u v told e. ap (λ w. has_room limits_written (live_of w.tree.now)) e };
 
-    ghost names_stay = { λ u v told e. ap (λ w. seen_names version_1 (plain_trees (live_of w.tree.now))) e };
+    ghost names_stay = { λ u v told e. ap (λ w. seen_names limits_written (plain_trees (live_of w.tree.now))) e };
 }
 
 impl<'a> MoveView for PlainView<'a> {

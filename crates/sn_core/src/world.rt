@@ -1,7 +1,7 @@
 ghost use Rattle.std.specs.Prelude.{◌≡◌, ℕ, false, IfOk, OnErr, OnOk};
 ghost use Rattle.sn_model.specs.NameTree.{IsTree};
 ghost use Rattle.sn_model.specs.Settling.{settle};
-ghost use Rattle.sn_limits.specs.Versions.{version_1};
+ghost use Rattle.sn_limits.specs.Versions.{limits_written};
 ghost use Rattle.sn_model.specs.Worlds.{IsWorld};
 ghost use Rattle.sn_core.specs.PlainRuns.{PlainStep};
 ghost use Rattle.sn_model.specs.World.{new_world};
@@ -25,7 +25,7 @@ pub struct PlainWorld {
     pub(crate) tree: NumberedTree,
     pub(crate) sessions: Sessions,
     // In a name tree alone the way up tells whether a directory is below another, as a rename asks.
-    ghost whole: { ∥ IsTree version_1 (live_of tree) ∥₁ },
+    ghost whole: { ∥ IsTree limits_written (live_of tree) ∥₁ },
 }
 
 /// Whether there is memory for what a point makes of the snapshots: for a new one's tree there is none.
@@ -46,7 +46,7 @@ impl PlainWorld {
         ensures world { IfOk result (λ w. world_of w ≡ new_world) }
         ensures kept { IfOk result (λ w. (n : ℕ) → kept_of w n ≡ false) }
         ensures since { IfOk result (λ w. (n : ℕ) → kept_since_of w n ≡ false) }
-        ensures whole { IfOk result (λ w. IsWorld version_1 (world_of w)) }
+        ensures whole { IfOk result (λ w. IsWorld limits_written (world_of w)) }
     {
         let tree = NumberedTree::new(alloc)?;
         let sessions = Sessions::new(alloc)?;
@@ -62,7 +62,7 @@ impl PlainWorld {
 
     /// Makes a change of the live tree.
     pub fn apply(&mut self, alloc: Global, change: &Change<'_>) -> Result<(), ApplyError>
-        requires { IsTree version_1 (world_of self.old).live }
+        requires { IsTree limits_written (world_of self.old).live }
         ensures made { MakesChange result change.now (world_of self.old) (world_of self.new) }
         ensures kept { OnOk result ((n : ℕ) → kept_of self.new n ≡ kept_after change.now (kept_of self.old) n) }
         ensures since { OnOk result ((n : ℕ) → kept_since_of self.new n ≡ since_after change.now (kept_of self.old) (kept_since_of self.old) n) }
@@ -70,7 +70,7 @@ impl PlainWorld {
         ensures same_since { OnErr result ((n : ℕ) → kept_since_of self.new n ≡ kept_since_of self.old n) }
         ensures room { room_of self.new ≡ room_of self.old }
     {
-        self.tree.apply(alloc, &Limits::VERSION_1, change)
+        self.tree.apply(alloc, &Limits::WRITTEN, change)
     }
 
     /// Logs all out, and takes all files away that no name stands for. No number is kept back any more.
@@ -84,9 +84,9 @@ impl PlainWorld {
     }
 
     fn served(&mut self, alloc: Global, session: u32, call: &Call) -> Result<Reply, WorldError>
-        requires { IsWorld version_1 (world_of self.old) }
+        requires { IsWorld limits_written (world_of self.old) }
         ensures served { Serves (numbered_of self.old) session call.now result (numbered_of self.new) }
-        ensures whole { IsWorld version_1 (world_of self.new) }
+        ensures whole { IsWorld limits_written (world_of self.new) }
     {
         let Outcome {
             change,
@@ -116,9 +116,9 @@ impl PlainWorld {
 
     /// Answers a call.
     fn call(&mut self, alloc: Global, session: u32, call: &Call) -> Reply
-        requires { IsWorld version_1 (world_of self.old) }
+        requires { IsWorld limits_written (world_of self.old) }
         ensures step { PlainStep (numbered_of self.old) (Event.Call session call.now) result (numbered_of self.new) }
-        ensures whole { IsWorld version_1 (world_of self.new) }
+        ensures whole { IsWorld limits_written (world_of self.new) }
     {
         match self.served(alloc, session, call) {
             Ok(reply) => reply,
@@ -129,9 +129,9 @@ impl PlainWorld {
 
     /// Unmounts and mounts: the tree stays, where no file is without a name.
     fn restart(&mut self) -> Reply
-        requires { IsWorld version_1 (world_of self.old) }
+        requires { IsWorld limits_written (world_of self.old) }
         ensures step { PlainStep (numbered_of self.old) Event.Restart result (numbered_of self.new) }
-        ensures whole { IsWorld version_1 (world_of self.new) }
+        ensures whole { IsWorld limits_written (world_of self.new) }
     {
         self.settle();
         Reply::Done
@@ -139,9 +139,9 @@ impl PlainWorld {
 
     /// Answers an event.
     pub fn answer(&mut self, alloc: Global, event: &Event) -> Reply
-        requires { IsWorld version_1 (world_of self.old) }
+        requires { IsWorld limits_written (world_of self.old) }
         ensures step { PlainStep (numbered_of self.old) event.now result (numbered_of self.new) }
-        ensures whole { IsWorld version_1 (world_of self.new) }
+        ensures whole { IsWorld limits_written (world_of self.new) }
     {
         match event {
             Event::Call { session, call } => self.call(alloc, *session, call),

@@ -6,7 +6,7 @@ use Rattle.std.specs.Cmp.Lexicographic.{same_text}
 use Rattle.std.specs.declared.cmp.Ordering.{Ordering}
 use Rattle.std.proofs.lemmas.Bool.{ltb-true}
 use Rattle.std.proofs.lemmas.Map.Entries.{length-keys_of}
-use Rattle.sn_limits.specs.Versions.{version_1}
+use Rattle.sn_limits.specs.Versions.{limits_written}
 use Rattle.sn_walk.specs.declared.fault.Failure.{Failure}
 use Rattle.sn_walk.specs.declared.fault.Failure.TheVariants as failure
 use Rattle.sn_walk.specs.declared.object.Home.{Home}
@@ -35,7 +35,7 @@ fails_on (failure.Fault f) test more h = tt
 keys_count : {K X : Type 0} {R : K → K → Ordering} (m : map.FinMap R X) → length (map.keys m) ≡ map.len m
 keys_count m = length-keys_of (map.entries m) ∙ sym (map.len-entries m)
 
-pub listed_count : (world : World) (names : SeenNames) (listed told : List (List ℕ)) → told ≡ listed → listed ≡ names.listed Snapshots → names ≡ seen_names version_1 (trees_of world) → length told ≡ map.len world.frozen
+pub listed_count : (world : World) (names : SeenNames) (listed told : List (List ℕ)) → told ≡ listed → listed ≡ names.listed Snapshots → names ≡ seen_names limits_written (trees_of world) → length told ≡ map.len world.frozen
 listed_count world names listed told same is seen = ap length (same ∙ is ∙ ap (λ (s : SeenNames). s.listed Snapshots) seen) ∙ keys_count world.frozen
 
 -- ---- an open file of a snapshot

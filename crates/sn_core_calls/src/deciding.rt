@@ -1,6 +1,6 @@
 //! What each call comes to.
 ghost use Rattle.std.specs.Prelude.{◌≡◌, ◌<◌, ◌^◌, ℕ, IsTrue, IfOk};
-ghost use Rattle.sn_limits.specs.Versions.{version_1};
+ghost use Rattle.sn_limits.specs.Versions.{limits_written};
 ghost use Rattle.sn_model.specs.Calls.{new_session};
 ghost use Rattle.sn_model.specs.declared.call.Call.{Call as TheCall};
 ghost use Rattle.sn_model.specs.Outcomes.{opens};
@@ -59,7 +59,7 @@ fn login(uid: u32, gid: u32, groups: &Groups) -> Outcome<'static>
 
 /// What a call comes to that asks nothing of the view.
 fn unviewed<'a, F>(answer: Result<Outcome<'a>, Refusal>) -> Result<Outcome<'a>, CallError<F>>
-    ensures decided { (world : World) → (session : ℕ) → (call : TheCall) → Answers (λ o. o) answer.entry (decision version_1 world session call) → Decides world session call result }
+    ensures decided { (world : World) → (session : ℕ) → (call : TheCall) → Answers (λ o. o) answer.entry (decision limits_written world session call) → Decides world session call result }
     ensures cause { IfView result (λ f. ⊥) }
     ensures numbers { (call : TheCall) → IfOk answer.entry (λ o. IsCall call) → IfOk result (λ o. IsCall call) }
 {
@@ -70,7 +70,7 @@ fn unviewed<'a, F>(answer: Result<Outcome<'a>, Refusal>) -> Result<Outcome<'a>, 
 }
 
 fn decide_umask(sessions: &Sessions, session: u32, mask: u16) -> Result<Outcome<'static>, Refusal>
-    ensures { (world : World) → Answers (λ o. o) result (decision version_1 (in_world (in_use_of sessions.now) world) session (Call.Umask mask)) }
+    ensures { (world : World) → Answers (λ o. o) result (decision limits_written (in_world (in_use_of sessions.now) world) session (Call.Umask mask)) }
 {
     let caller = logged_in(sessions, session)?;
     let mask = new_mode_argument(mask)?;
@@ -84,7 +84,7 @@ fn decide_of_session<'a>(
     call: &'a Call,
 ) -> Result<Outcome<'a>, Refusal>
     requires { group_of call.now ≡ Group.Sessions }
-    ensures decided { (world : World) → Answers (λ o. o) result (decision version_1 (in_world (in_use_of sessions.now) world) session call.now) }
+    ensures decided { (world : World) → Answers (λ o. o) result (decision limits_written (in_world (in_use_of sessions.now) world) session call.now) }
     ensures numbers { IfOk result (λ o. IsCall call.now) }
 {
     match call {

@@ -28,7 +28,7 @@ pub(crate) fn decide_rmdir<'a, V: FileView>(
 {
     let caller = logged_in(sessions, session)?;
     let path = path_argument(path)?;
-    decided(decide::rmdir(&Limits::VERSION_1, view, caller, &path))
+    decided(decide::rmdir(&Limits::WRITTEN, view, caller, &path))
 }
 
 pub(crate) fn decide_link<'a, V: FileView>(
@@ -48,7 +48,7 @@ pub(crate) fn decide_link<'a, V: FileView>(
     let caller = logged_in(sessions, session)?;
     let old = path_argument(old)?;
     let new = path_argument(new)?;
-    decided(decide::link(&Limits::VERSION_1, view, caller, &old, &new))
+    decided(decide::link(&Limits::WRITTEN, view, caller, &old, &new))
 }
 
 pub(crate) fn decide_rename<'a, V: FileView>(
@@ -68,7 +68,7 @@ pub(crate) fn decide_rename<'a, V: FileView>(
     let caller = logged_in(sessions, session)?;
     let old = path_argument(old)?;
     let new = path_argument(new)?;
-    decided(decide::rename(&Limits::VERSION_1, view, caller, &old, &new))
+    decided(decide::rename(&Limits::WRITTEN, view, caller, &old, &new))
 }
 
 pub(crate) fn decide_readdir<V: FileView>(

@@ -1,6 +1,6 @@
 //! What the calls come to that ask for a whole consistency point, and that which lists the snapshots.
 ghost use Rattle.std.specs.Prelude.{◌≡◌, IsTrue};
-ghost use Rattle.sn_limits.specs.Versions.{version_1};
+ghost use Rattle.sn_limits.specs.Versions.{limits_written};
 ghost use Rattle.sn_walk.specs.Gives.{Answers, Gives, IfFault};
 ghost use Rattle.sn_model.specs.declared.call.Call.TheVariants as call;
 ghost use Rattle.sn_model.specs.Outcomes.{points};
@@ -109,7 +109,7 @@ fn closed(sessions: &Sessions, name: &SnapshotName) -> Result<(), Refusal>
 }
 
 pub(crate) fn decide_sync(sessions: &Sessions, session: u32) -> Result<Outcome<'static>, Refusal>
-    ensures { (world : World) → Answers (λ o. o) result (decision version_1 (in_world (in_use_of sessions.now) world) session call.Sync) }
+    ensures { (world : World) → Answers (λ o. o) result (decision limits_written (in_world (in_use_of sessions.now) world) session call.Sync) }
 {
     logged_in(sessions, session)?;
     Ok(points(AskedPoint::Plain))
@@ -134,7 +134,7 @@ pub(crate) fn decide_snap_create<V: FileView>(
     user_0(&caller.cred)?;
     vacant(view, &name)?;
     let there = view.listed(alloc, &Object::Snapshots)?;
-    room_beside(&Limits::VERSION_1, there.as_slice().len())?;
+    room_beside(&Limits::WRITTEN, there.as_slice().len())?;
     Ok(points(AskedPoint::Freezes(name)))
 }
 

@@ -5,7 +5,7 @@ use Rattle.sn_walk.specs.declared.fault.Failure.TheVariants as failure
 use Rattle.sn_walk.specs.declared.object.Home.{Home}
 use Rattle.sn_walk.specs.Gives.{Fails, Gives, IfFault, OfFault}
 use Rattle.sn_walk.specs.Views.{ViewedTrees}
-use Rattle.sn_limits.specs.Versions.{version_1}
+use Rattle.sn_limits.specs.Versions.{limits_written}
 use Rattle.sn_model.specs.declared.call.Call.{Call}
 use Rattle.sn_model.specs.declared.outcome.Outcome.{Outcome}
 use Rattle.sn_model.specs.declared.reply.Refusal.{Refusal}
@@ -31,17 +31,17 @@ module _ {world : World} {used : InUse} {trees : ViewedTrees} {room : ℕ → Re
   shown_world = λ i. record { live = world.live; frozen = world.frozen; sessions = shows.sessions_are i; descriptors = shows.descriptors_are i }
 
   -- and what decisions are made over is what is seen of it
-  pub shown_seen : seen_by trees room names ≡ seen version_1 (in_world used world)
+  pub shown_seen : seen_by trees room names ≡ seen limits_written (in_world used world)
   shown_seen = λ i. record { trees = shows.trees_are i; room = shows.room_is i; names = shows.names_are i }
 
 -- ---- what decisions and look-ups failed with
 
 module _ {F : Type 0} (world : World) (session : ℕ) (c : Call) (may : MayLack world session c) where
-  pub failed : (e : Failure Refusal F) → Fails e (decision version_1 world session c) → HasNone (as_error e) world session c
+  pub failed : (e : Failure Refusal F) → Fails e (decision limits_written world session c) → HasNone (as_error e) world session c
   failed (failure.Refused r) fails = fails
   failed (failure.Fault f) fails = may
 
-  pub gives_decided : (given : Result Outcome (Failure Refusal F)) → Gives (λ o. o) given (decision version_1 world session c) → Decides world session c (answer_of given)
+  pub gives_decided : (given : Result Outcome (Failure Refusal F)) → Gives (λ o. o) given (decision limits_written world session c) → Decides world session c (answer_of given)
   gives_decided (Ok o) gives = gives
   gives_decided (Err e) gives = failed e gives
 

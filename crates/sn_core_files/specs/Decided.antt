@@ -2,7 +2,7 @@
 use Rattle.std.specs.Prelude.{◌≡◌, ℕ, List, Result, Ok, Err, IsOk}
 use Rattle.sn_walk.specs.declared.object.Home.{Home}
 use Rattle.sn_walk.specs.Views.{ViewedTrees}
-use Rattle.sn_limits.specs.Versions.{version_1}
+use Rattle.sn_limits.specs.Versions.{limits_written}
 use Rattle.sn_model.specs.declared.call.Call.{Call}
 use Rattle.sn_model.specs.declared.outcome.Outcome.{Outcome}
 use Rattle.sn_model.specs.declared.reply.Refusal.{Refusal}
@@ -21,13 +21,13 @@ MayLack world session c = TakesMemory c × IsOk (ready world session c)
 
 -- why a call has no outcome: it is refused, or it lacks memory or what the view didn't tell
 abbrev pub HasNone : {F : Type 0} → CallError F → World → ℕ → Call → Type 0
-HasNone (Refused r) world session c = decision version_1 world session c ≡ Err r
+HasNone (Refused r) world session c = decision limits_written world session c ≡ Err r
 HasNone Memory world session c = MayLack world session c
 HasNone (View f) world session c = MayLack world session c
 
 -- what a call comes to
 abbrev pub Decides : {F : Type 0} → World → ℕ → Call → Result Outcome (CallError F) → Type 0
-Decides world session c (Ok o) = decision version_1 world session c ≡ Ok o
+Decides world session c (Ok o) = decision limits_written world session c ≡ Ok o
 Decides world session c (Err e) = HasNone e world session c
 
 -- the same over all that sessions and a view show, the sessions put into the world

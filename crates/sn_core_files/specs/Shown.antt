@@ -4,7 +4,7 @@ use Rattle.std.specs.FinMap as map
 use Rattle.std.specs.Option.{option_and_then}
 use Rattle.sn_walk.specs.declared.object.Home.{Home}
 use Rattle.sn_walk.specs.Views.{ViewedTrees}
-use Rattle.sn_limits.specs.Versions.{version_1}
+use Rattle.sn_limits.specs.Versions.{limits_written}
 use Rattle.sn_model.specs.declared.reply.Refusal.{Refusal}
 use Rattle.sn_model.specs.FileCalls.{bytes_of}
 use Rattle.sn_model.specs.Seen.{SeenNames, seen_names}
@@ -25,6 +25,6 @@ pub record Shows (world : World) (used : InUse) (trees : ViewedTrees) (room : �
   pub sessions_are : used.sessions ≡ world.sessions
   pub descriptors_are : used.descriptors ≡ world.descriptors
   pub trees_are : trees ≡ viewed_trees (trees_of world)
-  pub room_is : room ≡ has_room version_1 world.live
-  pub names_are : names ≡ seen_names version_1 (trees_of world)
+  pub room_is : room ≡ has_room limits_written world.live
+  pub names_are : names ≡ seen_names limits_written (trees_of world)
   pub bytes_are : bytes ≡ bytes_in (trees_of world)

@@ -1,7 +1,7 @@
 //! What the calls on files come to: beside the tests of the session and of the arguments those of the
 //! descriptor, and what `sn_core_decide` decides over names.
 ghost use Rattle.std.specs.Prelude.{◌≡◌, ◌<◌, ◌≤◌, ◌+◌, IsTrue, length, take, drop, IfOk, IfErr};
-ghost use Rattle.sn_limits.specs.Versions.{version_1};
+ghost use Rattle.sn_limits.specs.Versions.{limits_written};
 ghost use Rattle.sn_model.specs.declared.call.Call.TheVariants as call;
 ghost use Rattle.sn_model.specs.FileCalls as calls;
 ghost use Rattle.sn_model.specs.Steps.{decision};
@@ -30,11 +30,11 @@ use std::alloc::Global;
 
 /// Where bytes end that begin at an offset. It is EFBIG where no file can be so large.
 fn end_of(offset: u64, count: u64) -> Result<u64, Refusal>
-    ensures fits { Answers (λ _. tt) result (calls.is_size version_1 (offset + count)) }
+    ensures fits { Answers (λ _. tt) result (calls.is_size limits_written (offset + count)) }
     ensures end { IfOk result (λ end. end ≡ offset + count) }
 {
     match offset.checked_add(count) {
-        Some(end) if end <= Limits::VERSION_1.largest_file => Ok(end),
+        Some(end) if end <= Limits::WRITTEN.largest_file => Ok(end),
         _ => Err(Refusal::plain(Errno::Efbig)),
     }
 }
@@ -48,13 +48,13 @@ fn write_some<'a>(
     bytes: &'a [u8],
 ) -> Result<Outcome<'a>, Refusal>
     requires { 0 < length bytes.now }
-    ensures { Answers (λ o. o) result (calls.write_some version_1 fd number offset bytes.now) }
+    ensures { Answers (λ o. o) result (calls.write_some limits_written fd number offset bytes.now) }
 {
     let count = bytes.len() as u64;
     let end = end_of(offset, count)?;
     let blocks = blocks_spanned(offset, bytes.len());
     Ok(Outcome {
-        charge: write_charge(&Limits::VERSION_1, blocks) as u64,
+        charge: write_charge(&Limits::WRITTEN, blocks) as u64,
         change: Pending::Does(Change::Write {
             number,
             offset,
@@ -68,7 +68,7 @@ fn write_some<'a>(
 
 /// What logout comes to: all descriptors of the session are closed, and its number is free.
 pub fn decide_logout(sessions: &Sessions, session: u32) -> Result<Outcome<'static>, Refusal>
-    ensures { (world : World) → Answers (λ o. o) result (decision version_1 (in_world (in_use_of sessions.now) world) session call.Logout) }
+    ensures { (world : World) → Answers (λ o. o) result (decision limits_written (in_world (in_use_of sessions.now) world) session call.Logout) }
 {
     logged_in(sessions, session)?;
     Ok(asks(Caller::LogsOut, Reply::Done))
@@ -91,7 +91,7 @@ pub fn decide_unlink<'a, V: FileView>(
 {
     let caller = logged_in(sessions, session)?;
     let path = path_argument(path)?;
-    decided(decide::unlink(&Limits::VERSION_1, view, caller, &path))
+    decided(decide::unlink(&Limits::WRITTEN, view, caller, &path))
 }
 
 /// What open comes to: a descriptor for a file that is there, or for one that is made (POSIX.1-2017 `open`). The rights
@@ -118,14 +118,14 @@ pub fn decide_open<'a, V: FileView>(
     let flags = flags_argument(flags)?;
     let mode = new_mode_argument(mode)?;
     let fd = sessions.next_descriptor(session)?;
-    decided(decide::open(&Limits::VERSION_1, view, caller, fd, &path, flags, mode))
+    decided(decide::open(&Limits::WRITTEN, view, caller, fd, &path, flags, mode))
 }
 
 /// What close comes to: the descriptor goes, and with the last one of a file without names the file (POSIX.1-2017 `close`).
 /// EBADF comes where the session has no such descriptor.
 #[tactic(auto, unfolding(sn_model::specs::FileCalls::close_outcome))]
 pub fn decide_close(sessions: &Sessions, session: u32, fd: u32) -> Result<Outcome<'static>, Refusal>
-    ensures { (world : World) → Answers (λ o. o) result (decision version_1 (in_world (in_use_of sessions.now) world) session (call.Close fd)) }
+    ensures { (world : World) → Answers (λ o. o) result (decision limits_written (in_world (in_use_of sessions.now) world) session (call.Close fd)) }
 {
     logged_in(sessions, session)?;
     sessions.get(session, fd)?;
@@ -237,11 +237,11 @@ pub fn decide_seek(
     fd: u32,
     offset: u64,
 ) -> Result<Outcome<'static>, Refusal>
-    ensures { (world : World) → Answers (λ o. o) result (decision version_1 (in_world (in_use_of sessions.now) world) session (call.Seek fd offset)) }
+    ensures { (world : World) → Answers (λ o. o) result (decision limits_written (in_world (in_use_of sessions.now) world) session (call.Seek fd offset)) }
 {
     logged_in(sessions, session)?;
     sessions.get(session, fd)?;
-    if offset > Limits::VERSION_1.largest_file {
+    if offset > Limits::WRITTEN.largest_file {
         return Err(Refusal::plain(Errno::Einval));
     }
     Ok(asks(Caller::Moves { fd, offset }, Reply::Number(offset)))
@@ -256,14 +256,14 @@ pub fn decide_ftruncate(
     fd: u32,
     size: u64,
 ) -> Result<Outcome<'static>, Refusal>
-    ensures { (world : World) → Answers (λ o. o) result (decision version_1 (in_world (in_use_of sessions.now) world) session (call.Ftruncate fd size)) }
+    ensures { (world : World) → Answers (λ o. o) result (decision limits_written (in_world (in_use_of sessions.now) world) session (call.Ftruncate fd size)) }
 {
     logged_in(sessions, session)?;
     let file = sessions.writable(session, fd)?;
     let size = end_of(size, 0)?;
     let number = file.number;
     Ok(does(
-        size_charge(&Limits::VERSION_1),
+        size_charge(&Limits::WRITTEN),
         Change::SetSize { number, size },
     ))
 }

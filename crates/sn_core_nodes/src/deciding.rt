@@ -35,7 +35,7 @@ pub fn decide_mkdir<'a, V: FileView>(
     let caller = logged_in(sessions, session)?;
     let path = path_argument(path)?;
     let mode = new_mode_argument(mode)?;
-    decided(decide::mkdir(&Limits::VERSION_1, view, caller, &path, mode))
+    decided(decide::mkdir(&Limits::WRITTEN, view, caller, &path, mode))
 }
 
 /// What chmod comes to: what the owner and user 0 may set of the mode (POSIX.1-2017 `chmod`).
@@ -56,7 +56,7 @@ pub fn decide_chmod<V: FileView>(
     let caller = logged_in(sessions, session)?;
     let path = path_argument(path)?;
     let bits = mode_bits_argument(mode)?;
-    decided(access::chmod(&Limits::VERSION_1, view, caller, &path, bits))
+    decided(access::chmod(&Limits::WRITTEN, view, caller, &path, bits))
 }
 
 /// What chown comes to: another owner by user 0 alone, another group by its members (POSIX.1-2017 `chown`).
@@ -79,7 +79,7 @@ pub fn decide_chown<V: FileView>(
     let path = path_argument(path)?;
     let uid = id_argument(uid)?;
     let gid = id_argument(gid)?;
-    decided(access::chown(&Limits::VERSION_1, view, caller, &path, uid, gid))
+    decided(access::chown(&Limits::WRITTEN, view, caller, &path, uid, gid))
 }
 
 /// What stat comes to: what is known of a node (POSIX.1-2017 `stat`).
@@ -163,5 +163,5 @@ pub fn decide_setacl<V: FileView>(
     let caller = logged_in(sessions, session)?;
     let path = path_argument(path)?;
     let acl = acl_argument(kind, acl)?;
-    decided(access::setacl(&Limits::VERSION_1, view, caller, &path, acl))
+    decided(access::setacl(&Limits::WRITTEN, view, caller, &path, acl))
 }

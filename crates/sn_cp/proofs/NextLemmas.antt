@@ -32,7 +32,7 @@ frozen_stay s r root same =
 
 pub next_opens : (w : Work) (s : Store) (root : RootBody) (trees : Trees) (tree : Tree) (third fourth : List Change) (c : Contents)
     → IsBuilt w.blocks s root trees w.plan → AreSpelled third → AreSpelled fourth
-    → apply_all root.limits (third ++ fourth) trees.live ≡ Some tree
+    → apply_all w.plan.next.limits (third ++ fourth) trees.live ≡ Some tree
     → ShowsNext w s root third fourth c → Opens w.blocks c (found tree trees.frozen)
 next_opens w s root trees tree third fourth c built third_spelled fourth_spelled applied next =
     let live = built.tree (store_of c) next.same next.blocks in
@@ -46,13 +46,13 @@ next_opens w s root trees tree third fourth c built third_spelled fourth_spelled
       shown = next.shown;
       stands = record {
         tree = tree;
-        applied = (λ i. apply_all (built.limits i) (third ++ fourth) (live i)) ∙ applied;
+        applied = ap (apply_all w.plan.next.limits (third ++ fourth)) live ∙ applied;
         settles = ap (found tree) (sym (built.frozen (store_of c) next.same next.blocks));
       };
     }
 
 pub done_points_stand : (w : Work) (s : Store) (root : RootBody) (trees : Trees) (newer : List Change) (d : Disk) → AreSectors (reads d)
     → IsBuilt w.blocks s root trees w.plan → StandsAtStage w Done d → Always d (ShowsNext w s root newer [])
-    → NextStands w.blocks w.slot root.limits w.plan.next newer trees.live d
+    → NextStands w.blocks w.slot w.plan.next.limits w.plan.next newer trees.live d
 done_points_stand w s root trees newer d sectors built stands next =
     done_stands w.blocks s w.slot root newer trees w.plan d sectors stands.reached.1 built stands.reached.0 (λ c crash. (next c crash).same) (λ c crash. (next c crash).shown)

@@ -96,14 +96,14 @@ LogKeepsTheStage = (w : Work) (stage : Stage) (epoch : ℕ) (old new : Disk) →
 abbrev pub NextRootsOpen : Type 0
 NextRootsOpen = (w : Work) (s : Store) (root : RootBody) (trees : Trees) (tree : Tree) (third fourth : List Change) (c : Contents)
     → IsBuilt w.blocks s root trees w.plan → AreSpelled third → AreSpelled fourth
-    → apply_all root.limits (third ++ fourth) trees.live ≡ Some tree
+    → apply_all w.plan.next.limits (third ++ fourth) trees.live ≡ Some tree
     → ShowsNext w s root third fourth c → Opens w.blocks c (found tree trees.frozen)
 
 -- Once the point is done, the store in which the next root was made is what is read, and what was built is sound there.
 abbrev pub DonePointsStand : Type 0
 DonePointsStand = (w : Work) (s : Store) (root : RootBody) (trees : Trees) (newer : List Change) (d : Disk) → AreSectors (reads d)
     → IsBuilt w.blocks s root trees w.plan → StandsAtStage w Done d → Always d (ShowsNext w s root newer [])
-    → NextStands w.blocks w.slot root.limits w.plan.next newer trees.live d
+    → NextStands w.blocks w.slot w.plan.next.limits w.plan.next newer trees.live d
 
 -- ---- all steps in a row
 

@@ -7,7 +7,7 @@ use Rattle.std.proofs.lemmas.List.Elements.{All-contains, All-contains_itself, A
 use Rattle.sn_alloc.specs.Taking.{IsFreeData, Taking, nothing_taken}
 use Rattle.sn_image.specs.Reach.{reach}
 use Rattle.sn_image.specs.Sound.{IsInodeFile}
-use Rattle.sn_image.proofs.SoundNodeLemmas.{only_version}
+use Rattle.sn_limits.proofs.VersionLemmas.{fixed}
 use Rattle.sn_inode.specs.Changes.{ChangesInodes, IsWith}
 use Rattle.sn_inode.specs.declared.changes.InodeChange.{InodeChange}
 use Rattle.sn_layout.specs.Geometry.{start_of}
@@ -38,7 +38,7 @@ use Rattle.sn_cp_build.proofs.NeedLemmas.{few_needed}
 -- ---- the inode file
 
 whole_blocks : (limits : Limits) → limits_of limits.version ≡ Some limits → (limits.largest_number + 1) % 32 ≡ 0
-whole_blocks limits version = subst (λ (l : Limits). (l.largest_number + 1) % 32 ≡ 0) (only_version limits version) refl
+whole_blocks limits version = ap (λ (k : ℕ). (k + 1) % 32) (fixed limits.version limits version).number
 
 module _ (Told : Type 0) (limits : Limits) (s t : Store) (file : BlockTree) (layer : Layer) (old between after : Draft) (planned sliced : List InodeChange) where
   with_there : (new : BlockTree) → (Told → t ≡ s) → sliced ≡ planned → IsWith Told limits t file new sliced between after → IsWith Told limits s file new planned between after

@@ -13,10 +13,13 @@ use Rattle.sn_layout.specs.declared.tree.BlockTree.{BlockTree}
 use Rattle.sn_layout.specs.Geometry.{IsIn, map_blocks, start_of}
 use Rattle.sn_layout.specs.RootBody.{IsRootBody}
 use Rattle.sn_limits.specs.declared.limits.Limits.{Limits}
+use Rattle.sn_limits.specs.Versions.{limits_written}
+use Rattle.sn_limits.proofs.VersionLemmas.{written_allows}
 use Rattle.sn_model.specs.declared.outcome.AskedPoint.{AskedPoint}
 use Rattle.sn_image.specs.Image.{image}
 use Rattle.sn_image.specs.Reach.{reach}
 use Rattle.sn_image.specs.Sound.{IsSound}
+use Rattle.sn_image.proofs.AllowedLemmas.{sound_stays}
 use Rattle.sn_image.proofs.FootprintLemmas.{roots_depend}
 use Rattle.sn_ondisk.specs.TreeLaws.{SameIn}
 use Rattle.sn_ondisk.specs.Trees.{Store}
@@ -145,6 +148,12 @@ module _ (n : ℕ) (s : Store) (root : RootBody) (words : List ℕ) (layer : Lay
       told more (inr (inl made)) = inl (made.alone k.inodes more)
       told more (inr (inr goes)) = absurd (goes.none k.inodes more)
 
+  -- what is sound under the root's limits is so under those that are written
+  written_sound : (r : Store) (inodes : BlockTree) → IsSound root.limits n r inodes → IsSound next.limits n r inodes
+  written_sound r inodes is =
+      subst (λ (l : Limits). IsSound l n r inodes) (sym of.limits)
+      (sound_stays root.limits limits_written (written_allows root.limits.version root.limits of.root_body.version) n r inodes is)
+
   module _ (r : Store) (same : SameIn (all_reach s root) s r) (holds : HoldsAll r (plan_of built next).blocks) where
     frozen : IsFrozen n root.limits s root.inode_file layer built r
     frozen = of.builds of.ground of.tells r (λ block among. same block (Contains-append_left (reach s root.inode_file) (frozen_reach s root.snapshots) block among)) (holds_same r built.blocks.items holds)
@@ -183,7 +192,7 @@ module _ (n : ℕ) (s : Store) (root : RootBody) (words : List ℕ) (layer : Lay
         (of_next k by.among)
 
     sound_of : (k : Rooted) → Contains (rooted_in next) k → IsSound next.limits n r k.inodes
-    sound_of k among = subst (λ (l : Limits). IsSound l n r k.inodes) (sym of.limits) (⊎_elim
+    sound_of k among = written_sound r k.inodes (⊎_elim
         (λ (new : k.inodes ≡ next.inode_file). subst (IsSound root.limits n r) (sym new) live_sound)
         (λ old. sound_depends s r k.inodes (old_alike k old) root.limits n (of.sound.roots k (more_among (record { bit = 0; inodes = root.inode_file }) (map frozen_root root.snapshots) k old)))
         (of_next k among))
@@ -251,7 +260,6 @@ module _ (n : ℕ) (s : Store) (root : RootBody) (words : List ℕ) (layer : Lay
   pub builds_are_built : IsBuilt n s root (trees_behind asked (record { live = through layer (image s root.inode_file); frozen = frozen_of s root.snapshots })) (plan_of built next)
   builds_are_built = record {
     fits = of.body;
-    limits = of.limits;
     later = omega (arith, of.generation);
     place = place_all n words of.count built.blocks.items of.well.free;
     apart = λ b among reached. let free = free_of n words of.count built.blocks.items of.well.free b among in free_apart n s root words b.0 of.sound of.count free.within free.free reached;
@@ -259,6 +267,6 @@ module _ (n : ℕ) (s : Store) (root : RootBody) (words : List ℕ) (layer : Lay
     whole = of.whole;
     tree = tree_is;
     frozen = λ r same holds. frozen_follow asked bit s r root next (through layer (image s root.inode_file)) same of.snapshots (tree_is r same holds);
-    sound = live_sound;
+    sound = λ r same holds. written_sound r next.inode_file (live_sound r same holds);
     reach = reaches;
   }

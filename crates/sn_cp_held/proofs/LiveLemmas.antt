@@ -24,7 +24,7 @@ use Rattle.sn_layout.specs.declared.root.RootBody.{RootBody}
 use Rattle.sn_layout.specs.Geometry.{other_slot, start_of}
 use Rattle.sn_layout.specs.RootBody.{IsRootBody}
 use Rattle.sn_limits.specs.declared.limits.Limits.{Limits}
-use Rattle.sn_limits.specs.Versions.{version_1}
+use Rattle.sn_limits.specs.Versions.{limits_written}
 use Rattle.sn_map.specs.Free.{is_free_word}
 use Rattle.sn_model.specs.NameTree.{IsTree}
 use Rattle.sn_model.specs.declared.outcome.AskedPoint.{AskedPoint}
@@ -120,7 +120,7 @@ module _ (n : ℕ) (c : Contents) (world : World) (k : Kept) (st : StandsKept n 
   whole_blocks block among = data_whole c n block st.disk.whole st.disk.long (sound.placed.within block among)
 
   is_tree : (tree : Tree) → tree ≡ world.live → IsTree k.root.limits tree
-  is_tree tree is = subst (λ (l : Limits). IsTree l tree) (sym st.limits) (subst (IsTree version_1) (sym is) st.tree)
+  is_tree tree is = subst (IsTree k.root.limits) (sym is) st.tree
 
   ground : IsGround k.root.limits n s k.root.inode_file k.changed
   ground = record {
@@ -150,19 +150,14 @@ module _ (n : ℕ) (c : Contents) (world : World) (k : Kept) (st : StandsKept n 
   is_free = words_counted is_free_word k.words (start_of n Data) n count data_within ∙ sym (free_counted n s k.root (slice_index k.words) st.sound)
 
   -- what changed fits, with a charge for each live file without names
-  fitting : need version_1 k.changed + version_1.inode_charge * nameless_in world.live ≤ free_blocks n s k.root
-  fitting = builds_fit version_1 k.changed (image s k.root.inode_file) world.live st.charged (free_blocks n s k.root) st.changed st.fits
+  fitting : need k.root.limits k.changed + k.root.limits.inode_charge * nameless_in world.live ≤ free_blocks n s k.root
+  fitting = builds_fit k.root.limits k.changed (image s k.root.inode_file) world.live st.charged (free_blocks n s k.root) st.changed st.fits
 
   pub kept_can_be_built : CanBeBuilt n now k
   kept_can_be_built = record {
     ground = ground_now;
     tells = subst (TellsBlocks k.words) (sym depends.reach) tells;
-    fits = omega (
-      arith,
-      ap (λ (l : Limits). need l k.changed) st.limits,
-      fitting,
-      is_free,
-    );
+    fits = omega (arith, fitting, is_free);
   }
 
   module _ (kind : PointKind) (asked : AskedPoint) (bit : ℕ) (built : Built) (next : RootBody) (x : IsBuiltOf n c kind k asked bit built next) where
@@ -215,20 +210,21 @@ module _ (n : ℕ) (c : Contents) (world : World) (k : Kept) (st : StandsKept n 
       pub new_tree : image t next.inode_file ≡ world.live
       new_tree = made.tree t same holds
 
-      pub charged : IsCharged (room_behind n built) n t next [] world.live
+      -- what is kept of the room is charged of it, where files without names are charged no more under the written limits
+      pub charged : limits_written.inode_charge * nameless_in world.live ≤ k.root.limits.inode_charge * nameless_in world.live → IsCharged (room_behind n built) n t next [] world.live
       unfolding charges_from
-      charged = record {
+      charged no_more = record {
         free = new_free;
         charged = refl;
         parked = omega (arith, ap nameless_in new_tree);
         fits = omega (
           arith,
           ap nameless_in new_tree,
+          no_more,
           fitting,
           new_free,
           builds_leave_room n s k.root k.words k.changed asked bit built next of_build t same holds,
           of_build.well.few,
-          ap (λ (l : Limits). need l k.changed) st.limits,
         );
       }
 
@@ -251,6 +247,10 @@ module _ (h : Held) (world : World) (k : Kept) (rr : RunsReady h world k) where
   abbrev r : Runs h world
   r = rr.runs
 
+  -- its root has the written limits
+  pub limits_kept : k.root.limits ≡ limits_written
+  limits_kept = ap (λ (b : RootBody). b.limits) rr.ready.root ∙ r.limits
+
   abbrev pub stands_kept : StandsKept h.at.blocks (reads h.disk) world k
   stands_kept = record {
     store = r.store;
@@ -265,13 +265,14 @@ module _ (h : Held) (world : World) (k : Kept) (rr : RunsReady h world k) where
         (Always-reads h.disk (λ c. HasMap h.at.blocks c r.slot r.words) r.stands.disk.whole r.stands.map));
     sound = subst (λ (b : RootBody). IsSoundRoot h.at.blocks r.store b (slice_index k.words)) (sym rr.ready.root)
         (subst (λ (ws : List ℕ). IsSoundRoot h.at.blocks r.store r.root (slice_index ws)) (sym rr.ready.words) r.stands.sound);
-    limits = ap (λ (b : RootBody). b.limits) rr.ready.root ∙ r.limits;
     frozen = subst (λ (b : RootBody). world.frozen ≡ frozen_of r.store b.snapshots) (sym rr.ready.root) r.frozen;
     charged = h.room.charged;
-    changed = subst (λ (b : RootBody). HasChanged version_1 k.changed (image r.store b.inode_file) world.live h.room.charged) (sym rr.ready.root) rr.ready.changed;
-    fits = subst (λ (b : RootBody). h.room.charged + version_1.inode_charge * nameless_in (image r.store b.inode_file) ≤ free_blocks h.at.blocks r.store b) (sym rr.ready.root)
-        (omega (arith, r.charged.charged, r.charged.fits, r.charged.free));
-    tree = rr.ready.tree;
+    changed = subst (λ (l : Limits). HasChanged l k.changed (image r.store k.root.inode_file) world.live h.room.charged) (sym limits_kept)
+        (subst (λ (b : RootBody). HasChanged limits_written k.changed (image r.store b.inode_file) world.live h.room.charged) (sym rr.ready.root) rr.ready.changed);
+    fits = subst (λ (l : Limits). h.room.charged + l.inode_charge * nameless_in (image r.store k.root.inode_file) ≤ free_blocks h.at.blocks r.store k.root) (sym limits_kept)
+        (subst (λ (b : RootBody). h.room.charged + limits_written.inode_charge * nameless_in (image r.store b.inode_file) ≤ free_blocks h.at.blocks r.store b) (sym rr.ready.root)
+        (omega (arith, r.charged.charged, r.charged.fits, r.charged.free)));
+    tree = subst (λ (l : Limits). IsTree l world.live) (sym limits_kept) rr.ready.tree;
   }
 
   pub can_be_built : CanBeBuilt h.at.blocks (store_of (reads h.disk)) k
@@ -281,14 +282,18 @@ module _ (h : Held) (world : World) (k : Kept) (rr : RunsReady h world k) where
     here : (t : Store) → SameIn (all_reach r.store r.root) r.store t → SameIn (all_reach r.store k.root) r.store t
     here t same = subst (λ (b : RootBody). SameIn (all_reach r.store b) r.store t) (sym rr.ready.root) same
 
+    -- files without names are charged as they were
+    no_more : limits_written.inode_charge * nameless_in world.live ≤ k.root.limits.inode_charge * nameless_in world.live
+    no_more = omega (arith, ap (λ (l : Limits). l.inode_charge * nameless_in world.live) limits_kept)
+
     pub of_live : IsOfLive h world r asked (work_for h.at.blocks k gate built next) (room_behind h.at.blocks built)
     of_live = record {
       whole = whole_work h.at.blocks (reads h.disk) world k stands_kept Ordinary asked bit built next x (other_slot k.slot) gate;
       blocks = refl;
       slot = ap other_slot (sym rr.ready.slot);
-      follows = subst (λ (b : RootBody). IsFollowing Ordinary b next) rr.ready.root (record { generation = ap (λ (b : RootBody). b.generation) x.is; epoch = ap (λ (b : RootBody). b.epoch) x.is });
+      follows = subst (λ (b : RootBody). IsFollowing Ordinary b next) rr.ready.root (record { generation = ap (λ (b : RootBody). b.generation) x.is; epoch = ap (λ (b : RootBody). b.epoch) x.is; limits = ap (λ (b : RootBody). b.limits) x.is });
       built = subst (λ (b : RootBody). IsBuilt h.at.blocks r.store b (trees_behind asked (trees_of world)) (plan_of built next)) rr.ready.root (made h.at.blocks (reads h.disk) world k stands_kept Ordinary asked bit built next x);
       sound = λ t same holds. sound_next h.at.blocks (reads h.disk) world k stands_kept Ordinary asked bit built next x t (here t same) holds;
-      charged = λ t same holds. charged h.at.blocks (reads h.disk) world k stands_kept Ordinary asked bit built next x t (here t same) holds;
+      charged = λ t same holds. charged h.at.blocks (reads h.disk) world k stands_kept Ordinary asked bit built next x t (here t same) holds no_more;
       age = x.age;
     }

@@ -1,5 +1,5 @@
 -- What a point makes of a disk on which a mount has replayed something.
-use Rattle.std.proofs.Common.{◌≡◌, inl, inr, ⊎_elim, ℕ, ◌+◌, ◌*◌, ◌<◌, ◌≤◌, List, [], ◌++◌, Result, slice_index, replicate, None, false, refl, sym, ap, subst, ◌∙◌, arith}
+use Rattle.std.proofs.Common.{◌≡◌, inl, inr, ⊎_elim, ℕ, ◌+◌, ◌*◌, ◌<◌, ◌≤◌, List, [], ◌++◌, Result, map as map_list, slice_index, replicate, None, false, refl, sym, ap, subst, ◌∙◌, arith}
 use Rattle.std.specs.FinMap as map
 use Rattle.std.specs.Prelude.{OnOk}
 use Rattle.sn_device.specs.Sectors.{Contents, AreSectors, DependsOn}
@@ -10,22 +10,26 @@ use Rattle.sn_device.proofs.CrashLemmas.{Always-reads, Always-synced, LeavesOnly
 use Rattle.sn_block.proofs.EffectLemmas.{OnOk-both}
 use Rattle.sn_changed.specs.Changed.{HasChanged}
 use Rattle.sn_image.specs.Image.{image}
-use Rattle.sn_image.proofs.SoundNodeLemmas.{only_version}
+use Rattle.sn_image.proofs.ByteLemmas.{data_whole}
+use Rattle.sn_image.proofs.SoundNameLemmas.{sound_tree}
 use Rattle.sn_layout.specs.declared.gate.Gate.{Gate}
 use Rattle.sn_layout.specs.declared.geometry.Slot.{Slot}
 use Rattle.sn_layout.specs.declared.root.RootBody.{RootBody}
 use Rattle.sn_layout.specs.Geometry.{other_slot}
+use Rattle.sn_layout.specs.RootBody.{IsRootBody}
 use Rattle.sn_layout.specs.Superblock.{superblock_bytes}
 use Rattle.sn_limits.specs.declared.limits.Limits.{Limits}
-use Rattle.sn_limits.specs.Versions.{version_1}
+use Rattle.sn_limits.specs.Versions.{limits_written}
 use Rattle.sn_model.specs.declared.change.Change.{Change}
 use Rattle.sn_model.specs.Changes.{apply_all}
+use Rattle.sn_model.specs.NameTree.{IsTree}
 use Rattle.sn_model.specs.declared.outcome.AskedPoint.TheVariants.{Plain}
 use Rattle.sn_model.specs.Settling.{settled}
 use Rattle.sn_model.specs.Tree.{Tree}
 use Rattle.sn_model.specs.World.{World, trees_of}
 use Rattle.sn_model.proofs.SettlingLemmas.{dropping_kept, settle_alike}
-use Rattle.sn_model.proofs.ListLemmas.{covers_itself}
+use Rattle.sn_model.proofs.DropLemmas.{dropping_tree}
+use Rattle.sn_model.proofs.ListLemmas.{covers_itself, lists_keep}
 use Rattle.sn_ondisk.specs.Blocks.{block_at}
 use Rattle.sn_ondisk.specs.LogHalf.{HasNoLater, base_of}
 use Rattle.sn_ondisk.specs.MapCopy.{HasMap}
@@ -42,8 +46,8 @@ use Rattle.sn_root.specs.Replacing.{LeavesEither}
 use Rattle.sn_root.specs.declared.following.PointKind.TheVariants.{Recovery}
 use Rattle.sn_sound.specs.Charges.{Fits, charges_from}
 use Rattle.sn_sound.specs.Logs.{HasAgeLeft, IsToRecover}
-use Rattle.sn_sound.specs.Maps.{IsSoundRoot, free_blocks}
-use Rattle.sn_sound.proofs.StandingLemmas.{lies_in_data}
+use Rattle.sn_sound.specs.Maps.{IsSoundRoot, Rooted, free_blocks, frozen_root}
+use Rattle.sn_sound.proofs.StandingLemmas.{first_among, lies_in_data}
 use Rattle.sn_held.specs.Images.{IsImage}
 use Rattle.sn_held.proofs.HeldLemmas.{each_half, image_shown}
 use Rattle.sn_held.proofs.RoomLemmas.{settled_has_none}
@@ -94,14 +98,32 @@ module _ (old new : Disk) (world : World) (im : IsImage (reads old) world) (k : 
   abbrev newer : List Change
   newer = im.opens.newer
 
-  pub limits_one : version_1 ≡ im.opens.root.limits
-  limits_one = only_version im.opens.root.limits im.opens.shown.newest.body.fits.version
-
-  pub fits_one : Fits version_1 (older ++ newer) (image s im.opens.root.inode_file) (free_blocks n s im.opens.root)
-  fits_one = subst (λ (l : Limits). Fits l (older ++ newer) (image s im.opens.root.inode_file) (free_blocks n s im.opens.root)) (sym limits_one) im.fits
-
   pub stands : StandsFor s k.root (older ++ newer) world
   stands = subst (λ (b : RootBody). StandsFor s b (older ++ newer) world) (sym r.root) im.opens.stands
+
+  live_settled : world.live ≡ settled stands.tree
+  live_settled = ap (λ (y : World). y.live) stands.settles
+
+  none_nameless : nameless_in world.live ≡ 0
+  none_nameless = ap nameless_in live_settled ∙ settled_has_none stands.tree
+
+  root_body : IsRootBody k.root
+  root_body = subst IsRootBody (sym r.root) im.opens.shown.newest.body.fits
+
+  pub root_sound : IsSoundRoot n s k.root (slice_index k.words)
+  root_sound = subst (λ (b : RootBody). IsSoundRoot n s b (slice_index k.words)) (sym r.root) (subst (λ (ws : List ℕ). IsSoundRoot n s im.opens.root (slice_index ws)) (sym r.words) im.sound)
+
+  -- all was changed under the root's limits, under which its own tree is a name tree
+  pub live_tree : IsTree k.root.limits world.live
+  live_tree =
+      let root : Rooted = record { bit = 0; inodes = k.root.inode_file } in
+      let sound = root_sound.roots root (first_among root (map_list frozen_root k.root.snapshots)) in
+      let before = sound_tree k.root.limits n s k.root.inode_file root_body.version (λ block lies. data_whole (reads old) n block im.disk.whole im.disk.long lies) sound in
+      let after = lists_keep k.root.limits (older ++ newer) (image s k.root.inode_file) stands.tree before stands.applied in
+      subst (IsTree k.root.limits) (sym live_settled) (dropping_tree k.root.limits stands.tree (λ _. false) after)
+
+  pub all_fits : Fits k.root.limits (older ++ newer) (image s k.root.inode_file) (free_blocks n s k.root)
+  all_fits = subst (λ (b : RootBody). Fits b.limits (older ++ newer) (image s b.inode_file) (free_blocks n s b)) (sym r.root) im.fits
 
   abbrev pub replayed_stands : StandsKept n (reads old) world k
   replayed_stands = record {
@@ -111,20 +133,16 @@ module _ (old new : Disk) (world : World) (im : IsImage (reads old) world) (k : 
     disk = im.disk;
     shown = subst (λ (slot : Slot). Shows n s slot k.root older newer (reads old)) (sym r.slot) (subst (λ (b : RootBody). Shows n s im.opens.slot b older newer (reads old)) (sym r.root) (record { shown = im.opens.shown; same = λ block among. refl }));
     map = subst (λ (slot : Slot). HasMap n (reads old) slot k.words) (sym r.slot) (subst (λ (ws : List ℕ). HasMap n (reads old) im.opens.slot ws) (sym r.words) im.map);
-    sound = subst (λ (b : RootBody). IsSoundRoot n s b (slice_index k.words)) (sym r.root) (subst (λ (ws : List ℕ). IsSoundRoot n s im.opens.root (slice_index ws)) (sym r.words) im.sound);
-    limits = ap (λ (b : RootBody). b.limits) r.root ∙ sym limits_one;
+    sound = root_sound;
     frozen = ap (λ (y : World). y.frozen) stands.settles;
-    charged = charges_from version_1 (older ++ newer) (image s im.opens.root.inode_file);
-    changed = subst (λ (b : RootBody). HasChanged version_1 k.changed (image s b.inode_file) world.live (charges_from version_1 (older ++ newer) (image s im.opens.root.inode_file))) (sym r.root) r.changed;
-    fits = subst (λ (b : RootBody). charges_from version_1 (older ++ newer) (image s im.opens.root.inode_file) + version_1.inode_charge * nameless_in (image s b.inode_file) ≤ free_blocks n s b) (sym r.root) fits_one;
-    tree = r.tree;
+    charged = charges_from k.root.limits (older ++ newer) (image s k.root.inode_file);
+    changed = subst (λ (b : RootBody). HasChanged k.root.limits k.changed (image s b.inode_file) world.live (charges_from k.root.limits (older ++ newer) (image s b.inode_file))) (sym r.root) r.changed;
+    fits = all_fits;
+    tree = live_tree;
   }
 
-  all_fits : Fits k.root.limits (older ++ newer) (image s k.root.inode_file) (free_blocks n s k.root)
-  all_fits = subst (λ (b : RootBody). Fits b.limits (older ++ newer) (image s b.inode_file) (free_blocks n s b)) (sym r.root) im.fits
-
-  age : IsToRecover (older ++ newer) (image s k.root.inode_file) → HasAgeLeft k.root
-  age = subst (λ (b : RootBody). IsToRecover (older ++ newer) (image s b.inode_file) → HasAgeLeft b) (sym r.root) im.age
+  age : IsToRecover k.root (older ++ newer) (image s k.root.inode_file) → HasAgeLeft k.root
+  age = subst (λ (b : RootBody). IsToRecover b (older ++ newer) (image s b.inode_file) → HasAgeLeft b) (sym r.root) im.age
 
   none_later : (epoch : ℕ) → HasNoLater (reads old) (base_of n epoch) (k.root.epoch + 1)
   none_later epoch = subst (λ (b : RootBody). HasNoLater (reads old) (base_of n epoch) (b.epoch + 1)) (sym r.root) (im.none_later epoch)
@@ -147,6 +165,9 @@ module _ (old new : Disk) (world : World) (im : IsImage (reads old) world) (k : 
     whole_point : IsWhole w
     whole_point = whole_work n (reads old) world k replayed_stands Recovery Plain 0 built next x (other_slot k.slot) gate
 
+    next_limits : next.limits ≡ limits_written
+    next_limits = ap (λ (b : RootBody). b.limits) x.is
+
     epoch_is : next.epoch ≡ k.root.epoch + 2
     epoch_is = ap (λ (b : RootBody). b.epoch) x.is
 
@@ -167,32 +188,30 @@ module _ (old new : Disk) (world : World) (im : IsImage (reads old) world) (k : 
       tree_is : image t next.inode_file ≡ world.live
       tree_is = new_tree n (reads old) world k replayed_stands Recovery Plain 0 built next x t same holds
 
-      next_limits : next.limits ≡ version_1
-      next_limits = is_built.limits ∙ replayed_stands.limits
-
       frozen_is : world.frozen ≡ frozen_of t next.snapshots
       frozen_is = sym (is_built.frozen t same holds)
 
       live_is : world.live ≡ settled (image t next.inode_file)
-      live_is = sym (settled_again stands.tree world.live (ap (λ (y : World). y.live) stands.settles)) ∙ ap settled (sym tree_is)
+      live_is = sym (settled_again stands.tree world.live live_settled) ∙ ap settled (sym tree_is)
 
       next_stands : StandsFor t next [] world
       unfolding apply_all
       next_stands = record {
         tree = image t next.inode_file;
         applied = refl;
-        settles = stands.settles ∙ (λ i. record { live = (sym (ap (λ (y : World). y.live) stands.settles) ∙ live_is) i; frozen = (sym (ap (λ (y : World). y.frozen) stands.settles) ∙ frozen_is) i; sessions = replicate 64 None; descriptors = map.empty });
+        settles = stands.settles ∙ (λ i. record { live = (sym live_settled ∙ live_is) i; frozen = (sym (ap (λ (y : World). y.frozen) stands.settles) ∙ frozen_is) i; sessions = replicate 64 None; descriptors = map.empty });
       }
 
-      nothing_left : IsToRecover [] (image t next.inode_file) → ⊥
-      nothing_left (inl some) = some refl
-      nothing_left (inr some) = some (ap nameless_in (tree_is ∙ live_is) ∙ settled_has_none (image t next.inode_file))
+      nothing_left : IsToRecover next [] (image t next.inode_file) → ⊥
+      nothing_left (inl other) = other (ap (λ (l : Limits). l.version) next_limits)
+      nothing_left (inr (inl some)) = some refl
+      nothing_left (inr (inr some)) = some (ap nameless_in tree_is ∙ none_nameless)
 
       next_fits : Fits next.limits [] (image t next.inode_file) (free_blocks n t next)
       next_fits =
-          let charged = live.charged n (reads old) world k replayed_stands Recovery Plain 0 built next x t same holds in
+          let charged = live.charged n (reads old) world k replayed_stands Recovery Plain 0 built next x t same holds (omega (arith, none_nameless)) in
           subst (λ (l : Limits). Fits l [] (image t next.inode_file) (free_blocks n t next)) (sym next_limits)
-          (subst (Fits version_1 [] (image t next.inode_file)) charged.free charged.fits)
+          (subst (Fits limits_written [] (image t next.inode_file)) charged.free charged.fits)
 
     module _ {T E : Type 0} (result : Result T E) (whole : AreSectors (reads new)) (finishes : Finishes w result old new) where
       around_stays : LeavesOnly old new (Around n k.slot k.words k.root.epoch)

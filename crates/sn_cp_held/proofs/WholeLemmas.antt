@@ -54,7 +54,7 @@ module _ (h : Held) (world : World) (r : Runs h world) where
       image_shown n r.store r.slot r.root r.words r.older [] (settle world) r.older_spelled (subst AreSpelled none_newer r.newer_spelled) r.stands.sound
       (subst (λ (ns : List Change). StandsFor r.store r.root (r.older ++ ns) (settle world)) none_newer (stands_for h world r))
       (subst (λ (ns : List Change). Fits r.root.limits (r.older ++ ns) (image r.store r.root.inode_file) (free_blocks n r.store r.root)) none_newer (fits_now h world r))
-      (subst (λ (ns : List Change). IsToRecover (r.older ++ ns) (image r.store r.root.inode_file) → HasAgeLeft r.root) none_newer r.age)
+      (subst (λ (ns : List Change). IsToRecover r.root (r.older ++ ns) (image r.store r.root.inode_file) → HasAgeLeft r.root) none_newer r.age)
 
   -- ---- the beginning
 

@@ -9,6 +9,7 @@ use Rattle.sn_layout.specs.RootBody.{IsRootBody}
 use Rattle.sn_layout.specs.declared.gate.Gate.{Gate}
 use Rattle.sn_layout.specs.declared.geometry.Area.TheVariants.{Data}
 use Rattle.sn_layout.specs.declared.root.RootBody.{RootBody}
+use Rattle.sn_limits.specs.Versions.{limits_written}
 use Rattle.sn_image.specs.Image.{image}
 use Rattle.sn_image.specs.Reach.{reach}
 use Rattle.sn_ondisk.specs.TreeLaws.{SameIn}
@@ -38,7 +39,7 @@ use Rattle.sn_cp_held.specs.Wholes.{IsOfLive}
 abbrev pub plan_of : Built → RootBody → Plan
 plan_of built next = record { blocks = map written_by built.blocks.items; words = built.map; next = next }
 
--- A build over a root that can be written, sound with its snapshots and its map, of a layer that shows a name tree, and the root that follows on it with the new inode file and the snapshots that are asked for.
+-- A build over a root that can be written, sound with its snapshots and its map, of a layer that shows a name tree, under that root's limits, and the root that follows on it under the written ones, with the new inode file and the snapshots that are asked for.
 pub record IsOfBuild (n : ℕ) (s : Store) (root : RootBody) (words : List ℕ) (layer : Layer) (asked : AskedPoint) (bit : ℕ) (built : Built) (next : RootBody) : Type 0 where
   pub root_body : IsRootBody root
   pub sound : IsSoundRoot n s root (slice_index words)
@@ -50,7 +51,7 @@ pub record IsOfBuild (n : ℕ) (s : Store) (root : RootBody) (words : List ℕ) 
   pub numbers : (block : ℕ) → slice_index built.map block < 2 ^ 32
   pub whole : (b : Written) → Contains (map written_by built.blocks.items) b → length b.1 ≡ 4096
   pub body : IsRootBody next
-  pub limits : next.limits ≡ root.limits
+  pub limits : next.limits ≡ limits_written
   pub generation : next.generation ≡ root.generation + 1
   pub inode_file : next.inode_file ≡ built.inode_file
   pub snapshots : FollowsBy asked bit root next
@@ -60,14 +61,14 @@ abbrev pub LeavesAge : PointKind → RootBody → Type 0
 LeavesAge Ordinary next = HasAgeLeft next
 LeavesAge Recovery next = Unit {0}
 
--- What `build` tells of a live tree on a disk of n blocks with these contents, and the root that follows on it with the new inode file, for a point of this kind that makes of the snapshots what is asked for.
+-- What `build` tells of a live tree on a disk of n blocks with these contents, and the root that follows on it under the written limits, with the new inode file, for a point of this kind that makes of the snapshots what is asked for.
 pub record IsBuiltOf (n : ℕ) (c : Contents) (kind : PointKind) (k : Kept) (asked : AskedPoint) (bit : ℕ) (built : Built) (next : RootBody) : Type 0 where
   pub well : IsWellBuilt n k.root.limits k.words k.changed (edit_for asked bit) built
   pub builds : Builds n k.root.limits (store_of c) k.root.inode_file k.words k.changed built
   pub numbers : AreNumbers 4 built.map
   pub whole : (b : Written) → Contains (map written_by built.blocks.items) b → length b.1 ≡ 4096
   pub body : IsRootBody next
-  pub is : next ≡ record (following kind k.root.limits k.root) { inode_file = built.inode_file; snapshots = next.snapshots }
+  pub is : next ≡ record (following kind limits_written k.root) { inode_file = built.inode_file; snapshots = next.snapshots }
   pub snapshots : FollowsBy asked bit k.root next
   pub age : LeavesAge kind next
 

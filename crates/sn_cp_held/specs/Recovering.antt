@@ -8,7 +8,7 @@ use Rattle.sn_device.specs.declared.fault.Fault.{Fault}
 use Rattle.sn_image.specs.Image.{image}
 use Rattle.sn_layout.specs.declared.gate.Gate.{Gate}
 use Rattle.sn_layout.specs.declared.root.RootBody.{RootBody}
-use Rattle.sn_limits.specs.Versions.{version_1}
+use Rattle.sn_limits.specs.Versions.{limits_written}
 use Rattle.sn_model.specs.NameTree.{IsTree}
 use Rattle.sn_model.specs.declared.outcome.AskedPoint.TheVariants.{Plain}
 use Rattle.sn_model.specs.World.{World}
@@ -22,14 +22,14 @@ use Rattle.sn_cp.specs.Showing.{Finishes}
 use Rattle.sn_cp_build.specs.declared.building.Built.{Built}
 use Rattle.sn_cp_held.specs.Builds.{IsBuiltOf, work_for}
 
--- A disk is an image of this world, and nothing is unsynced. What is kept is its root, with what its records changed and what was dropped since.
+-- A disk is an image of this world, and nothing is unsynced. What is kept is its root, with what its records changed and what was dropped since, charged under the root's limits.
 pub record HasReplayed (d : Disk) (world : World) (im : IsImage (reads d) world) (k : Kept) : Type 0 where
   pub synced : IsSynced d
   pub slot : k.slot ≡ im.opens.slot
   pub root : k.root ≡ im.opens.root
   pub words : k.words ≡ im.words
-  pub changed : HasChanged version_1 k.changed (image (store_of (reads d)) im.opens.root.inode_file) world.live (charges_from version_1 (im.opens.older ++ im.opens.newer) (image (store_of (reads d)) im.opens.root.inode_file))
-  pub tree : IsTree version_1 world.live
+  pub changed : HasChanged k.root.limits k.changed (image (store_of (reads d)) im.opens.root.inode_file) world.live (charges_from k.root.limits (im.opens.older ++ im.opens.newer) (image (store_of (reads d)) im.opens.root.inode_file))
+  pub tree : IsTree limits_written world.live
 
 -- It is one whose root is the point's, on which nothing is logged, and whose tree is the live one.
 pub record IsRecovered (d : Disk) (world : World) (w : Work) : Type 0 where
@@ -43,7 +43,7 @@ pub record IsRecovered (d : Disk) (world : World) (w : Work) : Type 0 where
   pub newer : image.opens.newer ≡ []
   pub synced : IsSynced d
 
--- A point two epochs on is made of it, which begins with no clearing: whatever the answer, a crash at any moment leaves an image of the world. At `Ok` the next root counts, and replay finds nothing.
+-- A point two epochs on, under the written limits, is made of it, which begins with no clearing: whatever the answer, a crash at any moment leaves an image of the world. At `Ok` the next root counts, and replay finds nothing.
 abbrev pub RecoveriesLeaveTheWorld : Type 0
 RecoveriesLeaveTheWorld = (old new : Disk) (world : World) (im : IsImage (reads old) world) (k : Kept) (gate : Gate) (built : Built) (next : RootBody) (result : Result (Unit {0}) Fault) → HasReplayed old world im k
     → IsBuiltOf im.blocks (reads old) Recovery k Plain 0 built next → AreSectors (reads new) → Finishes (work_for im.blocks k gate built next) result old new

@@ -8,7 +8,7 @@ use Rattle.sn_layout.specs.Superblock.{superblock_bytes}
 use Rattle.sn_image.specs.Image.{image}
 use Rattle.sn_layout.specs.declared.geometry.Slot.{Slot}
 use Rattle.sn_layout.specs.declared.root.RootBody.{RootBody}
-use Rattle.sn_limits.specs.Versions.{version_1}
+use Rattle.sn_limits.specs.Versions.{limits_written}
 use Rattle.sn_log.specs.Positions.{IsReadyAt, first_of}
 use Rattle.sn_model.specs.declared.change.Change.{Change}
 use Rattle.sn_model.specs.NameTree.{IsTree}
@@ -36,10 +36,11 @@ use Rattle.sn_cp.specs.Points.{Work}
 use Rattle.sn_cp.specs.Steps.{IsWhole}
 use Rattle.sn_cp_held.specs.Snapshots.{trees_behind}
 
--- The next root follows on this one by a point of this kind: of the next generation, and so many epochs later.
+-- The next root follows on this one by a point of this kind: of the next generation, so many epochs later, and under the written limits.
 pub record IsFollowing (kind : PointKind) (root next : RootBody) : Type 0 where
   pub generation : next.generation ≡ root.generation + 1
   pub epoch : next.epoch ≡ root.epoch + epochs_of kind
+  pub limits : next.limits ≡ limits_written
 
 -- The point was built of the live tree, with the snapshots that are asked for, for the slot that doesn't count: wherever its blocks stand beside what the root reaches, its root is sound with its snapshots and its map, and what is kept of the room is charged of it. It has an age left.
 pub record IsOfLive (h : Held) (world : World) (r : Runs h world) (asked : AskedPoint) (w : Work) (room : RoomCounts) : Type 0 where
@@ -65,7 +66,7 @@ pub record HasBegun (h : Held) (world : World) (r : Runs h world) (d : Disk) : T
   pub shows : Always d (Shows h.at.blocks r.store r.slot r.root r.older [])
   pub around : Always d (StandsAround h.at.blocks r.slot r.words r.root.epoch)
 
--- The root that is kept stands in these contents with its records, sound with its map, and its snapshots stand for the world's frozen trees. The live tree, a name tree, is seen through what changed since. What that was charged, with a charge for each file that the root's tree has without a name, is no more than is free.
+-- The root that is kept stands in these contents with its records, sound with its map, and its snapshots stand for the world's frozen trees. The live tree, under the root's limits a name tree, is seen through what changed since. What that was charged under these, with a charge for each file that the root's tree has without a name, is no more than is free.
 pub record StandsKept (n : ℕ) (c : Contents) (world : World) (k : Kept) : Type 0 where
   pub store : Store
   pub older : List Change
@@ -74,12 +75,11 @@ pub record StandsKept (n : ℕ) (c : Contents) (world : World) (k : Kept) : Type
   pub shown : Shows n store k.slot k.root older newer c
   pub map : HasMap n c k.slot k.words
   pub sound : IsSoundRoot n store k.root (slice_index k.words)
-  pub limits : k.root.limits ≡ version_1
   pub frozen : world.frozen ≡ frozen_of store k.root.snapshots
   pub charged : ℕ
-  pub changed : HasChanged version_1 k.changed (image store k.root.inode_file) world.live charged
-  pub fits : charged + version_1.inode_charge * nameless_in (image store k.root.inode_file) ≤ free_blocks n store k.root
-  pub tree : IsTree version_1 world.live
+  pub changed : HasChanged k.root.limits k.changed (image store k.root.inode_file) world.live charged
+  pub fits : charged + k.root.limits.inode_charge * nameless_in (image store k.root.inode_file) ≤ free_blocks n store k.root
+  pub tree : IsTree k.root.limits world.live
 
 -- what is kept once the point is done: its root counts, and nothing has changed
 abbrev pub kept_behind : Work → Kept

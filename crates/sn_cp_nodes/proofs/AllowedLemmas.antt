@@ -10,7 +10,7 @@ use Rattle.std.proofs.lemmas.List.Sums.{sum_by-cons}
 use Rattle.sn_dir_change.specs.Changes.{AreChanges}
 use Rattle.sn_dir_change.specs.declared.name_change.NameChange.{NameChange}
 use Rattle.sn_image.specs.Image.{image}
-use Rattle.sn_image.proofs.SoundNodeLemmas.{only_version}
+use Rattle.sn_limits.proofs.VersionLemmas.{fixed}
 use Rattle.sn_layout.specs.declared.tree.BlockTree.{BlockTree}
 use Rattle.sn_layout_node.specs.Directory.{IsLink, number_of}
 use Rattle.sn_limits.specs.Versions.{limits_of}
@@ -76,7 +76,7 @@ module _ (limits : Limits) (tree : Tree) (is : IsTree limits tree) (version : li
   number_allowed number None e some = let never : false ≡ true = some in absurd cc
   number_allowed number (Some node) e some =
       let fits = is.nodes.nodes number node e in
-      let most : limits.largest_number ≡ 65535 = ap (λ (l : Limits). l.largest_number) (sym (only_version limits version)) in
+      let most : limits.largest_number ≡ 65535 = (fixed limits.version limits version).number in
       let less : number < 65536 = omega (arith, fits.within, most) in
       (fits.first, less)
 

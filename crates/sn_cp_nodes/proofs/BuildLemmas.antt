@@ -9,7 +9,8 @@ use Rattle.sn_image.specs.Contents.{content_reach}
 use Rattle.sn_image.specs.Image.{image}
 use Rattle.sn_image.specs.Inodes.{inode_at}
 use Rattle.sn_image.specs.Reach.{reach_at}
-use Rattle.sn_image.proofs.SoundNodeLemmas.{only_version}
+use Rattle.sn_limits.proofs.VersionLemmas.{each_version, fixed}
+use Rattle.std.proofs.Math.Nat.{mul-le-mul_left, mul-le-mul_right}
 use Rattle.sn_inode.specs.declared.changes.AclChange.{AclChange}
 use Rattle.sn_inode.specs.declared.changes.InodeChange.{InodeChange}
 use Rattle.sn_inode.specs.declared.changes.RecordChange.{RecordChange}
@@ -53,31 +54,29 @@ both : (a b : Bool) → (a && b) ≡ true → (a ≡ true) × (b ≡ true)
 both true b e = (refl, e)
 both false b e = absurd cc
 
-pub size_within : (limits : Limits) (kind : Kind) (content : Content) → limits_of limits.version ≡ Some limits → IsContent limits kind content → size_of content ≤ 67108864
-size_within limits File (Inline bytes) version fits = omega (arith, fits)
+pub size_within : (limits : Limits) (kind : Kind) (content : Content) → limits_of limits.version ≡ Some limits → IsContent limits kind content → size_of content ≤ limits.largest_file
+size_within limits File (Inline bytes) version fits = omega (arith, fits, (fixed limits.version limits version).least)
 size_within limits Directory (Inline bytes) version fits = absurd fits
-size_within limits File (Tree tree) version fits =
-    let large : limits.largest_file ≡ 67108864 = ap (λ (l : Limits). l.largest_file) (sym (only_version limits version)) in
-    omega (arith, leb-true tree.size limits.largest_file (both (nat_lt 64 tree.size) (nat_le tree.size limits.largest_file) fits.1).1, large)
-size_within limits Directory (Tree tree) version fits =
-    let large : limits.largest_file ≡ 67108864 = ap (λ (l : Limits). l.largest_file) (sym (only_version limits version)) in
-    omega (arith, leb-true tree.size limits.largest_file (both _ (nat_le tree.size limits.largest_file) fits.1).1, large)
+size_within limits File (Tree tree) version fits = leb-true tree.size limits.largest_file (both (nat_lt 64 tree.size) (nat_le tree.size limits.largest_file) fits.1).1
+size_within limits Directory (Tree tree) version fits = leb-true tree.size limits.largest_file (both _ (nat_le tree.size limits.largest_file) fits.1).1
 
-pub few_levels : (size : ℕ) → size ≤ 67108864 → levels_of size ≤ 1
-few_levels size most = ⊎_elim (λ (more : 1 < levels_of size). absurd (omega (arith, most, levels_least size 1 more))) (λ (few : levels_of size ≤ 1). few) (cases_lt 1 (levels_of size))
+-- a version counts each level of indirect blocks that its files have
+pub levels_counted : (limits : Limits) (size : ℕ) → limits_of limits.version ≡ Some limits → size ≤ limits.largest_file → levels_of size + 1 ≤ levels limits
+levels_counted limits size version = each_version (λ l. size ≤ l.largest_file → levels_of size + 1 ≤ levels l) one limits.version limits version
+  where
+    one : size ≤ 67108864 → levels_of size + 1 ≤ 2
+    one most = ⊎_elim (λ (more : 1 < levels_of size). absurd (omega (arith, most, levels_least size 1 more))) (λ (few : levels_of size ≤ 1). omega (arith, few)) (cases_lt 1 (levels_of size))
 
-pub one_or_two : (count dirty : ℕ) → count ≤ 1 → (count + 1) * (dirty + 1) ≤ 2 * (dirty + 1)
-one_or_two zero dirty few = omega arith
-one_or_two (suc zero) dirty few = omega arith
-one_or_two (suc (suc count)) dirty few = absurd (omega (arith, few))
+pub paths_counted : (few many less more : ℕ) → few ≤ many → less ≤ more → few * (less + 1) ≤ many * (more + 1)
+paths_counted few many less more a b =
+    let longer : less + 1 ≤ more + 1 = omega (arith, b) in
+    omega (arith, mul-le-mul_left few longer, mul-le-mul_right (more + 1) a)
 
 few_added : (limits : Limits) (kind : Kind) (content : Content) (added dirty most : ℕ) → limits_of limits.version ≡ Some limits → IsContent limits kind content
     → added ≤ (levels_of (size_of content) + 1) * (dirty + 1) → dirty ≤ most → added ≤ levels limits * (most + 1)
 few_added limits kind content added dirty most version fits few less =
-    let two : levels limits ≡ 2 = ap (λ (l : Limits). levels l) (sym (only_version limits version)) in
-    let paths = one_or_two (levels_of (size_of content)) dirty (few_levels (size_of content) (size_within limits kind content version fits)) in
-    let all : added ≤ 2 * (most + 1) = omega (arith, few, paths, less) in
-    subst (λ (count : ℕ). added ≤ count * (most + 1)) (sym two) all
+    let counted = levels_counted limits (size_of content) version (size_within limits kind content version fits) in
+    omega (arith, few, paths_counted (levels_of (size_of content) + 1) (levels limits) dirty most counted less)
 
 -- ---- one node
 

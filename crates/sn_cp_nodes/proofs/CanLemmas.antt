@@ -41,7 +41,7 @@ use Rattle.sn_cp_nodes.proofs.ValidLemmas.{change_valid}
 
 -- ---- a directory that is sound can be read, and has room
 
-module _ (directories : SoundDirectoriesAreRead) (limits : Limits) (sectors : ℕ) (s : Store) (small : limits.largest_file ≡ 67108864) where
+module _ (directories : SoundDirectoriesAreRead) (limits : Limits) (sectors : ℕ) (s : Store) (small : limits.largest_file ≤ 68719476736) where
   blocks_read : (tree : BlockTree) → HasBlocks s tree → ((block : ℕ) → Contains (tree_reach s tree) block → 8 * block + 8 ≤ sectors) → (LeadsOutside sectors (tree_reach s tree) → ⊥) → CannotRead sectors s tree → ⊥
   blocks_read tree blocks lies inside (inl damaged) = damaged.3 (directories sectors s tree blocks lies damaged.0 damaged.1)
   blocks_read tree blocks lies inside (inr outside) = inside outside

@@ -14,7 +14,8 @@ use Rattle.sn_image.proofs.ListLemmas.{none_in}
 use Rattle.sn_image.proofs.PointLemmas.{node_found}
 use Rattle.sn_image.proofs.ReachLemmas.{reach_parts}
 use Rattle.sn_image.proofs.SoundNameLemmas.{from_kind}
-use Rattle.sn_image.proofs.SoundNodeLemmas.{only_version, valid_inode}
+use Rattle.sn_limits.proofs.VersionLemmas.{fixed}
+use Rattle.sn_image.proofs.SoundNodeLemmas.{valid_inode}
 use Rattle.sn_layout.specs.declared.tree.BlockTree.{BlockTree}
 use Rattle.sn_layout_node.specs.Inode.{IsContent, IsInode}
 use Rattle.sn_layout_node.specs.declared.content.Content.{Content}
@@ -57,7 +58,7 @@ same_content s r file number same block among = same block (content_within s fil
 pub roomy_file : (limits : Limits) (content : Content) → limits_of limits.version ≡ Some limits → IsContent limits File content → IsRoomy content
 roomy_file limits (Inline bytes) version fits = fits
 roomy_file limits (Tree tree) version fits =
-    let large : 67108864 ≡ limits.largest_file = ap (λ (l : Limits). l.largest_file) (only_version limits version) in
+    let large = (fixed limits.version limits version).files in
     let most : tree.size ≤ limits.largest_file = leb-true tree.size limits.largest_file (both (nat_lt 64 tree.size) (nat_le tree.size limits.largest_file) fits.1).1 in
     (fits.0.pointers.count, omega (arith, large, most))
 

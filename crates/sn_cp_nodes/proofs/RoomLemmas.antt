@@ -15,7 +15,7 @@ use Rattle.sn_dir_change.specs.Laws.{GrownDirectoriesFit}
 use Rattle.sn_image.specs.Image.{image}
 use Rattle.sn_image.specs.Inodes.{inode_at}
 use Rattle.sn_image.specs.Names.{names_of}
-use Rattle.sn_image.proofs.SoundNodeLemmas.{only_version}
+use Rattle.sn_limits.proofs.VersionLemmas.{fixed}
 use Rattle.sn_layout.specs.Pointers.{levels_of}
 use Rattle.sn_layout.specs.declared.tree.BlockTree.{BlockTree}
 use Rattle.sn_layout_node.specs.Directory.{Link as Name, number_of}
@@ -44,7 +44,7 @@ use Rattle.sn_tree.specs.Drafts.{Draft}
 use Rattle.sn_cp_nodes.specs.Built.{IsGround, IsTooSmallAt}
 use Rattle.sn_cp_nodes.specs.Made.{ChangeThem, IsTooSmall, IsTooSmallAs, Pair, pair_in, pair_of}
 use Rattle.sn_cp_nodes.specs.Parts.{Blocks, IsPartOf, Names, content_of, empty_tree}
-use Rattle.sn_cp_nodes.proofs.BuildLemmas.{few_levels, one_or_two, size_within}
+use Rattle.sn_cp_nodes.proofs.BuildLemmas.{levels_counted, paths_counted, size_within}
 use Rattle.sn_cp_nodes.proofs.DirectoryLemmas.{begun_base}
 use Rattle.sn_cp_nodes.proofs.ElementLemmas.{first_there, more_there}
 use Rattle.sn_cp_nodes.proofs.EntryLemmas.{found_each}
@@ -111,16 +111,15 @@ module _ (tells : Bool) (told : IsTrue tells) (fit : GrownDirectoriesFit) (limit
   abbrev needed : ℕ
   needed = levels limits * (length (changed_names layer number) + length (written_blocks layer number) + 1)
 
-  pub largest : limits.largest_file ≡ 67108864
-  largest = ap (λ (l : Limits). l.largest_file) (sym (only_version limits ground.version))
+  pub largest : limits.largest_file ≤ 68719476736
+  largest = (fixed limits.version limits ground.version).files
 
   -- a path for each of some parts and one more, in a file that a version allows
-  less_needed : (size parts : ℕ) → size ≤ 67108864 → parts ≤ length (changed_names layer number) + length (written_blocks layer number)
+  less_needed : (size parts : ℕ) → size ≤ limits.largest_file → parts ≤ length (changed_names layer number) + length (written_blocks layer number)
       → free_data draft.words draft.first < length draft.added + (levels_of size + 1) * (parts + 1) → free_data draft.words draft.first < length draft.added + needed
   less_needed size parts small few less =
-      let two : levels limits ≡ 2 = ap (λ (l : Limits). levels l) (sym (only_version limits ground.version)) in
-      let all : free_data draft.words draft.first < length draft.added + 2 * (length (changed_names layer number) + length (written_blocks layer number) + 1) = omega (arith, less, few, one_or_two (levels_of size) parts (few_levels size small)) in
-      subst (λ (count : ℕ). free_data draft.words draft.first < length draft.added + count * (length (changed_names layer number) + length (written_blocks layer number) + 1)) (sym two) all
+      let counted = levels_counted limits size ground.version small in
+      omega (arith, less, paths_counted (levels_of size + 1) (levels limits) parts (length (changed_names layer number) + length (written_blocks layer number)) counted few)
 
   module _ (state : NodeState) (part : IsPartOf layer number (Changed state) names written) where
     abbrev bytes : List ℕ
@@ -132,8 +131,8 @@ module _ (tells : Bool) (told : IsTrue tells) (fit : GrownDirectoriesFit) (limit
     pub node_allowed : IsNode limits number (node_with state.kind state.ownership bytes)
     node_allowed = ground.tree.nodes.nodes number (node_with state.kind state.ownership bytes) is_seen
 
-    pub small_file : state.size ≤ 67108864
-    small_file = omega (arith, node_allowed.size, length-joined 4096 state.size (block_seen layer number state (bytes_of (fin.get (image s file).nodes number))), largest)
+    pub small_file : state.size ≤ limits.largest_file
+    small_file = omega (arith, node_allowed.size, length-joined 4096 state.size (block_seen layer number state (bytes_of (fin.get (image s file).nodes number))))
 
     long_written : length written ≡ length (written_blocks layer number)
     long_written = sym (length-map written (λ (e : FileBlock × Box (List ℕ) Global). (e.0, e.1.value))) ∙ ap (λ (es : List (FileBlock × List ℕ)). length es) part.its_blocks
@@ -142,10 +141,10 @@ module _ (tells : Bool) (told : IsTrue tells) (fit : GrownDirectoriesFit) (limit
     long_names = ap (λ (es : Names). length es) part.its_names
 
     -- a directory that was there is small
-    small_tree : state.kind ≡ Directory → (tree : BlockTree) → (state.fresh ≡ true → tree.size ≡ 0) → (state.fresh ≡ false → content_of (inode_at s file number) ≡ Tree tree) → tree.size ≤ 67108864
+    small_tree : state.kind ≡ Directory → (tree : BlockTree) → (state.fresh ≡ true → tree.size ≡ 0) → (state.fresh ≡ false → content_of (inode_at s file number) ≡ Tree tree) → tree.size ≤ limits.largest_file
     small_tree is tree empty kept = by_fresh state.fresh refl
       where
-        by_fresh : (fresh : Bool) → state.fresh ≡ fresh → tree.size ≤ 67108864
+        by_fresh : (fresh : Bool) → state.fresh ≡ fresh → tree.size ≤ limits.largest_file
         by_fresh true fresh = omega (arith, empty fresh)
         by_fresh false stale =
             let (inode, used, kind) = old_of limits n s file layer number ground state part.node stale in
@@ -159,14 +158,14 @@ module _ (tells : Bool) (told : IsTrue tells) (fit : GrownDirectoriesFit) (limit
     size_allowed is tree empty kept changes size them sized =
         let base = begun_base limits n s file layer number ground state part.node is s (λ block among. refl) tree empty kept in
         let changed = changed_list layer (image s file) number names changes (names_of s (Tree tree)) part.its_names them base.names in
-        let tree_small : tree.size ≤ 67108864 = small_tree is tree (λ fresh. ap (λ (t : BlockTree). t.size) (empty fresh)) kept in
+        let tree_small : tree.size ≤ limits.largest_file = small_tree is tree (λ fresh. ap (λ (t : BlockTree). t.size) (empty fresh)) kept in
         let few : length (listed_of (through layer (image s file)) number) ≤ limits.names = omega (arith, count_in (through layer (image s file)) number, ground.tree.few.names number) in
-        fit tells s tree changes size limits.version limits (listed_of (through layer (image s file)) number) ground.version sized told base.once base.spelled (omega (arith, tree_small, largest)) changed few
+        fit tells s tree changes size limits.version limits (listed_of (through layer (image s file)) number) ground.version sized told base.once base.spelled tree_small changed few
 
     less_directory : state.kind ≡ Directory → IsTooSmall (IsTrue tells) s (content_of (inode_at s file number)) state.fresh names draft → free_data draft.words draft.first < length draft.added + needed
     less_directory is small =
         let fits : small.size ≤ limits.largest_file = size_allowed is small.tree small.empty small.kept small.changes small.size small.are small.sized in
-        less_needed small.size (length names) (omega (arith, fits, largest)) (omega (arith, long_names)) small.less
+        less_needed small.size (length names) fits (omega (arith, long_names)) small.less
 
     less_changed : IsTooSmallAs state.kind (IsTrue tells) s (content_of (inode_at s file number)) state names written draft → free_data draft.words draft.first < length draft.added + needed
     less_changed small = by_kind state.kind refl small

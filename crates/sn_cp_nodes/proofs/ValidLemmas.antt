@@ -20,7 +20,7 @@ use Rattle.sn_limits.specs.declared.kind.Kind.{Kind}
 use Rattle.sn_limits.specs.declared.kind.Kind.TheVariants.{File, Directory}
 use Rattle.sn_limits.specs.declared.limits.Limits.{Limits}
 use Rattle.sn_acl.specs.declared.modes.Mode.{Mode}
-use Rattle.sn_image.proofs.SoundNodeLemmas.{only_version}
+use Rattle.sn_limits.proofs.VersionLemmas.{fixed}
 use Rattle.sn_model.specs.NameTree.{HasKind}
 use Rattle.sn_model.specs.Tree.{Node, link_count, names_for}
 use Rattle.sn_ondisk.specs.TreeLaws.{SameIn}
@@ -116,7 +116,7 @@ module _ (tells : Bool) (told : IsTrue tells) (fit : GrownDirectoriesFit) (limit
 
   links_valid : (kind : Kind) → state.kind ≡ kind → are_links kind state.links ≡ true
   links_valid File is =
-      let most : limits.links ≡ 32767 = ap (λ (l : Limits). l.links) (sym (only_version limits ground.version)) in
+      let most : limits.links ≡ 32767 = (fixed limits.version limits ground.version).links in
       let counted : state.links ≡ names_for (through layer (image s file)) number = ground.lies.counts.changed number state part.node ∙ ap (λ (k : Kind). link_count k (names_for (through layer (image s file)) number)) is in
       let seen : HasKind (through layer (image s file)) number File =
       subst (λ (o : Option Node). IsSomeAnd o (λ node. node.kind ≡ File)) (sym (is_seen tells told fit limits n s file layer number ground names written draft state part)) is in

@@ -5,7 +5,7 @@ use Rattle.sn_device.specs.Disk.{Always, reads}
 use Rattle.sn_device.specs.Crash.{LeavesOnly, Touches}
 use Rattle.sn_device.proofs.CrashLemmas.{Always-kept, Always-reads, LeavesOnly-now}
 use Rattle.sn_layout.specs.declared.root.RootBody.{RootBody}
-use Rattle.sn_limits.specs.Versions.{version_1}
+use Rattle.sn_limits.specs.Versions.{limits_written}
 use Rattle.sn_log.specs.Positions.{IsReadyAt, base_at, behind}
 use Rattle.sn_model.specs.declared.change.Change.{Change}
 use Rattle.sn_model.specs.Changes.{apply}
@@ -41,7 +41,7 @@ use Rattle.sn_cp_progress.proofs.StepLemmas.{lie}
 
 -- ---- a change that is appended
 
-module _ (old new : Held) (world next : World) (p : Progress) (change : Change) (tree : Tree) (ro : RunsOn old world p) (spelled : IsSpelled change) (applied : apply version_1 change world.live ≡ Some tree) (of : IsOfTree world tree next)
+module _ (old new : Held) (world next : World) (p : Progress) (change : Change) (tree : Tree) (ro : RunsOn old world p) (spelled : IsSpelled change) (applied : apply limits_written change world.live ≡ Some tree) (of : IsOfTree world tree next)
     (hierarchy : IsHierarchy world.live) (has_room : HasRoomFor old.room world.live change) (aged : HasAgeLeft ro.runs.root) (touched : Touches (InHalf (base_at old.at)) old.disk new.disk) where
   abbrev n : ℕ
   n = old.at.blocks
@@ -53,21 +53,21 @@ module _ (old new : Held) (world next : World) (p : Progress) (change : Change) 
   appends_either leaves = leaves_either old new world next change tree r spelled applied of hierarchy has_room aged touched leaves
 
   -- one more covers the live tree, over the old root and over the tree that the point was built of
-  old_cover : MakesCover version_1 (r.older ++ (r.newer ++ change ∷ [])) (image r.store r.root.inode_file) next.live
+  old_cover : MakesCover limits_written (r.older ++ (r.newer ++ change ∷ [])) (image r.store r.root.inode_file) next.live
   old_cover =
-      subst (λ (cs : List Change). MakesCover version_1 cs (image r.store r.root.inode_file) next.live) (append_assoc r.older r.newer (change ∷ []))
+      subst (λ (cs : List Change). MakesCover limits_written cs (image r.store r.root.inode_file) next.live) (append_assoc r.older r.newer (change ∷ []))
       (left_covers ((r.older ++ r.newer) ++ change ∷ []) (image r.store r.root.inode_file) tree next.live of.held of.live
-      (one_more_covers version_1 (r.older ++ r.newer) change (image r.store r.root.inode_file) world.live tree r.cover applied))
+      (one_more_covers limits_written (r.older ++ r.newer) change (image r.store r.root.inode_file) world.live tree r.cover applied))
 
-  new_cover : MakesCover version_1 (r.newer ++ change ∷ []) p.trees.live next.live
-  new_cover = left_covers (r.newer ++ change ∷ []) p.trees.live tree next.live of.held of.live (one_more_covers version_1 r.newer change p.trees.live world.live tree ro.point.cover applied)
+  new_cover : MakesCover limits_written (r.newer ++ change ∷ []) p.trees.live next.live
+  new_cover = left_covers (r.newer ++ change ∷ []) p.trees.live tree next.live of.held of.live (one_more_covers limits_written r.newer change p.trees.live world.live tree ro.point.cover applied)
 
   -- it is charged on some root
-  one_charged : (room : RoomCounts) (s : Store) (root : RootBody) (changes : List Change) → IsCharged room n s root changes world.live → MakesCover version_1 changes (image s root.inode_file) world.live
-      → HasRoomFor room world.live change → nameless_in world.live ≤ nameless_in next.live → IsCharged (logged (charge_for version_1 world.live change) room) n s root (changes ++ change ∷ []) next.live
+  one_charged : (room : RoomCounts) (s : Store) (root : RootBody) (changes : List Change) → IsCharged room n s root changes world.live → MakesCover limits_written changes (image s root.inode_file) world.live
+      → HasRoomFor room world.live change → nameless_in world.live ≤ nameless_in next.live → IsCharged (logged (charge_for limits_written world.live change) room) n s root (changes ++ change ∷ []) next.live
   one_charged room s root changes charged cover room_for no_fewer = record {
     free = charged.free;
-    charged = sym (one_more_charged changes change (image s root.inode_file) world.live cover hierarchy ∙ ap (λ (k : ℕ). k + charge_for version_1 world.live change) (sym charged.charged));
+    charged = sym (one_more_charged changes change (image s root.inode_file) world.live cover hierarchy ∙ ap (λ (k : ℕ). k + charge_for limits_written world.live change) (sym charged.charged));
     parked = omega (arith, charged.parked, no_fewer);
     fits = one_more_fits room n s root changes change world.live charged cover hierarchy room_for;
   }
@@ -82,9 +82,9 @@ module _ (old new : Held) (world next : World) (p : Progress) (change : Change) 
   rest_now = LeavesOnly-now old.disk new.disk (Rests n r.store r.slot r.root r.words r.root.epoch r.older) rest
 
   module _ (fits_next : HasRoomFor (done p.free old.room) world.live change) (leaves : LeavesMore old.at change old.disk new.disk) (whole : AreSectors (reads new.disk)) (no_fewer : nameless_in world.live ≤ nameless_in next.live)
-      (carried : CarriesOn old.base world.live old.room.charged_since new.base next.live (old.room.charged_since + charge_for version_1 world.live change)) (hierarchic : IsTree version_1 next.live) where
+      (carried : CarriesOn old.base world.live old.room.charged_since new.base next.live (old.room.charged_since + charge_for limits_written world.live change)) (hierarchic : IsTree limits_written next.live) where
     abbrev after : Held
-    after = record new { at = behind old.at change; room = logged (charge_for version_1 world.live change) old.room; world = next }
+    after = record new { at = behind old.at change; room = logged (charge_for limits_written world.live change) old.room; world = next }
 
     more : Always new.disk (IsReadyAt (behind old.at change) (r.newer ++ change ∷ []))
     more = leaves r.newer ro.point.ready
@@ -111,7 +111,7 @@ module _ (old new : Held) (world next : World) (p : Progress) (change : Change) 
       none_later = λ e c crash. newer_none n r.store r.slot r.root r.words r.older (r.newer ++ change ∷ []) c (behind old.at change) (rest_now c crash) refl ro.point.epoch (more c crash) e;
       log = inr (ro.point.epoch, more);
       cover = old_cover;
-      charged = subst (λ (cs : List Change). IsCharged (logged (charge_for version_1 world.live change) old.room) n r.store r.root cs next.live) (append_assoc r.older r.newer (change ∷ []))
+      charged = subst (λ (cs : List Change). IsCharged (logged (charge_for limits_written world.live change) old.room) n r.store r.root cs next.live) (append_assoc r.older r.newer (change ∷ []))
           (one_charged old.room r.store r.root (r.older ++ r.newer) r.charged r.cover has_room no_fewer);
       age = λ recovers. aged;
       frozen = of.frozen ∙ r.frozen;
@@ -134,7 +134,7 @@ module _ (old new : Held) (world next : World) (p : Progress) (change : Change) 
                 (λ i one two. halves_apart n r.root.epoch i two one) old.disk new.disk r.stands.disk.whole ro.point.none_later written;
             cover = new_cover;
             charged = λ t same holds. one_charged (done p.free old.room) t p.work.plan.next r.newer (ro.point.charged t same holds)
-                (subst (λ (from : Tree). MakesCover version_1 r.newer from world.live) (sym (ro.point.of.built.tree t same holds)) ro.point.cover) fits_next no_fewer;
+                (subst (λ (from : Tree). MakesCover limits_written r.newer from world.live) (sym (ro.point.of.built.tree t same holds)) ro.point.cover) fits_next no_fewer;
             slot = carried.slot ∙ ro.point.slot;
             root = carried.root ∙ ro.point.root;
             changed = carried.changed p.trees.live ro.point.changed;
@@ -142,15 +142,15 @@ module _ (old new : Held) (world next : World) (p : Progress) (change : Change) 
           };
         }
 
-pub appends_leave : (old new : Held) (world next : World) (p : Progress) (change : Change) (tree : Tree) (r : RunsOn old world p) → IsSpelled change → apply version_1 change world.live ≡ Some tree → IsOfTree world tree next → IsHierarchy world.live → HasRoomFor old.room world.live change → HasAgeLeft r.runs.root
+pub appends_leave : (old new : Held) (world next : World) (p : Progress) (change : Change) (tree : Tree) (r : RunsOn old world p) → IsSpelled change → apply limits_written change world.live ≡ Some tree → IsOfTree world tree next → IsHierarchy world.live → HasRoomFor old.room world.live change → HasAgeLeft r.runs.root
     → Touches (InHalf (base_at old.at)) old.disk new.disk → LeavesEither old.at change old.disk new.disk
     → LeavesOnly old.disk new.disk (λ c. IsImage c (settle world) ⊎ IsImage c (settle next))
 appends_leave old new world next p change tree ro spelled applied of hierarchy has_room aged touched leaves = appends_either old new world next p change tree ro spelled applied of hierarchy has_room aged touched leaves
 
-pub appends_go_on : (old new : Held) (world next : World) (p : Progress) (change : Change) (tree : Tree) (r : RunsOn old world p) → IsSpelled change → apply version_1 change world.live ≡ Some tree → IsOfTree world tree next → IsHierarchy world.live → HasRoomFor old.room world.live change → HasRoomFor (done p.free old.room) world.live change → HasAgeLeft r.runs.root
+pub appends_go_on : (old new : Held) (world next : World) (p : Progress) (change : Change) (tree : Tree) (r : RunsOn old world p) → IsSpelled change → apply limits_written change world.live ≡ Some tree → IsOfTree world tree next → IsHierarchy world.live → HasRoomFor old.room world.live change → HasRoomFor (done p.free old.room) world.live change → HasAgeLeft r.runs.root
     → Touches (InHalf (base_at old.at)) old.disk new.disk → LeavesMore old.at change old.disk new.disk → AreSectors (reads new.disk)
-    → new.at ≡ behind old.at change → new.room ≡ logged (charge_for version_1 world.live change) old.room → new.world ≡ next → nameless_in world.live ≤ nameless_in next.live
-    → CarriesOn old.base world.live old.room.charged_since new.base next.live (old.room.charged_since + charge_for version_1 world.live change) → IsTree version_1 next.live
+    → new.at ≡ behind old.at change → new.room ≡ logged (charge_for limits_written world.live change) old.room → new.world ≡ next → nameless_in world.live ≤ nameless_in next.live
+    → CarriesOn old.base world.live old.room.charged_since new.base next.live (old.room.charged_since + charge_for limits_written world.live change) → IsTree limits_written next.live
     → RunsOn new next p
 appends_go_on old new world next p change tree ro spelled applied of hierarchy has_room fits_next aged touched leaves whole at charged is no_fewer carried hierarchic =
     subst (λ (h : Held). RunsOn h next p) (λ i. record new { at = sym at i; room = sym charged i; world = sym is i })
@@ -159,7 +159,7 @@ appends_go_on old new world next p change tree ro spelled applied of hierarchy h
 -- ---- files without names that go
 
 module _ (h : Held) (world next : World) (p : Progress) (kept since : ℕ → Bool) (count : ℕ) (base : Kept) (ro : RunsOn h world p) (of : IsOfTree world world.live next) (counted : nameless_in world.live ≤ nameless_in next.live + count) where
-  module _ (carried : CarriesOn h.base world.live h.room.charged_since base next.live h.room.charged_since) (hierarchic : IsTree version_1 next.live) where
+  module _ (carried : CarriesOn h.base world.live h.room.charged_since base next.live h.room.charged_since) (hierarchic : IsTree limits_written next.live) where
     drop_on : RunsOn (record h { world = next; kept = kept; kept_since = since; room = dropping count h.room; base = base }) next p
     unfolding dropped_runs
     drop_on =
@@ -183,6 +183,6 @@ module _ (h : Held) (world next : World) (p : Progress) (kept since : ℕ → Bo
         }
 
 pub drops_go_on : (h : Held) (world next : World) (p : Progress) (kept since : ℕ → Bool) (count : ℕ) (base : Kept) → RunsOn h world p → IsOfTree world world.live next → nameless_in world.live ≤ nameless_in next.live + count
-    → CarriesOn h.base world.live h.room.charged_since base next.live h.room.charged_since → IsTree version_1 next.live
+    → CarriesOn h.base world.live h.room.charged_since base next.live h.room.charged_since → IsTree limits_written next.live
     → RunsOn (record h { world = next; kept = kept; kept_since = since; room = dropping count h.room; base = base }) next p
 drops_go_on h world next p kept since count base ro of counted carried hierarchic = drop_on h world next p kept since count base ro of counted carried hierarchic

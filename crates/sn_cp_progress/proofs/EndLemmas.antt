@@ -10,7 +10,7 @@ use Rattle.sn_device.specs.declared.fault.Fault.{Fault}
 use Rattle.sn_device.proofs.CrashLemmas.{Always-reads}
 use Rattle.sn_block.proofs.EffectLemmas.{OnOk-both}
 use Rattle.sn_limits.specs.declared.limits.Limits.{Limits}
-use Rattle.sn_limits.specs.Versions.{version_1}
+use Rattle.sn_limits.specs.Versions.{limits_written}
 use Rattle.sn_log.specs.Positions.{first_of, payloads_of}
 use Rattle.sn_model.specs.declared.change.Change.{Change}
 use Rattle.sn_model.specs.Changes.{apply_all}
@@ -57,7 +57,7 @@ use Rattle.sn_cp_progress.proofs.StepLemmas.{LiesAround, around_stays, around_th
 -- ---- the beginning
 
 -- a tree covers itself with no change
-covers_alone : (tree : Tree) → MakesCover version_1 [] tree tree
+covers_alone : (tree : Tree) → MakesCover limits_written [] tree tree
 unfolding apply_all
 covers_alone tree = record { tree = tree; applied = refl; covers = covers_itself tree }
 
@@ -103,14 +103,14 @@ module _ (h : Held) (world : World) (k : Kept) (ready : RunsReady h world k) (as
     };
     none_later = none_later;
     log = inr (refl, λ c crash. (has.around c crash).ready);
-    cover = subst (λ (ns : List Change). MakesCover version_1 (old.older ++ ns) (image old.store old.root.inode_file) world.live) none_newer old.cover;
+    cover = subst (λ (ns : List Change). MakesCover limits_written (old.older ++ ns) (image old.store old.root.inode_file) world.live) none_newer old.cover;
     charged = record {
       free = old.charged.free;
       charged = (subst (λ (ns : List Change). IsCharged h.room geometry old.store old.root (old.older ++ ns) world.live) none_newer old.charged).charged;
       parked = old.charged.parked;
       fits = (subst (λ (ns : List Change). IsCharged h.room geometry old.store old.root (old.older ++ ns) world.live) none_newer old.charged).fits;
     };
-    age = subst (λ (ns : List Change). IsToRecover (old.older ++ ns) (image old.store old.root.inode_file) → HasAgeLeft old.root) none_newer old.age;
+    age = subst (λ (ns : List Change). IsToRecover old.root (old.older ++ ns) (image old.store old.root.inode_file) → HasAgeLeft old.root) none_newer old.age;
     frozen = old.frozen;
   }
 
@@ -129,7 +129,7 @@ module _ (h : Held) (world : World) (k : Kept) (ready : RunsReady h world k) (as
       charged = of.charged;
       slot = ready.ready.slot;
       root = ready.ready.root;
-      changed = nothing_changed version_1 world.live;
+      changed = nothing_changed limits_written world.live;
       tree = ready.ready.tree;
     };
   }
@@ -160,14 +160,14 @@ module _ (h : Held) (world : World) (p : Progress) (ro : RunsOn h world p) (resu
 
   -- the next root, over a store that has its blocks
   module _ (t : Store) (same : SameIn (all_reach r.store r.root) r.store t) (holds : HoldsAll t w.plan.blocks) where
-    next_limits : w.plan.next.limits ≡ version_1
-    next_limits = ro.point.of.built.limits ∙ r.limits
+    next_limits : w.plan.next.limits ≡ limits_written
+    next_limits = ro.point.of.follows.limits
 
     next_tree : image t w.plan.next.inode_file ≡ p.trees.live
     next_tree = ro.point.of.built.tree t same holds
 
-    next_cover : MakesCover version_1 (r.newer ++ []) (image t w.plan.next.inode_file) world.live
-    next_cover = subst (λ (cs : List Change). MakesCover version_1 cs (image t w.plan.next.inode_file) world.live) (sym (append-nil r.newer)) (subst (λ (from : Tree). MakesCover version_1 r.newer from world.live) (sym next_tree) ro.point.cover)
+    next_cover : MakesCover limits_written (r.newer ++ []) (image t w.plan.next.inode_file) world.live
+    next_cover = subst (λ (cs : List Change). MakesCover limits_written cs (image t w.plan.next.inode_file) world.live) (sym (append-nil r.newer)) (subst (λ (from : Tree). MakesCover limits_written r.newer from world.live) (sym next_tree) ro.point.cover)
 
     next_frozen : p.trees.frozen ≡ frozen_of t w.plan.next.snapshots
     next_frozen = sym (ro.point.of.built.frozen t same holds)
@@ -181,7 +181,7 @@ module _ (h : Held) (world : World) (p : Progress) (ro : RunsOn h world p) (resu
     next_fits : Fits w.plan.next.limits (r.newer ++ []) (image t w.plan.next.inode_file) (free_blocks n t w.plan.next)
     next_fits =
         subst (λ (l : Limits). Fits l (r.newer ++ []) (image t w.plan.next.inode_file) (free_blocks n t w.plan.next)) (sym next_limits)
-        (subst (Fits version_1 (r.newer ++ []) (image t w.plan.next.inode_file)) next_charged.free next_charged.fits)
+        (subst (Fits limits_written (r.newer ++ []) (image t w.plan.next.inode_file)) next_charged.free next_charged.fits)
 
   none_after : (c : Contents) → around c → (epoch : ℕ) → HasNoLater c (base_of n epoch) (w.plan.next.epoch + 1)
   none_after c here = none_behind h world p ro (w.plan.next.epoch + 1) (let e = ro.point.of.follows.epoch in omega (arith, e)) c here
@@ -257,7 +257,7 @@ module _ (h : Held) (world : World) (p : Progress) (ro : RunsOn h world p) (resu
             slot = refl;
             root = refl;
             words = refl;
-            changed = subst (λ (from : Tree). HasChanged version_1 h.base.changed from world.live h.room.charged_since) (sym (next_tree t now.same now.blocks)) ro.point.changed;
+            changed = subst (λ (from : Tree). HasChanged limits_written h.base.changed from world.live h.room.charged_since) (sym (next_tree t now.same now.blocks)) ro.point.changed;
             tree = ro.point.tree;
           };
         }

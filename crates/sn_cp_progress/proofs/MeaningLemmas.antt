@@ -5,7 +5,7 @@ use Rattle.sn_device.specs.Disk.{Always, IsSynced, reads}
 use Rattle.sn_device.specs.Crash.{Touches}
 use Rattle.sn_device.specs.declared.status.Status.{Status}
 use Rattle.sn_device.proofs.CrashLemmas.{LeavesOnly-start}
-use Rattle.sn_limits.specs.Versions.{version_1}
+use Rattle.sn_limits.specs.Versions.{limits_written}
 use Rattle.sn_log.specs.Positions.{base_at, behind}
 use Rattle.sn_model.specs.declared.change.Change.{Change}
 use Rattle.sn_model.specs.Changes.{apply}
@@ -40,7 +40,7 @@ module _ (h : Held) (world : World) where
   root_with None ready = ready.ready.root
   root_with (Some going) (built, on) = on.point.root
 
-  pub tree_with : (point : Option Going) → RunsWith point h world → IsTree version_1 world.live
+  pub tree_with : (point : Option Going) → RunsWith point h world → IsTree limits_written world.live
   tree_with None ready = ready.ready.tree
   tree_with (Some going) (built, on) = on.point.tree
 
@@ -71,10 +71,10 @@ still : (h : Held) (world next : World) (going : Going) (built : Tree) → next.
 still h world next going built same on = subst (λ (f : FrozenTrees). RunsOn h next (progress_over going (record { live = built; frozen = f }))) (sym same) on
 
 -- a change that is appended
-pub appends_with : (point : Option Going) (old new : Held) (world next : World) (change : Change) (tree : Tree) → RunsWith point old world → IsSpelled change → apply version_1 change world.live ≡ Some tree → IsOfTree world tree next → IsHierarchy world.live → HasRoomWith point old.room world.live change → HasAgeLeft old.base.root
+pub appends_with : (point : Option Going) (old new : Held) (world next : World) (change : Change) (tree : Tree) → RunsWith point old world → IsSpelled change → apply limits_written change world.live ≡ Some tree → IsOfTree world tree next → IsHierarchy world.live → HasRoomWith point old.room world.live change → HasAgeLeft old.base.root
     → Touches (InHalf (base_at old.at)) old.disk new.disk → LeavesMore old.at change old.disk new.disk
-    → AreSectors (reads new.disk) → IsSynced new.disk → new.at ≡ behind old.at change → new.room ≡ logged (charge_for version_1 world.live change) old.room → new.world ≡ next → nameless_in world.live ≤ nameless_in next.live
-    → ((figure : ℕ) → CarriesOn old.base world.live figure new.base next.live (figure + charge_for version_1 world.live change)) → IsTree version_1 next.live → RunsWith point new next
+    → AreSectors (reads new.disk) → IsSynced new.disk → new.at ≡ behind old.at change → new.room ≡ logged (charge_for limits_written world.live change) old.room → new.world ≡ next → nameless_in world.live ≤ nameless_in next.live
+    → ((figure : ℕ) → CarriesOn old.base world.live figure new.base next.live (figure + charge_for limits_written world.live change)) → IsTree limits_written next.live → RunsWith point new next
 appends_with None old new world next change tree ready spelled applied of hierarchy has_room aged touched leaves whole synced at charged is no_fewer carried hierarchic =
     appends_ready old new world next change tree ready spelled applied of hierarchy has_room aged touched leaves whole synced at charged is no_fewer (carried old.room.charged) hierarchic
 appends_with (Some going) old new world next change tree (built, on) spelled applied of hierarchy has_room aged touched leaves whole synced at charged is no_fewer carried hierarchic = (
@@ -85,7 +85,7 @@ appends_with (Some going) old new world next change tree (built, on) spelled app
 
 -- files without names that go
 pub drops_with : (point : Option Going) (h : Held) (world next : World) (kept since : ℕ → Bool) (count : ℕ) (base : Kept) → RunsWith point h world → IsOfTree world world.live next → nameless_in world.live ≤ nameless_in next.live + count
-    → ((figure : ℕ) → CarriesOn h.base world.live figure base next.live figure) → IsTree version_1 next.live → RunsWith point (record h { world = next; kept = kept; kept_since = since; room = dropping count h.room; base = base }) next
+    → ((figure : ℕ) → CarriesOn h.base world.live figure base next.live figure) → IsTree limits_written next.live → RunsWith point (record h { world = next; kept = kept; kept_since = since; room = dropping count h.room; base = base }) next
 drops_with None h world next kept since count base ready of counted carried hierarchic = drops_ready h world next kept since count base ready of counted (carried h.room.charged) hierarchic
 drops_with (Some going) h world next kept since count base (built, on) of counted carried hierarchic = (
   built,

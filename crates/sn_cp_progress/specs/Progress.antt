@@ -5,7 +5,7 @@ use Rattle.sn_device.specs.Disk.{Always}
 use Rattle.sn_layout.specs.Geometry.{other_slot}
 use Rattle.sn_layout.specs.declared.geometry.Slot.{Slot}
 use Rattle.sn_layout.specs.declared.root.RootBody.{RootBody}
-use Rattle.sn_limits.specs.Versions.{version_1}
+use Rattle.sn_limits.specs.Versions.{limits_written}
 use Rattle.sn_log.specs.Positions.{IsReadyAt}
 use Rattle.sn_model.specs.NameTree.{IsTree}
 use Rattle.sn_model.specs.World.{Trees, World}
@@ -51,12 +51,12 @@ pub record InProgress (h : Held) (world : World) (r : Runs h world) (p : Progres
   pub epoch : h.at.epoch ≡ r.root.epoch + 1
   pub ready : Always h.disk (IsReadyAt h.at r.newer)
   pub none_later : Always h.disk (λ c. HasNoLater c (base_of h.at.blocks r.root.epoch) r.root.epoch)
-  pub cover : MakesCover version_1 r.newer p.trees.live world.live
+  pub cover : MakesCover limits_written r.newer p.trees.live world.live
   pub charged : (t : Store) → SameIn (all_reach r.store r.root) r.store t → HoldsAll t p.work.plan.blocks → IsCharged (done p.free h.room) h.at.blocks t p.work.plan.next r.newer world.live
   pub slot : h.base.slot ≡ r.slot
   pub root : h.base.root ≡ r.root
-  pub changed : HasChanged version_1 h.base.changed p.trees.live world.live h.room.charged_since
-  pub tree : IsTree version_1 world.live
+  pub changed : HasChanged limits_written h.base.changed p.trees.live world.live h.room.charged_since
+  pub tree : IsTree limits_written world.live
 
 -- A mount runs over this world, with a point in progress.
 pub record RunsOn (h : Held) (world : World) (p : Progress) : Type 0 where

@@ -8,13 +8,14 @@ use Rattle.std.specs.FinMap.Entries.{find}
 use Rattle.std.specs.Ordering.{eq_by_cmp}
 use Rattle.std.proofs.lemmas.Bool.{and_parts, leb-true, ltb-true, not-true}
 use Rattle.sn_image.specs.Image.{image}
+use Rattle.sn_image.proofs.AllowedLemmas.{snapshots_stay}
 use Rattle.sn_layout.specs.declared.root.RootBody.{RootBody}
 use Rattle.sn_layout.specs.declared.snapshot.Snapshot.{Snapshot}
 use Rattle.sn_layout.specs.RootBody.{IsRootBody}
-use Rattle.sn_layout.specs.Snapshot.{are_distinct, are_rising, are_within}
-use Rattle.sn_layout.proofs.Roots.{known}
+use Rattle.sn_layout.specs.Snapshot.{AreSnapshots, are_distinct, are_rising, are_within}
 use Rattle.sn_limits.specs.declared.limits.Limits.{Limits}
-use Rattle.sn_limits.specs.Versions.{version_1}
+use Rattle.sn_limits.specs.Versions.{Allows, limits_written}
+use Rattle.sn_limits.proofs.VersionLemmas.{fixed, written_allows}
 use Rattle.sn_model.specs.declared.outcome.AskedPoint.{AskedPoint}
 use Rattle.sn_model.specs.declared.outcome.AskedPoint.TheVariants.{Unasked, Plain, Freezes, Thaws}
 use Rattle.sn_model.specs.Tree.{Tree}
@@ -24,15 +25,12 @@ use Rattle.sn_opening.specs.Worlds.{FrozenTrees, frozen_of}
 use Rattle.sn_sound.proofs.StandingLemmas.{first_among, more_among}
 use Rattle.sn_snap.specs.Catalogue.{Entry, IsCatalogue, by_name, catalogue, entry_of}
 use Rattle.sn_snap.proofs.NameLemmas.{by_bytes, get_is, has_name, named, names_total, same_bytes, told_by}
-use Rattle.sn_cp_whole.specs.Asking.{CanBeMade, HasSnapshot}
+use Rattle.sn_cp_whole.specs.Asking.{CanBeMade, CanBeMadeWith, HasSnapshot}
 use Rattle.sn_cp_whole.specs.Making.{CanBeAsked}
 
 -- ---- the snapshots of a root body
 
 module _ (root : RootBody) (fits : IsRootBody root) where
-  pub limits_known : root.limits ≡ version_1
-  limits_known = (known root.limits.version root.limits fits.version).1
-
   -- of its four tests, the last three
   record Tests : Type 0 where
     rising : are_rising 0 root.snapshots ≡ true
@@ -54,7 +52,27 @@ module _ (root : RootBody) (fits : IsRootBody root) where
 
   -- a word of the map has each bit that its version has
   pub is_bit : (bit : ℕ) → bit ≤ root.limits.largest_bit → bit ≤ 31
-  is_bit bit within = let most = ap (λ (l : Limits). l.largest_bit) limits_known in omega (arith, within, most)
+  is_bit bit within = let most = (fixed root.limits.version root.limits fits.version).bits in omega (arith, within, most)
+
+  -- the written version allows what its own does
+  allows : Allows root.limits limits_written
+  allows = written_allows root.limits.version root.limits fits.version
+
+  -- so its snapshots are those of a root under the written limits, and what can be made of them can be under those
+  pub snapshots_written : AreSnapshots limits_written root.snapshots
+  snapshots_written = snapshots_stay root.limits limits_written allows root.snapshots fits.snapshots
+
+  pub made_written : (asked : AskedPoint) (bit : ℕ) → CanBeMadeWith asked bit root.limits root.snapshots → CanBeMadeWith asked bit limits_written root.snapshots
+  made_written Unasked bit can = can
+  made_written Plain bit can = can
+  made_written (Freezes name) bit can = record {
+    from_one = can.from_one;
+    bit_free = can.bit_free;
+    name_free = can.name_free;
+    room = omega (arith, can.room, allows.snapshots);
+    within = omega (arith, can.within, allows.bits);
+  }
+  made_written (Thaws name) bit can = can
 
 bit_between : (before largest : ℕ) (snapshots : List Snapshot) (s : Snapshot) → are_rising before snapshots ≡ true → are_within largest snapshots ≡ true → Contains snapshots s → (before < s.bit) × (s.bit ≤ largest)
 bit_between before largest [] s rise small (k, within, is) = absurd (omega (arith, within))
@@ -138,16 +156,16 @@ pub has_room : (o : Option ℕ) (bit most count : ℕ) → o ≡ Some bit → (I
 has_room None bit most count is full = absurd cc
 has_room (Some x) bit most count is full = let some : most ≤ count → ⊥ = λ less. true≢false (full.1 less) in omega (arith, some)
 
--- ---- a world whose frozen trees are those of a root
+-- ---- a world whose frozen trees are those of a root that has the written limits
 
-pub asked_can : (asked : AskedPoint) (world : World) (s : Store) (root : RootBody) → IsRootBody root → world.frozen ≡ frozen_of s root.snapshots → CanBeAsked asked world → CanBeMade asked root.limits root.snapshots
-asked_can Unasked world s root fits frozen can = tt
-asked_can Plain world s root fits frozen can = tt
-asked_can (Freezes name) world s root fits frozen can =
+pub asked_can : (asked : AskedPoint) (world : World) (s : Store) (root : RootBody) → root.limits ≡ limits_written → IsRootBody root → world.frozen ≡ frozen_of s root.snapshots → CanBeAsked asked world → CanBeMade asked root.limits root.snapshots
+asked_can Unasked world s root written fits frozen can = tt
+asked_can Plain world s root written fits frozen can = tt
+asked_can (Freezes name) world s root written fits frozen can =
     let tree : Snapshot → Tree = λ x. image s x.tree in
-    let most = ap (λ (l : Limits). l.snapshots) (limits_known root fits) in
+    let most = ap (λ (l : Limits). l.snapshots) written in
     let count = ap (λ (m : FrozenTrees). fin.len m) frozen ∙ count_is tree root.snapshots (tests root fits).distinct in
     (has_key entry_of root.snapshots name ∙ sym (has_key tree root.snapshots name) ∙ ap (λ (m : FrozenTrees). fin.contains_key m name) (sym frozen) ∙ can.0, omega (arith, most, count, can.1))
-asked_can (Thaws name) world s root fits frozen can =
+asked_can (Thaws name) world s root written fits frozen can =
     let tree : Snapshot → Tree = λ x. image s x.tree in
     has_key entry_of root.snapshots name ∙ sym (has_key tree root.snapshots name) ∙ ap (λ (m : FrozenTrees). fin.contains_key m name) (sym frozen) ∙ can

@@ -104,7 +104,7 @@ module _ (h : Held) (world : World) (k : Kept) (rr : RunsReady h world k) (asked
   can_be_made : IsRootBody k.root → CanBeAsked asked world → CanBeMade asked k.root.limits k.root.snapshots
   can_be_made body can =
       let of = rr.ready.root in
-      subst (λ (r : RootBody). CanBeMade asked r.limits r.snapshots) (sym of) (asked_can asked world rr.runs.store rr.runs.root (subst IsRootBody of body) rr.runs.frozen can)
+      subst (λ (r : RootBody). CanBeMade asked r.limits r.snapshots) (sym of) (asked_can asked world rr.runs.store rr.runs.root rr.runs.limits (subst IsRootBody of body) rr.runs.frozen can)
 
   -- nothing was written
   pub nothing_written : {T : Type 0} (any : Held) (result : Result T PointFault) (f : PointFault) (at : LogPosition) (d : Disk) → result ≡ Err f → d ≡ h.disk → IsRootBody k.root → CanBeAsked asked world
@@ -198,7 +198,7 @@ is_going n m base changed asked built next slot gate going in_n size count plans
       first = first ∙ ap first_stage (sym (ap (λ (w : Work). length w.plan.blocks) is ∙ written_count built.blocks.items));
       blocks = ap (λ (w : Work). w.blocks) is ∙ in_n;
       slot = sym (ap (λ (w : Work). w.slot) is ∙ other);
-      follows = record { generation = ap (λ (w : Work). w.plan.next.generation) is ∙ ap (λ (r : RootBody). r.generation) plans.follows.is; epoch = ap (λ (w : Work). w.plan.next.epoch) is ∙ ap (λ (r : RootBody). r.epoch) plans.follows.is };
+      follows = record { generation = ap (λ (w : Work). w.plan.next.generation) is ∙ ap (λ (r : RootBody). r.generation) plans.follows.is; epoch = ap (λ (w : Work). w.plan.next.epoch) is ∙ ap (λ (r : RootBody). r.epoch) plans.follows.is; limits = ap (λ (w : Work). w.plan.next.limits) is ∙ ap (λ (r : RootBody). r.limits) plans.follows.is };
       age = subst (λ (w : Work). HasAgeLeft w.plan.next) (sym is) plans.follows.age;
       few = omega (arith, ap (λ (w : Work). length w.plan.blocks) is, written_count built.blocks.items, plans.well.few);
       free = free ∙ ap (free_data built.map) (ap (λ (b : ℕ). start_of b Data) in_n) ∙ ap (λ (w : Work). free_data w.plan.words (start_of n Data)) (sym is);

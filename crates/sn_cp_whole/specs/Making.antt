@@ -12,7 +12,7 @@ use Rattle.sn_layout.specs.declared.gate.Gate.TheVariants.{Open}
 use Rattle.sn_layout.specs.declared.geometry.Area.TheVariants.{Data}
 use Rattle.sn_layout.specs.Geometry.{map_blocks, start_of}
 use Rattle.sn_log.specs.Positions.{LogPosition}
-use Rattle.sn_limits.specs.Versions.{version_1}
+use Rattle.sn_limits.specs.Versions.{limits_written}
 use Rattle.sn_model.specs.declared.outcome.AskedPoint.{AskedPoint}
 use Rattle.sn_model.specs.declared.outcome.AskedPoint.TheVariants.{Unasked, Plain, Freezes, Thaws}
 use Rattle.sn_model.specs.Steps.{pointed}
@@ -38,7 +38,7 @@ over_world world h = record h { world = world }
 abbrev pub CanBeAsked : AskedPoint → World → Type 0
 CanBeAsked Unasked world = Unit {0}
 CanBeAsked Plain world = Unit {0}
-CanBeAsked (Freezes name) world = (map.contains_key world.frozen name ≡ false) × (map.len world.frozen < version_1.snapshots)
+CanBeAsked (Freezes name) world = (map.contains_key world.frozen name ≡ false) × (map.len world.frozen < limits_written.snapshots)
 CanBeAsked (Thaws name) world = map.contains_key world.frozen name ≡ true
 
 -- At `Ok` the mount runs on over the next root, with the snapshots that were asked for, and a crash at any moment on the way leaves an image of the settled world from before or of the one from after; so it does where the device failed. Otherwise nothing was written. What is read can always be used, and is never too much for what is free.

@@ -4,6 +4,7 @@ use Rattle.sn_device.specs.declared.status.Status.{Status}
 use Rattle.sn_layout.specs.Bytes.{AreNumbers}
 use Rattle.sn_layout.specs.RootBody.{IsRootBody}
 use Rattle.sn_layout.specs.declared.root.RootBody.{RootBody}
+use Rattle.sn_limits.specs.Versions.{limits_written}
 use Rattle.sn_log.specs.Positions.{LogPosition}
 use Rattle.sn_model.specs.declared.outcome.AskedPoint.{AskedPoint}
 use Rattle.sn_overlay.specs.Layers.{Layer}
@@ -37,11 +38,11 @@ pub record IsBaseAt (at : LogPosition) (base : PointBase) : Type 0 where
 
 -- On this root another can follow by a point of this kind, which leaves an age where it needs one.
 abbrev pub HasAgeFor : PointKind → RootBody → Type 0
-HasAgeFor kind root = (root.generation + 1 ≤ 2 ^ 62) × (root.epoch + epochs_of kind ≤ 2 ^ 62) × LeavesAge kind (following kind root.limits root)
+HasAgeFor kind root = (root.generation + 1 ≤ 2 ^ 62) × (root.epoch + epochs_of kind ≤ 2 ^ 62) × LeavesAge kind (following kind limits_written root)
 
--- The root that follows by a point of this kind, with the inode file that was built and the snapshots that are asked for: it can be written, and leaves such an age.
+-- The root that follows by a point of this kind, under the written limits, with the inode file that was built and the snapshots that are asked for: it can be written, and leaves such an age.
 pub record IsNextRoot (kind : PointKind) (root : RootBody) (asked : AskedPoint) (bit : ℕ) (built : Built) (next : RootBody) : Type 0 where
-  pub is : next ≡ record (following kind root.limits root) { inode_file = built.inode_file; snapshots = next.snapshots }
+  pub is : next ≡ record (following kind limits_written root) { inode_file = built.inode_file; snapshots = next.snapshots }
   pub snapshots : FollowsBy asked bit root next
   pub body : IsRootBody next
   pub age : LeavesAge kind next

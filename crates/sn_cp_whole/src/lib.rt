@@ -21,7 +21,8 @@
 //! - The superblock, the root that counted and its map are never written.
 //!
 //! [`make_recovery`] does the same before a mount runs, of what it replayed and dropped: the next root's epoch is behind
-//! both that were replayed, so no clearing begins it, and the log and the snapshots are left alone.
+//! both that were replayed, so no clearing begins it, and the log and the snapshots are left alone. The root before it may
+//! be of any version that is read: what is built over it goes by its limits, and the next root has the written ones.
 //!
 //! The way through: `base` has what is kept; `asking` what becomes of the snapshots; `planning` what is built, with the
 //! root that follows; `going` the beginning and the end of a point of a mount, `making` a whole one, and `recovering` the

@@ -5,6 +5,7 @@ ghost use Rattle.sn_block.specs.Lending.{device_of};
 ghost use Rattle.sn_layout.specs.Bytes.{AreNumbers};
 ghost use Rattle.sn_layout.specs.Geometry.{other_slot};
 ghost use Rattle.sn_layout.specs.RootBody.{IsRootBody};
+ghost use Rattle.sn_limits.specs.Versions.{limits_written};
 ghost use Rattle.sn_ondisk.specs.Trees.{store_of};
 ghost use Rattle.sn_overlay.specs.Overlays.{HasRoom, layer_of, no_changes};
 ghost use Rattle.sn_root.specs.Following.{following};
@@ -21,6 +22,7 @@ use sn_block::{Blocks, ReadFault};
 use sn_cp_build::{Built, build};
 use sn_device::Device;
 use sn_layout::{Area, Block, Gate, Geometry, LARGEST_AGE, LogHalf, RootBody, Slot};
+use sn_limits::Limits;
 use sn_model::AskedPoint;
 use sn_overlay::Overlay;
 use sn_root::{PointKind, next_root, read_gate};
@@ -47,15 +49,15 @@ fn leaves_age(kind: PointKind, next: &RootBody) -> bool
     }
 }
 
-/// The root that follows on this one by a point of this kind, where it has an age, and leaves one.
+/// The root that follows on this one by a point of this kind, under the written limits, where it has an age, and leaves one.
 fn following_root(root: &RootBody, kind: PointKind) -> Option<RootBody>
     requires body { IsRootBody root.now }
-    ensures is { IfSome result (λ next. next ≡ following kind root.now.limits root.now) }
+    ensures is { IfSome result (λ next. next ≡ following kind limits_written root.now) }
     ensures body { IfSome result IsRootBody }
     ensures age { IfSome result (LeavesAge kind) }
     ensures none { result ≡ None → HasAgeFor kind root.now → ⊥ }
 {
-    let next = next_root(root, &root.limits, kind)?;
+    let next = next_root(root, &Limits::WRITTEN, kind)?;
     if leaves_age(kind, &next) {
         Some(next)
     } else {

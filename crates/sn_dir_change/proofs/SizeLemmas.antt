@@ -7,7 +7,8 @@ use Rattle.std.proofs.lemmas.Bool.{cases_lt, ltb-true, and_parts, leb-true}
 use Rattle.std.proofs.lemmas.List.Concat.{flat_map-append}
 use Rattle.std.proofs.lemmas.List.Elements.{All-contains, All-from_recursion, All-cons, All-nil}
 use Rattle.sn_limits.specs.Names.{is_name_spelled, has_name_length}
-use Rattle.sn_limits.specs.Versions.{limits_of, version_1}
+use Rattle.sn_limits.specs.Versions.{limits_of}
+use Rattle.sn_limits.proofs.VersionLemmas.{fixed}
 use Rattle.sn_limits.specs.declared.limits.Limits.{Limits}
 use Rattle.sn_layout.specs.Bytes.{zeros}
 use Rattle.sn_layout.specs.declared.tree.BlockTree.{BlockTree}
@@ -193,20 +194,13 @@ module _ (Told : Type 0) (s : Store) (tree : BlockTree) (changes : List NameChan
 
 -- ---- in a version
 
-version_is : (version : ℕ) (limits : Limits) → limits_of version ≡ Some limits → limits ≡ version_1
-version_is version limits is = either (version == 1) is
-  where
-    either : (b : Bool) → (if b then Some version_1 else None) ≡ Some limits → limits ≡ version_1
-    either true same = cc
-    either false same = absurd cc
-
 pub grown_fit : (Told : Type 0) (s : Store) (tree : BlockTree) (changes : List NameChange) (size version : ℕ) (limits : Limits) (names : List Link) → limits_of version ≡ Some limits
     → IsSizeWith Told s tree changes size → Told → AreOnce (names_of s (Tree tree)) → AreSpelled s tree → tree.size ≤ limits.largest_file
     → IsChanged changes (names_of s (Tree tree)) names → length names ≤ limits.names → size ≤ limits.largest_file
 grown_fit Told s tree changes size version limits names is sized told once spelled small changed few =
-    let one = version_is version limits is in
-    let largest : limits.largest_file ≡ 67108864 = ap (λ (l : Limits). l.largest_file) one in
-    let most : limits.names ≡ 65535 = ap (λ (l : Limits). l.names) one in
+    let its = fixed version limits is in
+    let largest = its.least in
+    let most = its.names in
     ⊎_elim
     (λ (grows : tree.size < size). omega (arith, sized.few told once spelled grows names changed, sized.whole, few, most, largest))
     (λ (stays : size ≤ tree.size). omega (arith, stays, small))

@@ -5,7 +5,7 @@ use Rattle.std.specs.FinMap as map
 use Rattle.std.proofs.lemmas.Bool.{false_from_ne_true, lt-ltb, ltb-true, true≢false}
 use Rattle.std.proofs.lemmas.List.Sums.{sum_by-cons}
 use Rattle.sn_limits.specs.declared.kind.Kind.TheVariants.{Directory}
-use Rattle.sn_limits.specs.Versions.{version_1}
+use Rattle.sn_limits.specs.Versions.{limits_written}
 use Rattle.sn_model.specs.declared.link.Link.{Link}
 use Rattle.sn_model.specs.Tree.{Tree}
 use Rattle.sn_model.specs.Changes.{is_at_or_below}
@@ -83,7 +83,7 @@ all_counted end (e ∷ es) = omega (
   sum_by-cons (λ (x : Link × ℕ). cond (not (nat_lt x.0.directory end)) 1 0) e es,
 )
 
-module _ (tree : Tree) (whole : IsTree version_1 tree) where
+module _ (tree : Tree) (whole : IsTree limits_written tree) where
   low : (link : Link) (number : ℕ) → map.get tree.links link ≡ Some number → link.directory < 65536
   low link number e =
       let found = some_node _ Directory (whole.hierarchy.held link number e) in
@@ -111,7 +111,7 @@ pub record IsOnWay (tree : Tree) (top directory current gone : ℕ) : Type 0 whe
   pub climbs : Climbs tree 2 way current
   pub few : length way + gone ≤ map.len tree.links
 
-module _ (tree : Tree) (whole : IsTree version_1 tree) where
+module _ (tree : Tree) (whole : IsTree limits_written tree) where
   -- the root is below no other directory
   root_alone : (top d : ℕ) → d ≢ top → d ≡ 2 → IsBelow tree top d → ⊥
   root_alone top d apart root here = apart refl
@@ -122,7 +122,7 @@ module _ (tree : Tree) (whole : IsTree version_1 tree) where
   to_parent top k d apart kind named here = absurd (apart refl)
   to_parent top k d apart kind named (under link n b e) = subst (λ (l : Link). IsBelow tree top l.directory) (whole.hierarchy.once link k d kind e named) b
 
-module _ (tree : Tree) (whole : IsTree version_1 tree) (rows : List Counted) (tells : TellsDirectories tree rows) (top directory : ℕ) where
+module _ (tree : Tree) (whole : IsTree limits_written tree) (rows : List Counted) (tells : TellsDirectories tree rows) (top directory : ℕ) where
   pub starts : HasKind tree directory Directory → IsOnWay tree top directory directory 0
   starts kind =
       let up = climb_root tree directory (whole.hierarchy.reached directory kind) in

@@ -2,7 +2,7 @@
 use Rattle.std.specs.Prelude.{◌≡◌, ◌≢◌, ℕ, Bool, false, List, Option, None, Some, slice_index_or}
 use Rattle.std.specs.FinMap as map
 use Rattle.sn_limits.specs.declared.kind.Kind.TheVariants.{Directory}
-use Rattle.sn_limits.specs.Versions.{version_1}
+use Rattle.sn_limits.specs.Versions.{limits_written}
 use Rattle.sn_model.specs.declared.link.Link.{Link}
 use Rattle.sn_model.specs.NameTree.{HasKind, IsTree}
 use Rattle.sn_model.specs.Tree.{Tree, names_in}
@@ -48,5 +48,5 @@ is_directory_seen (Some node) = is_directory node.kind
 -- A layer lies over a tree; what is seen through it is a name tree, and the table tells its directories.
 pub record IsShown (layer : Layer) (below : Tree) (rows : List Counted) : Type 0 where
   pub lies : LiesOver layer below
-  pub whole : IsTree version_1 (through layer below)
+  pub whole : IsTree limits_written (through layer below)
   pub tells : TellsDirectories (through layer below) rows

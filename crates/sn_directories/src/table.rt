@@ -2,7 +2,7 @@
 ghost use Rattle.std.specs.Prelude.{◌≡◌, ◌<◌, ℕ, List, replicate, vec_len, None, Some, IfOk};
 ghost use Rattle.std.specs.FinMap as fin;
 ghost use Rattle.sn_limits.specs.declared.kind.Kind.TheVariants.{Directory};
-ghost use Rattle.sn_limits.specs.Versions.{version_1};
+ghost use Rattle.sn_limits.specs.Versions.{limits_written};
 ghost use Rattle.sn_model.specs.Changes.{is_at_or_below, put_link, take_link};
 ghost use Rattle.sn_model.specs.NameTree.{HasKind, IsTree};
 ghost use Rattle.sn_model.specs.Tree.{Tree, names_for, names_in};
@@ -121,7 +121,7 @@ impl Directories {
 
     /// Whether a directory is another one, or is below it. It goes up by the directories that they are in.
     pub fn is_at_or_below(&self, top: u16, directory: u16) -> bool
-        ensures { (tree : Tree) → IsTree version_1 tree → TellsDirectories tree self.now → HasKind tree directory Directory
+        ensures { (tree : Tree) → IsTree limits_written tree → TellsDirectories tree self.now → HasKind tree directory Directory
             → result ≡ is_at_or_below tree top directory }
     {
         let mut current = directory;

@@ -3,7 +3,7 @@ use Rattle.std.specs.Prelude.{IsOk, is_none, is_some}
 use Rattle.std.proofs.Common.{◌≡◌, inl, inr, ◌&&◌, ◌||◌, ℕ, ◌+◌, ◌-◌, ◌≤◌, if◌then◌else◌, Bool, true, false, Option, Some, None, Result, Ok, Err, refl, sym, ap, subst, ◌∙◌, arith, leb-true}
 use Rattle.std.specs.FinMap as map
 use Rattle.std.proofs.lemmas.Bool.{true≢false}
-use Rattle.sn_limits.specs.Versions.{version_1}
+use Rattle.sn_limits.specs.Versions.{limits_written}
 use Rattle.sn_model.specs.declared.call.Call.{Call}
 use Rattle.sn_model.specs.declared.call.Event.TheVariants as event
 use Rattle.sn_model.specs.declared.change.Change.{Change}
@@ -108,7 +108,7 @@ none_dropped count room none = λ i. record room { dropped = same room.dropped i
 
 -- an event that a state answers with a refusal, and that changes nothing
 kept : (h : Held) (has_stopped : Bool) (s : State) (session : ℕ) (c : Call) (met : Option Mishap) (reply : Reply) → ServesTo met h session c h → Means h has_stopped s → MayMeet h h (event.Call session c) met h.status → Leaves s (event.Call session c) met reply s h h h
-    → EventStep version_1 s (event.Call session c) met reply s → ServesFrom s session c reply h h has_stopped
+    → EventStep limits_written s (event.Call session c) met reply s → ServesFrom s session c reply h h has_stopped
 kept h has_stopped s session c met reply to m may leaves step = record {
   answers = record {
     met = met;
@@ -146,7 +146,7 @@ in_world h new has_stopped session c reply f (Running w) m =
 in_world h new has_stopped session c reply f (Stopped before after) m = absurd (true≢false (sym m.0))
 
 -- a call that is refused asks for nothing
-cannot_ask : (h : Held) (session : ℕ) (c : Call) (refusal : Refusal) {A : Type 0} → AsksFirst h session c → decision version_1 h.world session c ≡ Err refusal → A
+cannot_ask : (h : Held) (session : ℕ) (c : Call) (refusal : Refusal) {A : Type 0} → AsksFirst h session c → decision limits_written h.world session c ≡ Err refusal → A
 cannot_ask h session c refusal asks none = absurd (never (asks.decided) none)
   where
     never : {d : Result Outcome Refusal} {o : Outcome} → d ≡ Ok o → d ≡ Err refusal → ⊥
@@ -208,16 +208,16 @@ undecided_serves h new session c e none = in_world h new false session c (reply_
     told : RunsWith h.point h h.world → (e : CallFault) → IsUndecided e h session c new → ServesFrom (Running h.world) session c (reply_to e) h new false
     told r (lack.Refused refusal) (none, same) = subst (λ (x : Held). ServesFrom (Running h.world) session c (answer.Refused refusal) h x false) (sym same)
         (kept h false (Running h.world) session c None (answer.Refused refusal) tt (refl, r) refl (λ asks. cannot_ask h session c refusal asks none, inl (record { none = refused_none h.world h.kept session c refusal none; drops = drops_none h; carries = carries_none h }))
-        (record { next = h.world; becomes = subst (λ (d : Result Outcome Refusal). Becomes version_1 h.world session d (answer.Refused refusal) h.world) (sym none) (refl, refl); runs = refl }))
+        (record { next = h.world; becomes = subst (λ (d : Result Outcome Refusal). Becomes limits_written h.world session d (answer.Refused refusal) h.world) (sym none) (refl, refl); runs = refl }))
     told r lack.Memory (takes, same) = subst (λ (x : Held). ServesFrom (Running h.world) session c (refused Enomem) h x false) (sym same)
         (kept h false (Running h.world) session c (Some Memory) (refused Enomem) tt (refl, r) refl refl (takes, record { told = refl; same = refl }))
     told r lack.Read (takes, same, fails) = read_fails h new session c same fails takes r
 
 -- there is no memory for what is to be opened
-pub unprepared_serves : (h : Held) (session : ℕ) (c : Call) (o : Outcome) → decision version_1 h.world session c ≡ Ok o → is_opening o.caller ≡ true → Serves (Some (refused Enomem)) h session c h false
+pub unprepared_serves : (h : Held) (session : ℕ) (c : Call) (o : Outcome) → decision limits_written h.world session c ≡ Ok o → is_opening o.caller ≡ true → Serves (Some (refused Enomem)) h session c h false
 unprepared_serves h session c o decided opens = in_world h h false session c (refused Enomem) (λ r. kept h false (Running h.world) session c (Some Memory) (refused Enomem) tt (refl, r) refl refl (opening_takes h.world session c o decided opens, record { told = refl; same = refl }))
 
-pub figures : AreCharged version_1
+pub figures : AreCharged limits_written
 figures = record { inodes = omega arith; blocks = refl }
 
 -- what changed is carried on to the tree that a caller leaves
@@ -226,7 +226,7 @@ drops_carry old new w session caller charged hierarchy drops = record {
   slot = drops.slot;
   root = drops.root;
   words = drops.words;
-  changed = λ root changed. callers_drop version_1 old.changed new.changed root charged w session caller drops.files figures hierarchy changed drops.gone drops.leads;
+  changed = λ root changed. callers_drop limits_written old.changed new.changed root charged w session caller drops.files figures hierarchy changed drops.gone drops.leads;
 }
 
 both_true : (a b : Bool) → (a && b) ≡ true → (a ≡ true) × (b ≡ true)
@@ -234,7 +234,7 @@ both_true true b e = (refl, e)
 both_true false b e = absurd (true≢false (sym e))
 
 -- the call has an outcome, and a change was chosen
-module _ (old : Held) (session : ℕ) (c : Call) (o : Outcome) (picked : Chosen) (change : Change) (numbers : IsCall c) (whole : IsWorld version_1 old.world) (decided : decision version_1 old.world session c ≡ Ok o) (chosen : Chooses old.world.live old.kept o.change o.caller picked) (some : picked.change ≡ Some change) where
+module _ (old : Held) (session : ℕ) (c : Call) (o : Outcome) (picked : Chosen) (change : Change) (numbers : IsCall c) (whole : IsWorld limits_written old.world) (decided : decision limits_written old.world session c ≡ Ok o) (chosen : Chooses old.world.live old.kept o.change o.caller picked) (some : picked.change ≡ Some change) where
   can : CanBeMade old.world change
   can = can_be_made old.world old.kept session c o picked change whole decided chosen some
 
@@ -242,12 +242,12 @@ module _ (old : Held) (session : ℕ) (c : Call) (o : Outcome) (picked : Chosen)
   is_change = record { outcome = o; decided = decided; picked = picked; chosen = chosen; is = some }
 
   -- its charge is that of its change
-  charge_is : o.charge ≡ charge_for version_1 old.world.live change
+  charge_is : o.charge ≡ charge_for limits_written old.world.live change
   charge_is = charge_of_change old.world old.kept session c o picked change decided chosen some
 
   -- where it fits, there is room for it on top of what was charged
-  room_on : (room : RoomCounts) → fits version_1 room (nameless_in old.world.live) o ≡ true → HasRoomFor room old.world.live change
-  room_on room it_fits = omega (arith, leb-true (charged_behind version_1 room (nameless_in old.world.live) o + (if gives_back o.change then 0 else version_1.reserve)) room.free it_fits, charge_is)
+  room_on : (room : RoomCounts) → fits limits_written room (nameless_in old.world.live) o ≡ true → HasRoomFor room old.world.live change
+  room_on room it_fits = omega (arith, leb-true (charged_behind limits_written room (nameless_in old.world.live) o + (if gives_back o.change then 0 else limits_written.reserve)) room.free it_fits, charge_is)
 
   room_along : (point : Option Going) → fits_with point old.room (nameless_in old.world.live) o ≡ true → HasRoomWith point old.room old.world.live change
   room_along None it_fits = room_on old.room it_fits
@@ -260,22 +260,22 @@ module _ (old : Held) (session : ℕ) (c : Call) (o : Outcome) (picked : Chosen)
   abbrev pub next_with : Tree → World
   next_with tree = dropped (with_caller (with_live old.world tree) session picked.caller)
 
-  by_change : (tree : Tree) → apply version_1 change old.world.live ≡ Some tree → MadeBy picked.change old.world.live tree
+  by_change : (tree : Tree) → apply limits_written change old.world.live ≡ Some tree → MadeBy picked.change old.world.live tree
   by_change tree e = subst (λ (x : Option Change). MadeBy x old.world.live tree) (sym some) e
 
   -- no point is asked for
   stays : (tree : Tree) → pointed o.point (next_with tree) ≡ next_with tree
   stays tree = chosen_stays old.world old.kept session c o picked change decided chosen some (next_with tree)
 
-  becomes : (tree : Tree) → apply version_1 change old.world.live ≡ Some tree → Becomes version_1 old.world session (decision version_1 old.world session c) o.told (next_with tree)
+  becomes : (tree : Tree) → apply limits_written change old.world.live ≡ Some tree → Becomes limits_written old.world session (decision limits_written old.world session c) o.told (next_with tree)
   becomes tree e = chosen_becomes old.world old.kept session c o picked tree numbers whole decided chosen (by_change tree e) (stays tree)
 
-  pub comes : (tree : Tree) → apply version_1 change old.world.live ≡ Some tree → Comes version_1 old.world session o (next_with tree)
-  comes tree e = (subst (λ (d : Result Outcome Refusal). Becomes version_1 old.world session d o.told (next_with tree)) decided (becomes tree e)).1
+  pub comes : (tree : Tree) → apply limits_written change old.world.live ≡ Some tree → Comes limits_written old.world session o (next_with tree)
+  comes tree e = (subst (λ (d : Result Outcome Refusal). Becomes limits_written old.world session d o.told (next_with tree)) decided (becomes tree e)).1
 
   -- no file without names goes
-  no_fewer : (tree : Tree) → apply version_1 change old.world.live ≡ Some tree → nameless_in old.world.live ≤ nameless_in (next_with tree).live
-  no_fewer tree e = logged_keep_nameless version_1 old.world (next_with tree) session c o whole decided (is_logged old.world old.kept session c o picked change decided chosen some) (comes tree e)
+  no_fewer : (tree : Tree) → apply limits_written change old.world.live ≡ Some tree → nameless_in old.world.live ≤ nameless_in (next_with tree).live
+  no_fewer tree e = logged_keep_nameless limits_written old.world (next_with tree) session c o whole decided (is_logged old.world old.kept session c o picked change decided chosen some) (comes tree e)
 
   of_tree : (tree : Tree) → IsOfTree old.world tree (next_with tree)
   of_tree tree = left_of_tree old.world session picked.caller tree
@@ -338,7 +338,7 @@ module _ (old : Held) (session : ℕ) (c : Call) (o : Outcome) (picked : Chosen)
     none : (0 - nameless_in new.world.live) ≡ 0
     none = omega arith
 
-    room_is : new.room ≡ logs (charge_for version_1 old.world.live change) old.room
+    room_is : new.room ≡ logs (charge_for limits_written old.world.live change) old.room
     room_is = ap (λ (x : Held). x.room) turned.is ∙ none_dropped (0 - nameless_in new.world.live) mid.room none ∙ logged.charged ∙ ap (λ (k : ℕ). logs k old.room) charge_is
 
     at_is : new.at ≡ behind old.at change
@@ -353,7 +353,7 @@ module _ (old : Held) (session : ℕ) (c : Call) (o : Outcome) (picked : Chosen)
     status_is : new.status ≡ mid.status
     status_is = ap (λ (x : Held). x.status) turned.is
 
-    whole_next : IsWorld version_1 next
+    whole_next : IsWorld limits_written next
     whole_next = served_whole old.world next session c o.told (becomes tree logged.made.applied) numbers whole
 
     -- with the change alone
@@ -389,22 +389,22 @@ module _ (old : Held) (session : ℕ) (c : Call) (o : Outcome) (picked : Chosen)
     drops = subst (λ (w : World). DropsFiles mid.base w.live new.base (dropped (with_caller w session picked.caller)).live) logged.made.world
         (subst (λ (w : World). DropsFiles mid.base mid.world.live new.base w.live) (ap (λ (x : Held). x.world) turned.is) turned.base)
 
-    carried : (figure : ℕ) → CarriesOn old.base old.world.live figure new.base next.live (figure + charge_for version_1 old.world.live change)
+    carried : (figure : ℕ) → CarriesOn old.base old.world.live figure new.base next.live (figure + charge_for limits_written old.world.live change)
     carried figure =
-        let on = drops_carry mid.base new.base (with_live old.world tree) session picked.caller (figure + charge_for version_1 old.world.live change) hierarchy drops in
+        let on = drops_carry mid.base new.base (with_live old.world tree) session picked.caller (figure + charge_for limits_written old.world.live change) hierarchy drops in
         record {
           slot = on.slot ∙ ap (λ (k : Kept). k.slot) logged.base;
           root = on.root ∙ ap (λ (k : Kept). k.root) logged.base;
           words = on.words ∙ ap (λ (k : Kept). k.words) logged.base;
           changed = λ root changed. on.changed root
-              (subst (λ (k : Kept). HasChanged version_1 k.changed root tree (figure + charge_for version_1 old.world.live change)) (sym logged.base)
-              (merges version_1 old.base.changed root old.world.live tree figure change figures whole.live.hierarchy changed logged.made.applied));
+              (subst (λ (k : Kept). HasChanged limits_written k.changed root tree (figure + charge_for limits_written old.world.live change)) (sym logged.base)
+              (merges limits_written old.base.changed root old.world.live tree figure change figures whole.live.hierarchy changed logged.made.applied));
         }
 
     carries : CarriesCharge o.charge old new
     carries figure =
         subst (λ (n : ℕ). CarriesOn old.base old.world.live figure new.base new.world.live (figure + n)) (sym charge_is)
-        (subst (λ (w : World). CarriesOn old.base old.world.live figure new.base w.live (figure + charge_for version_1 old.world.live change)) (sym world_is) (carried figure))
+        (subst (λ (w : World). CarriesOn old.base old.world.live figure new.base w.live (figure + charge_for limits_written old.world.live change)) (sym world_is) (carried figure))
 
     touched : Touches (InHalf (base_at old.at)) old.disk new.disk
     touched = subst (Touches (InHalf (base_at old.at)) old.disk) (sym disk_is) logged.touched
@@ -418,8 +418,8 @@ module _ (old : Held) (session : ℕ) (c : Call) (o : Outcome) (picked : Chosen)
         (appends_with old.point old new old.world next change tree r can.spelled logged.made.applied of whole.live.hierarchy (room_along old.point all.fits) all.age touched more (subst (λ (d : Disk). AreSectors (reads d)) (sym disk_is) logged.sectors) (subst IsSynced (sym disk_is) logged.synced) at_is room_is world_is
         (no_fewer tree logged.made.applied) carried whole_next.live)
 
-    pub made_whole : IsWorld version_1 new.world
-    made_whole = subst (IsWorld version_1) (sym world_is) whole_next
+    pub made_whole : IsWorld limits_written new.world
+    made_whole = subst (IsWorld limits_written) (sym world_is) whole_next
 
     pub made_now : RunsNow old → RunsNow new
     made_now r = subst (RunsWith new.point new) (sym world_is) (made_runs r)

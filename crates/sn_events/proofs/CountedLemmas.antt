@@ -7,7 +7,7 @@ use Rattle.sn_device.specs.declared.status.Status.{Status}
 use Rattle.sn_layout.specs.declared.gate.Gate.{Gate}
 use Rattle.sn_layout.specs.declared.gate.Gate.TheVariants.{Open, Closed}
 use Rattle.sn_layout.specs.Geometry.{map_blocks}
-use Rattle.sn_limits.specs.Versions.{version_1}
+use Rattle.sn_limits.specs.Versions.{limits_written}
 use Rattle.sn_model.specs.declared.call.Call.{Call}
 use Rattle.sn_model.specs.declared.call.Event.{Event}
 use Rattle.sn_model.specs.declared.call.Event.TheVariants as event
@@ -82,7 +82,7 @@ module _ (old new : Held) (going next : Going) (is : old.point ≡ Some going) (
       told (inl (more, inr gone)) = gone_on w reply more runs gone
       told (inr (done, ended)) = never ended.finished.point
 
-  counted : (s : State) (e : Event) (met : Option Mishap) (reply : Reply) (state : State) (fin mid : Held) → IsBehindFinish s e old fin → IsBehindPoint s e fin mid → EventStep version_1 s e met reply state → Means old false s → Means new false state → Leaves s e met reply state fin mid new
+  counted : (s : State) (e : Event) (met : Option Mishap) (reply : Reply) (state : State) (fin mid : Held) → IsBehindFinish s e old fin → IsBehindPoint s e fin mid → EventStep limits_written s e met reply state → Means old false s → Means new false state → Leaves s e met reply state fin mid new
       → left_of new.point + counts_down e reply ≡ left_of old.point
   counted (Stopped before after) e met reply state fin mid f p step m n l = absurd (true≢false (sym m.0))
   counted (Running w) (event.Call session c) None reply state fin mid f p step m n l = stays (event.Call session c) reply refl (keeps (Running w) (event.Call session c) fin mid f p (same_told session c mid new l.1))
@@ -190,7 +190,7 @@ module _ (old new : Held) where
       told (inl (more, made)) = made_costs made
       told (inr (done, ended)) = ended_costs ended
 
-  left_costs : (w : World) (met : Option Mishap) (reply : Reply) (state : State) → EventStep version_1 (Running w) event.Step met reply state → LeavesStep old met reply new → CostsAtMost 8 1 old.status new.status
+  left_costs : (w : World) (met : Option Mishap) (reply : Reply) (state : State) → EventStep limits_written (Running w) event.Step met reply state → LeavesStep old met reply new → CostsAtMost 8 1 old.status new.status
   left_costs w None reply state step l = stepped_costs reply l
   left_costs w (Some Memory) reply state step l = idle l
   left_costs w (Some Read) reply state step l = read_idle old.status new.status l.1
@@ -198,7 +198,7 @@ module _ (old new : Held) where
   left_costs w (Some Space) reply state step l = absurd step
   left_costs w (Some Age) reply state step l = idle l
 
-  step_costs : (s : State) (met : Option Mishap) (reply : Reply) (state : State) (fin mid : Held) → IsBehindFinish s event.Step old fin → IsBehindPoint s event.Step fin mid → EventStep version_1 s event.Step met reply state → Leaves s event.Step met reply state fin mid new → CostsAtMost 8 1 old.status new.status
+  step_costs : (s : State) (met : Option Mishap) (reply : Reply) (state : State) (fin mid : Held) → IsBehindFinish s event.Step old fin → IsBehindPoint s event.Step fin mid → EventStep limits_written s event.Step met reply state → Leaves s event.Step met reply state fin mid new → CostsAtMost 8 1 old.status new.status
   step_costs (Stopped before after) met reply state fin mid (inl f) (inl p) step l = idle (l ∙ p ∙ f)
   step_costs (Stopped before after) met reply state fin mid (inr f) p step l = absurd f.0
   step_costs (Stopped before after) met reply state fin mid (inl f) (inr p) step l = absurd p.0
@@ -228,7 +228,7 @@ steps_write (Running w) old new has_stopped m a = told a.met a.finish a.step a.l
         from (inl (is, made)) = more_writes old new w m.1 made
         from (inr (is, ended)) = absurd (more_is_done is)
 
-    told : (met : Option Mishap) → IsBehindFinish (Running w) event.Step old a.fin → EventStep version_1 (Running w) event.Step met (answer.Progress progress.More) a.next → LeavesStep a.fin met (answer.Progress progress.More) new → old.status.writes < new.status.writes
+    told : (met : Option Mishap) → IsBehindFinish (Running w) event.Step old a.fin → EventStep limits_written (Running w) event.Step met (answer.Progress progress.More) a.next → LeavesStep a.fin met (answer.Progress progress.More) new → old.status.writes < new.status.writes
     told met (inr f) step l = absurd f.0
     told None (inl f) step l = more a.fin f l
     told (Some Memory) (inl f) step l = absurd (more_is_refused Enomem step.told)
@@ -252,7 +252,7 @@ record_costs writes syncs old new is few two =
 more_costs : (old new : Status) → CostsAtMost 8 1 old new → CostsAtMost 131 2 old new
 more_costs old new costs = let w = costs.writes in let y = costs.syncs in record { writes = omega (arith, w); syncs = omega (arith, y) }
 
-module _ (fit : PayloadsFit) (old new : Held) (session : ℕ) (c : Call) (whole : IsWorld version_1 old.world) (alone : NeedsPoint old (event.Call session c) → ⊥) where
+module _ (fit : PayloadsFit) (old new : Held) (session : ℕ) (c : Call) (whole : IsWorld limits_written old.world) (alone : NeedsPoint old (event.Call session c) → ⊥) where
   few_for : (change : Change) → IsChangeOf old.world old.kept session c change → record_writes change ≤ 131
   few_for change is = record_few fit change (can_be_made old.world old.kept session c is.outcome is.picked change whole is.decided is.chosen is.is).spelled
 
@@ -269,7 +269,7 @@ module _ (fit : PayloadsFit) (old new : Held) (session : ℕ) (c : Call) (whole 
   cut_costs (inr (inl cut)) = absurd (alone cut.needed)
   cut_costs (inr (inr cut)) = absurd (alone cut.needed)
 
-  call_costs : (w : World) (met : Option Mishap) (reply : Reply) (state : State) → EventStep version_1 (Running w) (event.Call session c) met reply state → LeavesCall old old session c met new → CostsAtMost 131 2 old.status new.status
+  call_costs : (w : World) (met : Option Mishap) (reply : Reply) (state : State) → EventStep limits_written (Running w) (event.Call session c) met reply state → LeavesCall old old session c met new → CostsAtMost 131 2 old.status new.status
   call_costs w None reply state step l = told_costs l.1
   call_costs w (Some Memory) reply state step l = more_costs old.status new.status (idle old new l)
   call_costs w (Some Read) reply state step l = more_costs old.status new.status (read_idle old.status new.status l.1)
@@ -280,7 +280,7 @@ module _ (fit : PayloadsFit) (old new : Held) (session : ℕ) (c : Call) (whole 
   pub calls_small : (s : State) (reply : Reply) (has_stopped : Bool) → AnswersFrom s (event.Call session c) reply old new has_stopped → CostsAtMost 131 2 old.status new.status
   calls_small s reply has_stopped a = told s a.finish a.point a.step a.leaves
     where
-      told : (s : State) → IsBehindFinish s (event.Call session c) old a.fin → IsBehindPoint s (event.Call session c) a.fin a.mid → EventStep version_1 s (event.Call session c) a.met reply a.next → Leaves s (event.Call session c) a.met reply a.next a.fin a.mid new → CostsAtMost 131 2 old.status new.status
+      told : (s : State) → IsBehindFinish s (event.Call session c) old a.fin → IsBehindPoint s (event.Call session c) a.fin a.mid → EventStep limits_written s (event.Call session c) a.met reply a.next → Leaves s (event.Call session c) a.met reply a.next a.fin a.mid new → CostsAtMost 131 2 old.status new.status
       told (Stopped before after) (inl f) (inl p) step l = more_costs old.status new.status (idle old new (l ∙ p ∙ f))
       told (Stopped before after) (inr f) p step l = absurd f.0
       told (Stopped before after) (inl f) (inr p) step l = absurd p.0

@@ -1,7 +1,7 @@
 -- What is so of the change that a call has decided.
 use Rattle.std.proofs.Common.{◌≡◌, ℕ, ◌<◌, Bool, true, Option, Some, None, Result, Ok, Err, is_some, sym, ap, subst, refl, ◌∙◌, lit<, lit≤}
 use Rattle.std.proofs.lemmas.Bool.{true≢false}
-use Rattle.sn_limits.specs.Versions.{version_1}
+use Rattle.sn_limits.specs.Versions.{limits_written}
 use Rattle.sn_model.specs.declared.call.Call.{Call}
 use Rattle.sn_model.specs.declared.change.Change.{Change}
 use Rattle.sn_model.specs.declared.change.Change.TheVariants.{Make}
@@ -30,7 +30,7 @@ use Rattle.sn_events.specs.Answers.{HasNoChange}
 -- a change that was chosen is the one that is pending
 abbrev IsPicked : Tree → (ℕ → Bool) → Pending → Change → Type 0
 IsPicked tree kept Nothing change = ⊥
-IsPicked tree kept (Makes directory name kind o) change = (number : ℕ) × (next_number version_1 tree kept ≡ Some number) × (change ≡ Make directory name number kind o)
+IsPicked tree kept (Makes directory name kind o) change = (number : ℕ) × (next_number limits_written tree kept ≡ Some number) × (change ≡ Make directory name number kind o)
 IsPicked tree kept (Does c) change = change ≡ c
 
 some_is : (a b : Change) → Some a ≡ Some b → a ≡ b
@@ -47,10 +47,10 @@ when_picked tree kept Nothing change is h = absurd is
 when_picked tree kept (Makes directory name kind o) change is h = h
 when_picked tree kept (Does c) change is h = h
 
-module _ (w : World) (kept : ℕ → Bool) (session : ℕ) (c : Call) (o : Outcome) (picked : Chosen) (change : Change) (decided : decision version_1 w session c ≡ Ok o) (chosen : Chooses w.live kept o.change o.caller picked) (is : picked.change ≡ Some change) where
+module _ (w : World) (kept : ℕ → Bool) (session : ℕ) (c : Call) (o : Outcome) (picked : Chosen) (change : Change) (decided : decision limits_written w session c ≡ Ok o) (chosen : Chooses w.live kept o.change o.caller picked) (is : picked.change ≡ Some change) where
   -- It is charged for.
   pub is_charged : 0 < o.charge
-  is_charged = when_picked w.live kept o.change change (picked_is w.live kept o.change o.caller picked change chosen is) ((decided_is version_1 w session c o decided).charged (lit< tt))
+  is_charged = when_picked w.live kept o.change change (picked_is w.live kept o.change o.caller picked change chosen is) ((decided_is limits_written w session c o decided).charged (lit< tt))
 
   -- It is logged.
   pub is_logged : IsLogged o.change
@@ -62,23 +62,23 @@ module _ (w : World) (kept : ℕ → Bool) (session : ℕ) (c : Call) (o : Outco
       logs (Does c) does = tt
 
 -- a change that is pending is charged alike, whatever number a new node gets
-picked_charge : (tree : Tree) (kept : ℕ → Bool) (pending : Pending) (change : Change) → IsPicked tree kept pending change → charge_of version_1 tree pending ≡ charge_for version_1 tree change
+picked_charge : (tree : Tree) (kept : ℕ → Bool) (pending : Pending) (change : Change) → IsPicked tree kept pending change → charge_of limits_written tree pending ≡ charge_for limits_written tree change
 picked_charge tree kept Nothing change is = absurd is
-picked_charge tree kept (Makes directory name kind o) change is = sym (ap (charge_for version_1 tree) is.2)
-picked_charge tree kept (Does c) change is = sym (ap (charge_for version_1 tree) is)
+picked_charge tree kept (Makes directory name kind o) change is = sym (ap (charge_for limits_written tree) is.2)
+picked_charge tree kept (Does c) change is = sym (ap (charge_for limits_written tree) is)
 
 -- The charge of a call is that of the change that it comes to.
-pub charge_of_change : (w : World) (kept : ℕ → Bool) (session : ℕ) (c : Call) (o : Outcome) (picked : Chosen) (change : Change) → decision version_1 w session c ≡ Ok o → Chooses w.live kept o.change o.caller picked → picked.change ≡ Some change
-    → o.charge ≡ charge_for version_1 w.live change
+pub charge_of_change : (w : World) (kept : ℕ → Bool) (session : ℕ) (c : Call) (o : Outcome) (picked : Chosen) (change : Change) → decision limits_written w session c ≡ Ok o → Chooses w.live kept o.change o.caller picked → picked.change ≡ Some change
+    → o.charge ≡ charge_for limits_written w.live change
 charge_of_change w kept session c o picked change decided chosen is =
-    (decided_is version_1 w session c o decided).pays ∙ picked_charge w.live kept o.change change (picked_is w.live kept o.change o.caller picked change chosen is)
+    (decided_is limits_written w session c o decided).pays ∙ picked_charge w.live kept o.change change (picked_is w.live kept o.change o.caller picked change chosen is)
 
 -- ---- calls that come to no change
 
 err_is_ok : {A : Type 0} (r : Refusal) (o : Outcome) → Err r ≡ Ok o → A
 err_is_ok r o e = cc
 
-pub refused_none : (w : World) (kept : ℕ → Bool) (session : ℕ) (c : Call) (r : Refusal) → decision version_1 w session c ≡ Err r → HasNoChange w kept session c
+pub refused_none : (w : World) (kept : ℕ → Bool) (session : ℕ) (c : Call) (r : Refusal) → decision limits_written w session c ≡ Err r → HasNoChange w kept session c
 refused_none w kept session c r refused change is = err_is_ok r is.outcome (sym refused ∙ is.decided)
 
 none_is_some : {A : Type 0} (change : Change) → None ≡ Some change → A
@@ -92,39 +92,39 @@ none_picked tree kept (Does c) caller picked other change first none second some
 ok_is : (x : Result Outcome Refusal) (a b : Outcome) → x ≡ Ok a → x ≡ Ok b → a ≡ b
 ok_is x a b e f = cc
 
-pub has_no_change : (w : World) (kept : ℕ → Bool) (session : ℕ) (c : Call) (o : Outcome) (picked : Chosen) → decision version_1 w session c ≡ Ok o → Chooses w.live kept o.change o.caller picked → picked.change ≡ None → HasNoChange w kept session c
+pub has_no_change : (w : World) (kept : ℕ → Bool) (session : ℕ) (c : Call) (o : Outcome) (picked : Chosen) → decision limits_written w session c ≡ Ok o → Chooses w.live kept o.change o.caller picked → picked.change ≡ None → HasNoChange w kept session c
 has_no_change w kept session c o picked decided chosen none change is =
-    let same : is.outcome ≡ o = ok_is (decision version_1 w session c) is.outcome o is.decided decided in
+    let same : is.outcome ≡ o = ok_is (decision limits_written w session c) is.outcome o is.decided decided in
     none_picked w.live kept o.change o.caller picked is.picked change chosen none (subst (λ (x : Outcome). Chooses w.live kept x.change x.caller is.picked) same is.chosen) is.is
 
 -- It can be applied, and has a record.
 pub record CanBeMade (w : World) (change : Change) : Type 0 where
   pub tree : Tree
-  pub applied : apply version_1 change w.live ≡ Some tree
+  pub applied : apply limits_written change w.live ≡ Some tree
   pub spelled : IsSpelled change
 
 some_of : (o : Option Tree) → is_some o ≡ true → (tree : Tree) × (o ≡ Some tree)
 some_of None e = absurd (true≢false (sym e))
 some_of (Some tree) e = (tree, refl)
 
-pub can_be_made : (w : World) (kept : ℕ → Bool) (session : ℕ) (c : Call) (o : Outcome) (picked : Chosen) (change : Change) → IsWorld version_1 w → decision version_1 w session c ≡ Ok o → Chooses w.live kept o.change o.caller picked → picked.change ≡ Some change → CanBeMade w change
+pub can_be_made : (w : World) (kept : ℕ → Bool) (session : ℕ) (c : Call) (o : Outcome) (picked : Chosen) (change : Change) → IsWorld limits_written w → decision limits_written w session c ≡ Ok o → Chooses w.live kept o.change o.caller picked → picked.change ≡ Some change → CanBeMade w change
 can_be_made w kept session c o picked change whole e chosen is =
-    let d = decided_is version_1 w session c o e in
+    let d = decided_is limits_written w session c o e in
     told o.change (picked_is w.live kept o.change o.caller picked change chosen is) d.of_old (λ number free. d.applies number (lit< tt) whole free)
   where
-    told : (pending : Pending) → IsPicked w.live kept pending change → DoesToOld pending → ((number : ℕ) → IsNumberFor version_1 w.live number pending → is_some (changed version_1 number pending w.live) ≡ true) → CanBeMade w change
+    told : (pending : Pending) → IsPicked w.live kept pending change → DoesToOld pending → ((number : ℕ) → IsNumberFor limits_written w.live number pending → is_some (changed limits_written number pending w.live) ≡ true) → CanBeMade w change
     told Nothing is old applies = absurd is
     told (Makes directory name kind own) is old applies =
-        let t = some_of _ (applies is.0 (next_is_number version_1 w.live kept is.0 whole.live.hierarchy.root (lit≤ tt) is.1)) in
+        let t = some_of _ (applies is.0 (next_is_number limits_written w.live kept is.0 whole.live.hierarchy.root (lit≤ tt) is.1)) in
         record {
           tree = t.0;
-          applied = ap (λ (x : Change). apply version_1 x w.live) is.2 ∙ t.1;
+          applied = ap (λ (x : Change). apply limits_written x w.live) is.2 ∙ t.1;
           spelled = subst IsSpelled (sym is.2) (applied_spelled w.live t.0 directory name is.0 kind own whole.live t.1);
         }
     told (Does c) is old applies =
         let t = some_of _ (applies 0 tt) in
         record {
           tree = t.0;
-          applied = ap (λ (x : Change). apply version_1 x w.live) is ∙ t.1;
+          applied = ap (λ (x : Change). apply limits_written x w.live) is ∙ t.1;
           spelled = subst IsSpelled (sym is) (old_spelled w.live t.0 c whole.live old t.1);
         }

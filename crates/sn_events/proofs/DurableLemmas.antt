@@ -44,7 +44,7 @@ in_its_root h w ready fresh c crash =
         sound = root_same h.at.blocks r.store (store_of c) r.root shows.same (slice_index r.words) (slice_index r.words) (λ block. refl) sound;
         none_later = λ epoch. r.none_later epoch c crash;
         fits = fits_same h.at.blocks r.store (store_of c) r.root r.words (r.older ++ r.newer) shows.same sound (fits_now h w r);
-        age = λ recovers. r.age (subst (IsToRecover (r.older ++ r.newer)) (image_same r.store (store_of c) r.root shows.same) recovers);
+        age = λ recovers. r.age (subst (IsToRecover r.root (r.older ++ r.newer)) (image_same r.store (store_of c) r.root shows.same) recovers);
       };
       live = image_same r.store (store_of c) r.root shows.same ∙ seen;
       older = nil_from_length r.older count;

@@ -1,6 +1,6 @@
 -- What an event answers behind the point in progress, once that is finished, or where it is cut off.
 use Rattle.std.proofs.Common.{◌≡◌, ◌⊎◌, inl, inr, ℕ, Bool, false, Option, Some, None, Err, Ok, refl, sym, ap, subst, ◌∙◌}
-use Rattle.sn_limits.specs.Versions.{version_1}
+use Rattle.sn_limits.specs.Versions.{limits_written}
 use Rattle.sn_model.specs.declared.call.Call.{Call}
 use Rattle.sn_model.specs.declared.call.Event.{Event}
 use Rattle.sn_model.specs.declared.call.Event.TheVariants as event
@@ -116,7 +116,7 @@ call_after_finish old asked fin new session c reply has_stopped lacks finishes a
     let f = is_fin old fin (subst (λ (h : Held). Finishes (Ok (tt {0})) h fin) lacks.1 finishes r) r in
     answers_behind (event.Call session c) old fin new f tt (inl lacks.0) reply has_stopped answers)
 
-pub call_cut : (old asked new : Held) (session : ℕ) (c : Call) (fault : PointFault) → IsWorld version_1 old.world → Serves None old session c asked false → Finishes (Err fault) asked new → Answers (event.Call session c) (refused (errno_of_point fault)) old false new (stops_for fault)
+pub call_cut : (old asked new : Held) (session : ℕ) (c : Call) (fault : PointFault) → IsWorld limits_written old.world → Serves None old session c asked false → Finishes (Err fault) asked new → Answers (event.Call session c) (refused (errno_of_point fault)) old false new (stops_for fault)
 call_cut old asked new session c fault whole lacks finishes =
     in_any_world (event.Call session c) old new (refused (errno_of_point fault)) (stops_for fault) (λ r.
     cut_finish (event.Call session c) old (call_point old session c lacks.2 whole lacks.0) new fault (subst (λ (h : Held). Finishes (Err fault) h new) lacks.1 finishes r))

@@ -9,7 +9,7 @@ use Rattle.sn_device.specs.Disk.{Disk, reads}
 use Rattle.sn_device.specs.Sectors.{AreSectors}
 use Rattle.sn_device.specs.declared.status.Status.{Status}
 use Rattle.sn_held.specs.Held.{Held}
-use Rattle.sn_limits.specs.Versions.{version_1}
+use Rattle.sn_limits.specs.Versions.{limits_written}
 use Rattle.sn_live.specs.Prepared.{CanBeMade}
 use Rattle.sn_live.specs.declared.preparing.PreparedLive.{PreparedLive}
 use Rattle.sn_live_world.specs.World.{Alike, IsOver, changes_of, kept_of, kept_since_of, tree_over, world_in, world_over}
@@ -36,15 +36,15 @@ use Rattle.sn_events.proofs.MeantLemmas.{trees_logged}
 
 -- What a commit makes of the state, over each tree below.
 pub record Commits (p : PreparedLive) (old new : LiveWorld) (file : Option ℕ) : Type 0 where
-  pub over : (below : Tree) (change : Change) → IsOver old below → CanBeMade p (tree_over old below) change → IsOver new below
-  pub made : (below : Tree) (change : Change) → IsOver old below → CanBeMade p (tree_over old below) change → (tree : Tree) × (apply version_1 change (world_over old below).live ≡ Some tree) × (world_over new below ≡ with_live (world_over old below) tree)
-  pub merged : (below : Tree) (change : Change) → IsOver old below → CanBeMade p (tree_over old below) change → changes_of new ≡ merge (changes_of old) (layer_of_change (tree_over old below) change)
-  pub lost : (trees : Trees) (change : Change) → IsOver old trees.live → CanBeMade p (tree_over old trees.live) change → IsWorld version_1 (world_in old trees) → OnlyLost (world_in new trees) file
-  pub kept : (tree : Tree) (change : Change) → CanBeMade p tree change → (n : ℕ) → kept_of new n ≡ kept_after change (kept_of old) n
-  pub since : (tree : Tree) (change : Change) → CanBeMade p tree change → (n : ℕ) → kept_since_of new n ≡ since_after change (kept_of old) (kept_since_of old) n
+  pub over : (below : Tree) (change : Change) → IsOver old below → CanBeMade limits_written p (tree_over old below) change → IsOver new below
+  pub made : (below : Tree) (change : Change) → IsOver old below → CanBeMade limits_written p (tree_over old below) change → (tree : Tree) × (apply limits_written change (world_over old below).live ≡ Some tree) × (world_over new below ≡ with_live (world_over old below) tree)
+  pub merged : (below : Tree) (change : Change) → IsOver old below → CanBeMade limits_written p (tree_over old below) change → changes_of new ≡ merge (changes_of old) (layer_of_change (tree_over old below) change)
+  pub lost : (trees : Trees) (change : Change) → IsOver old trees.live → CanBeMade limits_written p (tree_over old trees.live) change → IsWorld limits_written (world_in old trees) → OnlyLost (world_in new trees) file
+  pub kept : (tree : Tree) (change : Change) → CanBeMade limits_written p tree change → (n : ℕ) → kept_of new n ≡ kept_after change (kept_of old) n
+  pub since : (tree : Tree) (change : Change) → CanBeMade limits_written p tree change → (n : ℕ) → kept_since_of new n ≡ since_after change (kept_of old) (kept_since_of old) n
 
 module _ (d0 d1 d2 : Disk) (s0 s1 s2 : Status) (at : LogPosition) (w0 w1 w2 : LiveWorld) (room : RoomCounts) (base : PointBase) (going : Option GoingPoint) (change : Change) (charge : ℕ) (p : PreparedLive) (file : Option ℕ) (m : IsMeant d0 s0 at w0 room base going)
-    (whole0 : AreSectors (reads d0)) (whole2 : AreSectors (reads d2)) (same : d1 ≡ d0) (idle : s1 ≡ s0) (alike : Alike w0 w1) (can : CanBeMade p (tree_over w0 (tree_at d0 base.root)) change) (commits : Commits p w1 w2 file) (touched : Touches (InHalf (base_at at)) d1 d2) where
+    (whole0 : AreSectors (reads d0)) (whole2 : AreSectors (reads d2)) (same : d1 ≡ d0) (idle : s1 ≡ s0) (alike : Alike w0 w1) (can : CanBeMade limits_written p (tree_over w0 (tree_at d0 base.root)) change) (commits : Commits p w1 w2 file) (touched : Touches (InHalf (base_at at)) d1 d2) where
   abbrev trees : Trees
   trees = trees_there d0 base.root
 
@@ -76,14 +76,14 @@ module _ (d0 d1 d2 : Disk) (s0 s1 s2 : Status) (at : LogPosition) (w0 w1 w2 : Li
   abbrev in_it : World → World
   in_it w = record w { frozen = trees.frozen }
 
-  can1 : CanBeMade p (tree_over w1 below) change
-  can1 = subst (λ (w : World). CanBeMade p w.live change) (sym world1) can
+  can1 : CanBeMade limits_written p (tree_over w1 below) change
+  can1 = subst (λ (w : World). CanBeMade limits_written p w.live change) (sym world1) can
 
   pub over_logged : IsOver w2 (tree_at d2 base.root)
   over_logged = subst (IsOver w2) (sym tree_is) (commits.over below change over1 can1)
 
   pub lost_logged : OnlyLost (world_in w2 (trees_there d2 base.root)) file
-  lost_logged = subst (λ (t : Trees). OnlyLost (world_in w2 t) file) (sym trees_are) (commits.lost trees change over1 can1 (subst (IsWorld version_1) (sym (ap in_it world1)) m.whole))
+  lost_logged = subst (λ (t : Trees). OnlyLost (world_in w2 t) file) (sym trees_are) (commits.lost trees change over1 can1 (subst (IsWorld limits_written) (sym (ap in_it world1)) m.whole))
 
   kept1 : kept_of w1 ≡ kept_of w0
   kept1 = λ i n. alike.kept n i
@@ -98,7 +98,7 @@ module _ (d0 d1 d2 : Disk) (s0 s1 s2 : Status) (at : LogPosition) (w0 w1 w2 : Li
       record {
         made = record {
           tree = made.0;
-          applied = ap (λ (w : World). apply version_1 change w.live) (sym world1) ∙ made.1;
+          applied = ap (λ (w : World). apply limits_written change w.live) (sym world1) ∙ made.1;
           world = ap (world_in w2) trees_are ∙ ap in_it (made.2 ∙ ap (λ (w : World). with_live w made.0) world1);
         };
         kept = λ n. commits.kept (tree_over w1 below) change can1 n ∙ ap (λ (k : ℕ → Bool). kept_after change k n) kept1;

@@ -9,7 +9,7 @@ use Rattle.sn_device.specs.Disk.{Disk}
 use Rattle.sn_device.specs.Status.{has_ended, one_failure}
 use Rattle.sn_device.specs.declared.status.Status.{Status}
 use Rattle.sn_held.specs.Held.{Held}
-use Rattle.sn_limits.specs.Versions.{version_1}
+use Rattle.sn_limits.specs.Versions.{limits_written}
 use Rattle.sn_live_world.specs.Faults.{CountsCall, CountsCallFault, CountsLook, CountsLookFault}
 use Rattle.sn_live_world.specs.Turned.{Decides, HasNone}
 use Rattle.sn_live_world.specs.World.{Alike, world_in}
@@ -79,7 +79,7 @@ module _ (disk now : Disk) (status after : Status) (at : LogPosition) (world : L
   quiet told (Ok o) counts = looked counts
   quiet told (Err f) counts = tt
 
-  pub decided_so : (session : ℕ) (c : Call) (result : Result Outcome CallFault) → Decides h.world session c result → IfOk result (λ o. decision version_1 h.world session c ≡ Ok o)
+  pub decided_so : (session : ℕ) (c : Call) (result : Result Outcome CallFault) → Decides h.world session c result → IfOk result (λ o. decision limits_written h.world session c ≡ Ok o)
   decided_so session c (Ok o) decides = decides
   decided_so session c (Err f) decides = tt
 
@@ -125,7 +125,7 @@ module _ (disk : Disk) (status : Status) (at : LogPosition) (old new : LiveWorld
   pub alike_meant : IsMeant disk status at old room base going → IsMeant disk status at new room base going
   alike_meant m = record {
     over = alike.over (tree_at disk base.root) m.over;
-    whole = subst (IsWorld version_1) (sym alike_worlds) m.whole;
+    whole = subst (IsWorld limits_written) (sym alike_worlds) m.whole;
     runs = subst RunsNow (sym alike_held) m.runs;
     stands = m.stands;
   }

@@ -11,7 +11,7 @@ use Rattle.sn_layout.specs.declared.root.RootBody.{RootBody}
 use Rattle.sn_layout.specs.declared.snapshot.Snapshot.{Snapshot}
 use Rattle.sn_layout.specs.declared.tree.BlockTree.{BlockTree}
 use Rattle.sn_limits.specs.declared.limits.Limits.{Limits}
-use Rattle.sn_limits.specs.Versions.{limits_of, version_1}
+use Rattle.sn_limits.specs.Versions.{limits_of, limits_written}
 use Rattle.sn_model.specs.Tree.{Tree}
 use Rattle.sn_model.specs.World.{Trees, World}
 use Rattle.sn_ondisk.specs.Blocks.{InBlocks}
@@ -85,9 +85,9 @@ module _ (h : Held) (w : World) (r : Runs h w) (whole : AreSectors (reads h.disk
       same_trees r.store (store_of (reads new)) r.root (Always-reads new (λ c. SameIn blocks r.store (store_of c)) whole_new after) ∙ sym trees_here
 
 -- What changed since the root that is kept is so over the tree that is read.
-pub tree_ready : (h : Held) (w : World) (k : Kept) → AreSectors (reads h.disk) → RunsReady h w k → HasChanged version_1 k.changed (tree_at h.disk k.root) w.live h.room.charged
+pub tree_ready : (h : Held) (w : World) (k : Kept) → AreSectors (reads h.disk) → RunsReady h w k → HasChanged limits_written k.changed (tree_at h.disk k.root) w.live h.room.charged
 tree_ready h w k whole ready =
-    subst (λ (t : Tree). HasChanged version_1 k.changed t w.live h.room.charged)
+    subst (λ (t : Tree). HasChanged limits_written k.changed t w.live h.room.charged)
     (sym (ap (tree_at h.disk) ready.ready.root ∙ tree_here h w ready.runs whole)) ready.ready.changed
 
 -- The frozen trees that are read are those of the world.

@@ -2,7 +2,7 @@
 use Rattle.std.proofs.Common.{◌≡◌, ◌≢◌, ◌⊎◌, inl, inr, ℕ, ◌+◌, ◌<◌, Bool, true, false, Option, Some, None, Err, Ok, refl, sym, ap, subst, ◌∙◌, arith}
 use Rattle.std.specs.Prelude.{IsOk}
 use Rattle.std.proofs.lemmas.Bool.{true≢false}
-use Rattle.sn_limits.specs.Versions.{version_1}
+use Rattle.sn_limits.specs.Versions.{limits_written}
 use Rattle.sn_model.specs.declared.call.Call.{Call}
 use Rattle.sn_model.specs.declared.call.Event.{Event}
 use Rattle.sn_model.specs.declared.call.Event.TheVariants as event
@@ -129,7 +129,7 @@ module _ (old mid new : Held) (session : ℕ) (c : Call) (needed : LacksFirst ol
 
   -- the point changes nothing of what is asked for
   asks_there : (at : Held) → at ≡ mid → AsksFirst old session c → AsksFirst at session c
-  asks_there at same asked = record { asks = asked.asks; outcome = asked.outcome; decided = subst (λ (w : World). decision version_1 w session c ≡ Ok asked.outcome) (sym (ap (λ (x : Held). x.world) same ∙ p.world)) asked.decided }
+  asks_there at same asked = record { asks = asked.asks; outcome = asked.outcome; decided = subst (λ (w : World). decision limits_written w session c ≡ Ok asked.outcome) (sym (ap (λ (x : Held). x.world) same ∙ p.world)) asked.decided }
 
   leaves_call : (fin at : Held) (met : Option Mishap) → fin ≡ mid → at ≡ mid → ServesTo met mid session c new → LeavesCall fin at session c met new → LeavesCall old mid session c met new
   leaves_call fin at None first same to leaves = (λ asked. (made, (leaves.0 (asks_there fin first asked)).1 ∙ same), subst (λ (x : Held). HasTold session c x new ⊎ HasLogged session c x new) same leaves.1)
@@ -177,7 +177,7 @@ gives_none (SetSize number size) kept none = refl
 gives_none (SetAttributes number o) kept none = refl
 
 -- what lacks behind a point is room for the charge
-still_lacks : PayloadsFit → (old mid : Held) (session : ℕ) (c : Call) → IsWorld version_1 mid.world → IsPointed (event.Call session c) Plain old mid → LacksFirst mid session c → DoesNotFit mid session c
+still_lacks : PayloadsFit → (old mid : Held) (session : ℕ) (c : Call) → IsWorld limits_written mid.world → IsPointed (event.Call session c) Plain old mid → LacksFirst mid session c → DoesNotFit mid session c
 still_lacks fit old mid session c whole p lacks = record { change = change; is = is; over = told lacks.lacks }
   where
     change : Change
@@ -195,7 +195,7 @@ still_lacks fit old mid session c whole p lacks = record { change = change; is =
     told (inr (inr (inl kept))) = absurd (true≢false (sym kept ∙ gives_none change mid.kept p.fresh.none_kept))
     told (inr (inr (inr over))) = absurd (over p.age)
 
-space_answers : PayloadsFit → (old mid : Held) (session : ℕ) (c : Call) → IsWorld version_1 mid.world → LacksFirst old session c → IsPointed (event.Call session c) Plain old mid → LacksFirst mid session c → AnswersFrom (Running old.world) (event.Call session c) (refused Enospc) old mid false
+space_answers : PayloadsFit → (old mid : Held) (session : ℕ) (c : Call) → IsWorld limits_written mid.world → LacksFirst old session c → IsPointed (event.Call session c) Plain old mid → LacksFirst mid session c → AnswersFrom (Running old.world) (event.Call session c) (refused Enospc) old mid false
 space_answers fit old mid session c whole needed p lacks = record {
   met = Some Space;
   fin = old;
@@ -204,7 +204,7 @@ space_answers fit old mid session c whole needed p lacks = record {
   point = inr (tt, made);
   may = (still_lacks fit old mid session c whole p lacks, made, ap (λ (s : Status). s.failures) p.costs);
   next = Running old.world;
-  step = (subst (λ (w : World). IsCharged version_1 w session c) p.world (lacks.is.outcome, lacks.is.decided, is_charged mid.world mid.kept session c lacks.is.outcome lacks.is.picked lacks.change lacks.is.decided lacks.is.chosen lacks.is.is), record { told = refl; same = refl });
+  step = (subst (λ (w : World). IsCharged limits_written w session c) p.world (lacks.is.outcome, lacks.is.decided, is_charged mid.world mid.kept session c lacks.is.outcome lacks.is.picked lacks.change lacks.is.decided lacks.is.chosen lacks.is.is), record { told = refl; same = refl });
   means = (refl, running_between mid old.world p.fresh.between p.runs);
   lasts = record {
     moments = LeavesOnly-weaker old.disk mid.disk (λ d. IsImage d (settle old.world)) (λ d. ShowsState (Running old.world) d ⊎ ShowsState (Running old.world) d) (λ d h. inl h) (settled_all session c old mid p);
@@ -247,11 +247,11 @@ module _ (e : Event) (old new : Held) (world : new.disk ≡ old.disk → new.wor
 -- what it answers from this world, and what it may cost
 pub record PointEvent (e : Event) (old : Held) (w : World) : Type 0 where
   pub needed : NeedsPoint old e
-  pub memory : EventStep version_1 (Running w) e (Some Memory) (refused Enomem) (Running w)
-  pub read : EventStep version_1 (Running w) e (Some Read) (refused Eio) (Running w)
-  pub age : EventStep version_1 (Running w) e (Some Age) (refused Elimit) (Running w)
+  pub memory : EventStep limits_written (Running w) e (Some Memory) (refused Enomem) (Running w)
+  pub read : EventStep limits_written (Running w) e (Some Read) (refused Eio) (Running w)
+  pub age : EventStep limits_written (Running w) e (Some Age) (refused Elimit) (Running w)
   pub after : World
-  pub cut : EventStep version_1 (Running w) e (Some Write) (refused Eio) (Stopped (settle w) after)
+  pub cut : EventStep limits_written (Running w) e (Some Write) (refused Eio) (Stopped (settle w) after)
   pub unchanged : (m : Mishap) (new : Held) → IsUnchanged m old new → Leaves (Running w) e (Some m) (refused (errno_of m)) (Running w) old old new
   pub cut_off : (new : Held) → IsCutAtPoint old e new.disk new.status → Leaves (Running w) e (Some Write) (refused Eio) (Stopped (settle w) after) old old new
 
@@ -283,7 +283,7 @@ module _ (e : Event) (old : Held) (x : PointEvent e old old.world) (between : ol
   running = running_between old old.world between r
 
   -- nothing has changed
-  refuses : (m : Mishap) → IsUnchanged m old old → MayMeet old old e (Some m) old.status → EventStep version_1 (Running old.world) e (Some m) (refused (errno_of m)) (Running old.world) → AnswersFrom (Running old.world) e (refused (errno_of m)) old old false
+  refuses : (m : Mishap) → IsUnchanged m old old → MayMeet old old e (Some m) old.status → EventStep limits_written (Running old.world) e (Some m) (refused (errno_of m)) (Running old.world) → AnswersFrom (Running old.world) e (refused (errno_of m)) old old false
   refuses m is may step = record {
     met = Some m;
     fin = old;
@@ -335,7 +335,7 @@ unchanged_call old session c Write new is = absurd is
 unchanged_call old session c Space new is = is
 unchanged_call old session c Age new is = is
 
-pub call_point : (old : Held) (session : ℕ) (c : Call) → IsCall c → IsWorld version_1 old.world → LacksFirst old session c → PointEvent (event.Call session c) old old.world
+pub call_point : (old : Held) (session : ℕ) (c : Call) → IsCall c → IsWorld limits_written old.world → LacksFirst old session c → PointEvent (event.Call session c) old old.world
 call_point old session c numbers whole needed = record {
   needed = inl needed;
   memory = (takes, record { told = refl; same = refl });
@@ -365,7 +365,7 @@ call_point old session c numbers whole needed = record {
     takes : TakesMemory c × IsOk (ready old.world session c)
     takes = change_takes old.world old.kept session c o is.picked needed.change is.decided is.chosen is.is
 
-unpointed_call : (old new : Held) (session : ℕ) (c : Call) (fault : PointFault) → IsCall c → IsWorld version_1 old.world → LacksFirst old session c → old.point ≡ None → RunsReady old old.world old.base → IsUnpointed fault (event.Call session c) Plain old new
+unpointed_call : (old new : Held) (session : ℕ) (c : Call) (fault : PointFault) → IsCall c → IsWorld limits_written old.world → LacksFirst old session c → old.point ≡ None → RunsReady old old.world old.base → IsUnpointed fault (event.Call session c) Plain old new
     → AnswersFrom (Running old.world) (event.Call session c) (refused (errno_of_point fault)) old new (stops_for fault)
 unpointed_call old new session c fault numbers whole needed between r is = unpointed_answers (event.Call session c) old (call_point old session c numbers whole needed) between r Plain (λ d either. inl (either_same either)) fault new is
 
@@ -382,12 +382,12 @@ pub call_behind : (old mid new : Held) (session : ℕ) (c : Call) (reply : Reply
 call_behind old mid new session c reply has_stopped between needed points serves =
     in_its_world (event.Call session c) old new reply has_stopped between (λ r. let p = points r tt in behind_point old mid new session c needed p (serves (Running old.world) (refl, running_between mid old.world p.fresh.between p.runs)))
 
-pub call_without_room : PayloadsFit → (old mid new : Held) (session : ℕ) (c : Call) → IsWorld version_1 mid.world → old.point ≡ None → LacksFirst old session c → Points (Ok tt) Plain old mid → Serves None mid session c new false → Answers (event.Call session c) (refused Enospc) old false new false
+pub call_without_room : PayloadsFit → (old mid new : Held) (session : ℕ) (c : Call) → IsWorld limits_written mid.world → old.point ≡ None → LacksFirst old session c → Points (Ok tt) Plain old mid → Serves None mid session c new false → Answers (event.Call session c) (refused Enospc) old false new false
 call_without_room fit old mid new session c whole between needed points serves =
     subst (λ (h : Held). Answers (event.Call session c) (refused Enospc) old false h false) (sym serves.1)
     (in_its_world (event.Call session c) old mid (refused Enospc) false between (λ r. space_answers fit old mid session c whole needed (points r tt) serves.0))
 
-pub call_unpointed : (old new : Held) (session : ℕ) (c : Call) (fault : PointFault) → IsCall c → IsWorld version_1 old.world → old.point ≡ None → LacksFirst old session c → Points (Err fault) Plain old new → Answers (event.Call session c) (refused (errno_of_point fault)) old false new (stops_for fault)
+pub call_unpointed : (old new : Held) (session : ℕ) (c : Call) (fault : PointFault) → IsCall c → IsWorld limits_written old.world → old.point ≡ None → LacksFirst old session c → Points (Err fault) Plain old new → Answers (event.Call session c) (refused (errno_of_point fault)) old false new (stops_for fault)
 call_unpointed old new session c fault numbers whole between needed points =
     in_its_world (event.Call session c) old new (refused (errno_of_point fault)) (stops_for fault) between (λ r. unpointed_call old new session c fault numbers whole needed between r (unmade_in_call fault session c Plain old new (points r tt)))
 

@@ -1,7 +1,7 @@
 -- What a step answers.
 use Rattle.std.proofs.Common.{◌≡◌, ◌⊎◌, inl, inr, ℕ, false, true, Some, None, Err, Ok, refl, sym, ap, subst}
 use Rattle.std.proofs.lemmas.Bool.{true≢false}
-use Rattle.sn_limits.specs.Versions.{version_1}
+use Rattle.sn_limits.specs.Versions.{limits_written}
 use Rattle.sn_model.specs.declared.call.Event.TheVariants as event
 use Rattle.sn_model.specs.declared.reply.Errno.TheVariants.{Eio, Elimit, Enomem, Estopped}
 use Rattle.sn_model.specs.declared.reply.Progress.{Progress}
@@ -96,7 +96,7 @@ ended_step old new f last =
     }
 
 -- it was refused, and nothing has changed
-refused_step : (old : Held) (m : Mishap) → RunsWith old.point old old.world → MayMeet old old event.Step (Some m) old.status → EventStep version_1 (Running old.world) event.Step (Some m) (refused (errno_of m)) (Running old.world)
+refused_step : (old : Held) (m : Mishap) → RunsWith old.point old old.world → MayMeet old old event.Step (Some m) old.status → EventStep limits_written (Running old.world) event.Step (Some m) (refused (errno_of m)) (Running old.world)
     → LeavesStep old (Some m) (refused (errno_of m)) old → AnswersFrom (Running old.world) event.Step (refused (errno_of m)) old old false
 refused_step old m runs may step leaves = record {
   met = Some m;

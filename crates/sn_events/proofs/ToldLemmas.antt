@@ -1,6 +1,6 @@
 -- What a call answers that changes nothing of the tree, but for files that nobody has.
 use Rattle.std.proofs.Common.{◌≡◌, ◌⊎◌, inl, inr, ℕ, ◌-◌, false, Option, Some, None, Ok, refl, sym, ap, subst, ◌∙◌, arith}
-use Rattle.sn_limits.specs.Versions.{version_1}
+use Rattle.sn_limits.specs.Versions.{limits_written}
 use Rattle.sn_model.specs.declared.call.Call.{Call}
 use Rattle.sn_model.specs.declared.change.Change.{Change}
 use Rattle.sn_model.specs.declared.outcome.Outcome.{Outcome}
@@ -30,7 +30,7 @@ use Rattle.sn_events.proofs.DecisionLemmas.{has_no_change}
 use Rattle.sn_events.proofs.CallLemmas.{asks_nothing, drops_carry, in_world, carries_same}
 use Rattle.sn_events.specs.Answers.{HasDropped}
 
-module _ (old new : Held) (session : ℕ) (c : Call) (o : Outcome) (picked : Chosen) (numbers : IsCall c) (whole : IsWorld version_1 old.world) (decided : decision version_1 old.world session c ≡ Ok o) (chosen : Chooses old.world.live old.kept o.change o.caller picked) (none : picked.change ≡ None) (alone : asks_for_point c ≡ false)
+module _ (old new : Held) (session : ℕ) (c : Call) (o : Outcome) (picked : Chosen) (numbers : IsCall c) (whole : IsWorld limits_written old.world) (decided : decision limits_written old.world session c ≡ Ok o) (chosen : Chooses old.world.live old.kept o.change o.caller picked) (none : picked.change ≡ None) (alone : asks_for_point c ≡ false)
     (turned : Turns session picked.caller (nameless_in old.world.live) old new) where
   abbrev next : World
   next = dropped (with_caller old.world session picked.caller)
@@ -58,7 +58,7 @@ module _ (old new : Held) (session : ℕ) (c : Call) (o : Outcome) (picked : Cho
       chosen_served old.world old.kept session c o picked old.world.live numbers whole decided chosen (subst (λ (x : Option Change). MadeBy x old.world.live old.world.live) (sym none) refl)
       old.kept new.kept (λ n. sym (ap (λ (x : Option Change). kept_by x old.kept n) none)) turned.kept (alone_stays old.world session c o decided alone next)
 
-  whole_next : IsWorld version_1 next
+  whole_next : IsWorld limits_written next
   whole_next = served_whole old.world next session c o.told served.0 numbers whole
 
   drops : DropsFiles old.base old.world.live new.base next.live
@@ -74,8 +74,8 @@ module _ (old new : Held) (session : ℕ) (c : Call) (o : Outcome) (picked : Cho
   runs_after r =
       drops_with old.point old old.world next new.kept new.kept_since parked new.base r of (omega arith) carries whole_next.live
 
-  pub told_whole : IsWorld version_1 new.world
-  told_whole = subst (IsWorld version_1) (sym world_is) whole_next
+  pub told_whole : IsWorld limits_written new.world
+  told_whole = subst (IsWorld limits_written) (sym world_is) whole_next
 
   pub told_runs : RunsNow old → RunsNow new
   told_runs r = subst RunsNow (sym is) (runs_after r)

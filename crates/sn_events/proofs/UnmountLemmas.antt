@@ -2,7 +2,7 @@
 use Rattle.std.proofs.Common.{◌≡◌, false, refl, sym, ap, subst, arith}
 use Rattle.std.specs.FinMap as map
 use Rattle.std.specs.Prelude.{None, replicate}
-use Rattle.sn_limits.specs.Versions.{version_1}
+use Rattle.sn_limits.specs.Versions.{limits_written}
 use Rattle.sn_model.specs.Settling.{settle, settled}
 use Rattle.sn_model.specs.Tree.{Tree}
 use Rattle.sn_model.specs.World.{World}
@@ -26,7 +26,7 @@ pub settles_twice : (w : World) → settle (settle w) ≡ settle w
 settles_twice w = ap (λ (t : Tree). record { live = t; frozen = w.frozen; sessions = replicate 64 None; descriptors = map.empty }) (settled_twice w.live)
 
 -- of what was built without the files that no name stands for
-module _ (old : Held) (built : Layer) (drops : DropsFiles old.base old.world.live (record old.base { changed = built }) (settle old.world).live) (whole : IsTree version_1 old.world.live) (r : RunsReady old old.world old.base) where
+module _ (old : Held) (built : Layer) (drops : DropsFiles old.base old.world.live (record old.base { changed = built }) (settle old.world).live) (whole : IsTree limits_written old.world.live) (r : RunsReady old old.world old.base) where
   abbrev pub last_base : Kept
   last_base = record old.base { changed = built }
 
@@ -38,7 +38,7 @@ module _ (old : Held) (built : Layer) (drops : DropsFiles old.base old.world.liv
     slot = drops.slot;
     root = drops.root;
     words = drops.words;
-    changed = λ root changed. drops.leads version_1 root old.world.live old.room.charged (λ _. false) figures whole.hierarchy changed drops.gone;
+    changed = λ root changed. drops.leads limits_written root old.world.live old.room.charged (λ _. false) figures whole.hierarchy changed drops.gone;
   }
 
   -- what runs is ready for a point of the settled world
@@ -46,7 +46,7 @@ module _ (old : Held) (built : Layer) (drops : DropsFiles old.base old.world.liv
   last = record old { world = settle old.world; kept = λ _. false; kept_since = λ _. false; room = dropping (nameless_in old.world.live) old.room; base = last_base }
 
   last_ready : RunsReady last (settle old.world) last_base
-  last_ready = drops_ready old old.world (settle old.world) (λ _. false) (λ _. false) (nameless_in old.world.live) last_base r of_settled (omega arith) carries (dropping_tree version_1 old.world.live (λ _. false) whole)
+  last_ready = drops_ready old old.world (settle old.world) (λ _. false) (λ _. false) (nameless_in old.world.live) last_base r of_settled (omega arith) carries (dropping_tree limits_written old.world.live (λ _. false) whole)
 
   pub ready_as : (room : RoomCounts) → room ≡ dropping (nameless_in old.world.live) old.room → RunsReady (record last { room = room }) (settle old.world) last_base
   ready_as room is = subst (λ (x : RoomCounts). RunsReady (record last { room = x }) (settle old.world) last_base) (sym is) last_ready

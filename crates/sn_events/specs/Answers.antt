@@ -6,7 +6,7 @@ use Rattle.sn_device.specs.Disk.{Disk, reads}
 use Rattle.sn_device.specs.declared.status.Status.{Status}
 use Rattle.sn_layout.specs.declared.gate.Gate.{Gate}
 use Rattle.sn_layout.specs.declared.root.RootBody.{RootBody}
-use Rattle.sn_limits.specs.Versions.{version_1}
+use Rattle.sn_limits.specs.Versions.{limits_written}
 use Rattle.sn_model.specs.declared.call.Call.{Call}
 use Rattle.sn_model.specs.declared.call.Event.{Event}
 use Rattle.sn_model.specs.declared.call.Event.TheVariants as event
@@ -60,15 +60,15 @@ use Rattle.sn_mount.specs.Rooting.{MountsRoot}
 -- the change that a call comes to
 pub record IsChangeOf (world : World) (kept : ℕ → Bool) (session : ℕ) (c : Call) (change : Change) : Type 0 where
   pub outcome : Outcome
-  pub decided : decision version_1 world session c ≡ Ok outcome
+  pub decided : decision limits_written world session c ≡ Ok outcome
   pub picked : Chosen
   pub chosen : Chooses world.live kept outcome.change outcome.caller picked
   pub is : picked.change ≡ Some change
 
 -- whether a call fits that comes to this, on top of what was logged: on the root that counts, and on that of a point in progress
 abbrev pub fits_with : Option Going → RoomCounts → ℕ → Outcome → Bool
-fits_with None room nameless o = fits version_1 room nameless o
-fits_with (Some going) room nameless o = fits version_1 room nameless o && fits version_1 (done going.free room) nameless o
+fits_with None room nameless o = fits limits_written room nameless o
+fits_with (Some going) room nameless o = fits limits_written room nameless o && fits limits_written (done going.free room) nameless o
 
 abbrev pub is_fitting : Held → Outcome → Bool
 is_fitting h o = fits_with h.point h.room (nameless_in h.world.live) o
@@ -93,7 +93,7 @@ pub record LacksFirst (h : Held) (session : ℕ) (c : Call) : Type 0 where
 pub record AsksFirst (h : Held) (session : ℕ) (c : Call) : Type 0 where
   pub asks : AsksForPoint c
   pub outcome : Outcome
-  pub decided : decision version_1 h.world session c ≡ Ok outcome
+  pub decided : decision limits_written h.world session c ≡ Ok outcome
 
 -- Then the point in progress is finished first, and a whole point comes where that isn't enough. A step asks for a point, and the unmount of a restart for a whole one.
 abbrev pub NeedsPoint : Held → Event → Type 0
@@ -243,7 +243,7 @@ pub record HasLogged (session : ℕ) (c : Call) (old new : Held) : Type 0 where
   pub is : IsChangeOf old.world old.kept session c change
   pub all : HasAll old change is.outcome
   pub tree : Tree
-  pub applied : apply version_1 change old.world.live ≡ Some tree
+  pub applied : apply limits_written change old.world.live ≡ Some tree
   pub world : new.world ≡ dropped (with_caller (with_live old.world tree) session is.picked.caller)
   pub touched : Touches (InHalf (base_at old.at)) old.disk new.disk
   pub drops : HasDropped 0 (with_record old change is.outcome.charge tree new.disk) new
@@ -391,7 +391,7 @@ pub record AnswersFrom (s : State) (e : Event) (reply : Reply) (old new : Held) 
   pub point : IsBehindPoint s e fin mid
   pub may : MayMeet fin mid e met new.status
   pub next : State
-  pub step : EventStep version_1 s e met reply next
+  pub step : EventStep limits_written s e met reply next
   pub means : Means new has_stopped next
   pub lasts : LastsOver s next old.disk new.disk
   pub later : IsLater old.status new.status

@@ -3,7 +3,7 @@ use Rattle.std.specs.Prelude.{◌≡◌, ℕ, Bool, true, false, Option, Some, R
 use Rattle.sn_device.specs.Sectors.{AreSectors}
 use Rattle.sn_device.specs.Disk.{IsSynced, reads}
 use Rattle.sn_device.specs.Crash.{Touches}
-use Rattle.sn_limits.specs.Versions.{version_1}
+use Rattle.sn_limits.specs.Versions.{limits_written}
 use Rattle.sn_model.specs.declared.change.Change.{Change}
 use Rattle.sn_model.specs.Changes.{apply}
 use Rattle.sn_model.specs.Steps.{with_live}
@@ -30,7 +30,7 @@ use Rattle.sn_overlay_change.specs.ChangeLayers.{layer_of_change}
 -- the world with the change
 pub record IsMade (change : Change) (old new : World) : Type 0 where
   pub tree : Tree
-  pub applied : apply version_1 change old.live ≡ Some tree
+  pub applied : apply limits_written change old.live ≡ Some tree
   pub world : new ≡ with_live old tree
 
 -- what changed since the root, with a change of this tree
@@ -56,7 +56,7 @@ pub record IsLogged (change : Change) (charge : ℕ) (old new : Held) : Type 0 w
 -- the device failed while its record was appended
 pub record IsCut (change : Change) (old new : Held) : Type 0 where
   pub tree : Tree
-  pub applied : apply version_1 change old.world.live ≡ Some tree
+  pub applied : apply limits_written change old.world.live ≡ Some tree
   pub touched : Touches (InHalf (base_at old.at)) old.disk new.disk
   pub moments : LeavesEither old.at change old.disk new.disk
   pub failed : HasFailed old.status new.status

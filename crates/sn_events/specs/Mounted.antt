@@ -6,7 +6,7 @@ use Rattle.sn_device.specs.Disk.{Disk, reads}
 use Rattle.sn_image.specs.Image.{image}
 use Rattle.sn_layout.specs.Geometry.{other_slot}
 use Rattle.sn_layout.specs.declared.root.RootBody.{RootBody}
-use Rattle.sn_limits.specs.Versions.{version_1}
+use Rattle.sn_limits.specs.Versions.{limits_written}
 use Rattle.sn_model.specs.Tree.{Tree}
 use Rattle.sn_model.specs.World.{Trees}
 use Rattle.sn_model.specs.Worlds.{IsWorld}
@@ -84,7 +84,7 @@ RunsNow h = RunsWith h.point h h.world
 -- What is so of what it reads, where the device tells its bytes: its live tree lies over the root's, its world is one, it runs over that, and the disk is where the point in progress takes it to be.
 pub record IsMeant (disk : Disk) (status : Status) (at : LogPosition) (world : LiveWorld) (room : RoomCounts) (base : PointBase) (going : Option GoingPoint) : Type 0 where
   pub over : IsOver world (tree_at disk base.root)
-  pub whole : IsWorld version_1 (world_in world (trees_there disk base.root))
+  pub whole : IsWorld limits_written (world_in world (trees_there disk base.root))
   pub runs : RunsNow (holding_on disk status at world room base going)
   pub stands : StandsThere going disk
 

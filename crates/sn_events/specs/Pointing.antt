@@ -3,7 +3,7 @@ use Rattle.std.specs.Prelude.{◌≡◌, ◌⊎◌, ℕ, ◌+◌, ◌<◌, ◌�
 use Rattle.sn_device.specs.Crash.{LeavesOnly, Touches}
 use Rattle.sn_layout.specs.declared.gate.Gate.{Gate}
 use Rattle.sn_log.specs.Positions.{first_of}
-use Rattle.sn_limits.specs.Versions.{version_1}
+use Rattle.sn_limits.specs.Versions.{limits_written}
 use Rattle.sn_model.specs.declared.reply.Errno.{Errno}
 use Rattle.sn_model.specs.declared.reply.Progress.{Progress}
 use Rattle.sn_model.specs.declared.reply.Progress.TheVariants as progress
@@ -122,7 +122,7 @@ Finishes result old new = RunsWith old.point old old.world → FinishesSo result
 -- What is asked for can be made of the snapshots, and leaves a world.
 pub record CanPoint (asked : AskedPoint) (world : World) : Type 0 where
   pub can : CanBeAsked asked world
-  pub whole : IsWorld version_1 (pointed asked world)
+  pub whole : IsWorld limits_written (pointed asked world)
 
 -- of what runs, where no point is in progress, and is ready for one that can be asked for
 abbrev pub PointsSo : Result (Unit {0}) PointFault → AskedPoint → Held → Held → Type 0

@@ -13,7 +13,7 @@ use Rattle.sn_block.specs.Counts.{FailsRead}
 use Rattle.sn_model.specs.Machine.{State, Mishap, Memory, Read, Write, Space, Age, refused}
 use Rattle.sn_model.specs.Settling.{dropped}
 use Rattle.sn_model.specs.Steps.{decision, with_caller}
-use Rattle.sn_limits.specs.Versions.{version_1}
+use Rattle.sn_limits.specs.Versions.{limits_written}
 use Rattle.sn_core_files.specs.Decided.{MayLack}
 use Rattle.sn_model.specs.Worlds.{IsCall}
 use Rattle.sn_core.specs.Numbering.{gives_kept, has_closed}
@@ -76,6 +76,6 @@ pub record Turns (session : ℕ) (caller : Caller) (parked : ℕ) (old new : Hel
 
 -- Why a call has no outcome: it is refused, or memory was refused or a read failed once session and arguments had passed. Nothing has changed but what the device counts.
 abbrev pub IsUndecided : CallFault → Held → ℕ → Call → Held → Type 0
-IsUndecided (lack.Refused r) h session c new = (decision version_1 h.world session c ≡ Err r) × (new ≡ h)
+IsUndecided (lack.Refused r) h session c new = (decision limits_written h.world session c ≡ Err r) × (new ≡ h)
 IsUndecided lack.Memory h session c new = MayLack h.world session c × (new ≡ h)
 IsUndecided lack.Read h session c new = MayLack h.world session c × (new ≡ record h { status = new.status }) × FailsRead h.status new.status

@@ -15,7 +15,6 @@ use Rattle.sn_layout.specs.declared.root.RootBody.{RootBody}
 use Rattle.sn_layout.specs.Geometry.{map_blocks, start_of}
 use Rattle.sn_layout_node.specs.Indirect.{numbers_of}
 use Rattle.sn_layout_node.proofs.Numbers.{numbers_fit, numbers_read}
-use Rattle.sn_limits.specs.declared.limits.Limits.{Limits}
 use Rattle.sn_model.specs.Chains.{◌>>=◌}
 use Rattle.sn_model.specs.Changes.{apply_all}
 use Rattle.sn_model.specs.Tree.{Tree}
@@ -29,13 +28,13 @@ use Rattle.sn_ondisk.proofs.MapLemmas.{map_word-spelled}
 use Rattle.sn_image.specs.Image.{image}
 use Rattle.sn_image.proofs.PieceLemmas.{all_take}
 use Rattle.sn_sound.specs.Disks.{IsOfDevice, IsSoundDisk}
-use Rattle.sn_sound.specs.Logs.{AreReplayed, HasSoundLog}
+use Rattle.sn_sound.specs.Logs.{HasSoundLog}
 use Rattle.sn_sound.specs.Maps.{IsReachedBy, IsSetOfRoots, Rooted, free_blocks, rooted_in}
 use Rattle.sn_opening.proofs.OpeningLemmas.{replayed_in_turn}
 use Rattle.sn_sound.proofs.DiskLemmas.{is_disk, world_of}
 use Rattle.sn_held.specs.Images.{IsImage}
 use Rattle.sn_examine.specs.Laws.{IsSomeClean}
-use Rattle.sn_examine.proofs.FindLemmas.{halves, image_newer, image_older, limits_one, recovers_after, recovers_before}
+use Rattle.sn_examine.proofs.FindLemmas.{halves, image_newer, image_older, recovers_after, recovers_before}
 
 -- ---- the bytes of a map
 
@@ -153,7 +152,7 @@ module _ (sectors : ℕ) (c : Contents) (n : ℕ) (slot : Slot) (root : RootBody
         };
         none_later = log.none_later;
         fits = log.fits;
-        age = λ recovers. log.age (recovers_after root.limits (log.older ++ log.newer) img log.tree applied recovers);
+        age = λ recovers. log.age (recovers_after root root.limits (log.older ++ log.newer) img log.tree applied recovers);
       }
 
 pub clean_image : (sectors : ℕ) (c : Contents) → IsOfDevice sectors c → IsSomeClean sectors c → (world : World) × IsImage c world
@@ -174,11 +173,11 @@ module _ (sectors : ℕ) (c : Contents) (w : World) (device : IsOfDevice sectors
     newer = im.opens.newer;
     middle = (halves c w im).0;
     tree = im.opens.stands.tree;
-    has_older = subst (λ (l : Limits). AreReplayed c l img im.blocks img_root.epoch im.opens.older (halves c w im).0) (limits_one c w im) (image_older c w im);
-    has_newer = subst (λ (l : Limits). AreReplayed c l (halves c w im).0 im.blocks (img_root.epoch + 1) im.opens.newer im.opens.stands.tree) (limits_one c w im) (image_newer c w im);
+    has_older = image_older c w im;
+    has_newer = image_newer c w im;
     none_later = im.none_later;
     fits = im.fits;
-    age = λ recovers. im.age (recovers_before img_root.limits (im.opens.older ++ im.opens.newer) img im.opens.stands.tree im.opens.stands.applied recovers);
+    age = λ recovers. im.age (recovers_before img_root img_root.limits (im.opens.older ++ im.opens.newer) img im.opens.stands.tree im.opens.stands.applied recovers);
   }
 
   image_sound : IsSoundDisk sectors c im.blocks im.opens.slot im.opens.root

@@ -7,7 +7,7 @@ use Rattle.sn_block.proofs.CountLemmas.{later-same}
 use Rattle.sn_block.specs.Counts.{CountsRead}
 use Rattle.sn_block.specs.declared.fault.ReadFault.{ReadFault}
 use Rattle.sn_block.specs.declared.fault.ReadFault.TheVariants as read
-use Rattle.sn_limits.specs.Versions.{version_1}
+use Rattle.sn_limits.specs.declared.limits.Limits.{Limits}
 use Rattle.sn_model.specs.declared.change.Change.{Change as TheChange}
 use Rattle.sn_changed.specs.Changed.{HasChanged}
 use Rattle.sn_changed.specs.Laws.{ChangesMerge}
@@ -15,7 +15,7 @@ use Rattle.sn_overlay.specs.Layers.{Layer}
 use Rattle.sn_overlay.specs.Merges.{merge}
 use Rattle.sn_overlay.specs.Needs.{AreCharged}
 use Rattle.sn_overlay_change.specs.ChangeLayers.{layer_of_change}
-use Rattle.sn_model.specs.NameTree.{IsTree}
+use Rattle.sn_model.specs.NameTree.{IsHierarchy}
 use Rattle.sn_model.specs.Chains.{◌>>=◌}
 use Rattle.sn_model.specs.Changes.{apply, apply_all}
 use Rattle.sn_model.specs.Tree.{Tree}
@@ -33,26 +33,26 @@ use Rattle.sn_examine.specs.Failing.{HasFailed, IsSoOf, WritesNothing, read_faul
 use Rattle.sn_examine.specs.Replaying.{HasReplayed, LeadsOn}
 
 -- at the first place of an epoch nothing is replayed yet
-pub starts : (c : Contents) (from : Tree) (n epoch : ℕ) → HasReplayed c from (first_of n epoch) from 0
+pub starts : (limits : Limits) (c : Contents) (from : Tree) (n epoch : ℕ) → HasReplayed limits c from (first_of n epoch) from 0
 unfolding apply_all charges_from
-starts c from n epoch = record { changes = []; spelled = tt; behind = record { count = refl; leads = refl }; applied = refl; charged = refl }
+starts limits c from n epoch = record { changes = []; spelled = tt; behind = record { count = refl; leads = refl }; applied = refl; charged = refl }
 
 -- one more
-pub replayed_more : (c : Contents) (from : Tree) (at : LogPosition) (tree : Tree) (charges : ℕ) (change : TheChange) (after : Tree) (done : HasReplayed c from at tree charges) → Finds c at (Change change) → apply version_1 change tree ≡ Some after
-    → IsBehind (behind at change) (done.changes ++ change ∷ []) c → HasReplayed c from (behind at change) after (charges + charge_for version_1 tree change)
-replayed_more c from at tree charges change after done finds e is = record {
+pub replayed_more : (limits : Limits) (c : Contents) (from : Tree) (at : LogPosition) (tree : Tree) (charges : ℕ) (change : TheChange) (after : Tree) (done : HasReplayed limits c from at tree charges) → Finds c at (Change change) → apply limits change tree ≡ Some after
+    → IsBehind (behind at change) (done.changes ++ change ∷ []) c → HasReplayed limits c from (behind at change) after (charges + charge_for limits tree change)
+replayed_more limits c from at tree charges change after done finds e is = record {
   changes = done.changes ++ change ∷ [];
   spelled = spelled_more done.changes change done.spelled finds.1;
   behind = is;
-  applied = lists_join version_1 done.changes (change ∷ []) from ∙ ap (λ x. x >>= apply_all version_1 (change ∷ [])) done.applied ∙ applied_one version_1 change tree after e;
+  applied = lists_join limits done.changes (change ∷ []) from ∙ ap (λ x. x >>= apply_all limits (change ∷ [])) done.applied ∙ applied_one limits change tree after e;
   charged =
-      ap (λ (k : ℕ). k + charge_for version_1 tree change) done.charged
-      ∙ sym (charges_join version_1 done.changes (change ∷ []) from tree done.applied ∙ ap (λ (k : ℕ). charges_from version_1 done.changes from + k) (one_charge version_1 tree change));
+      ap (λ (k : ℕ). k + charge_for limits tree change) done.charged
+      ∙ sym (charges_join limits done.changes (change ∷ []) from tree done.applied ∙ ap (λ (k : ℕ). charges_from limits done.changes from + k) (one_charge limits tree change));
 }
 
 -- a record that is misspelt
-pub misspelt_breaks : (c : Contents) (from : Tree) (at : LogPosition) (tree : Tree) (charges block : ℕ) → HasReplayed c from at tree charges → Finds c at (Misspelt block) → BreaksAt c version_1 from at.blocks at.epoch block
-misspelt_breaks c from at tree charges block done finds = record {
+pub misspelt_breaks : (limits : Limits) (c : Contents) (from : Tree) (at : LogPosition) (tree : Tree) (charges block : ℕ) → HasReplayed limits c from at tree charges → Finds c at (Misspelt block) → BreaksAt c limits from at.blocks at.epoch block
+misspelt_breaks limits c from at tree charges block done finds = record {
   at = at;
   blocks = refl;
   of_epoch = refl;
@@ -65,9 +65,9 @@ misspelt_breaks c from at tree charges block done finds = record {
 }
 
 -- a change that can't be made
-pub inapplicable_breaks : (c : Contents) (from : Tree) (at : LogPosition) (tree : Tree) (charges : ℕ) (change : TheChange) (block : ℕ) → HasReplayed c from at tree charges → Finds c at (Change change) → apply version_1 change tree ≡ None
-    → block ≡ (base_at at + at.place) / 8 → BreaksAt c version_1 from at.blocks at.epoch block
-inapplicable_breaks c from at tree charges change block done finds none is = record {
+pub inapplicable_breaks : (limits : Limits) (c : Contents) (from : Tree) (at : LogPosition) (tree : Tree) (charges : ℕ) (change : TheChange) (block : ℕ) → HasReplayed limits c from at tree charges → Finds c at (Change change) → apply limits change tree ≡ None
+    → block ≡ (base_at at + at.place) / 8 → BreaksAt c limits from at.blocks at.epoch block
+inapplicable_breaks limits c from at tree charges change block done finds none is = record {
   at = at;
   blocks = refl;
   of_epoch = refl;
@@ -81,17 +81,14 @@ inapplicable_breaks c from at tree charges change block done finds none is = rec
 
 -- ---- beside what changed
 
-version_charged : AreCharged version_1
-version_charged = record { inodes = omega arith; blocks = refl }
-
 -- with one more record what changed leads on
-pub changes_lead : ChangesMerge → (layer next : Layer) (tree after : Tree) (charges charge : ℕ) (change : TheChange) → IsTree version_1 tree → apply version_1 change tree ≡ Some after → next ≡ merge layer (layer_of_change tree change) → charge ≡ charge_for version_1 tree change
-    → LeadsOn layer tree charges next after (charges + charge)
-changes_lead merges layer next tree after charges charge change whole e is charged root before has =
-    let sum : before + charges + charge_for version_1 tree change ≡ before + (charges + charge) = omega (arith, charged) in
-    subst (λ (l : Layer). HasChanged version_1 l root after (before + (charges + charge))) (sym is)
-    (subst (HasChanged version_1 (merge layer (layer_of_change tree change)) root after) sum
-    (merges version_1 layer root tree after (before + charges) change version_charged whole.hierarchy has e))
+pub changes_lead : ChangesMerge → (limits : Limits) → AreCharged limits → (layer next : Layer) (tree after : Tree) (charges charge : ℕ) (change : TheChange) → IsHierarchy tree → apply limits change tree ≡ Some after → next ≡ merge layer (layer_of_change tree change) → charge ≡ charge_for limits tree change
+    → LeadsOn limits layer tree charges next after (charges + charge)
+changes_lead merges limits pays layer next tree after charges charge change whole e is charged root before has =
+    let sum : before + charges + charge_for limits tree change ≡ before + (charges + charge) = omega (arith, charged) in
+    subst (λ (l : Layer). HasChanged limits l root after (before + (charges + charge))) (sym is)
+    (subst (HasChanged limits (merge layer (layer_of_change tree change)) root after) sum
+    (merges limits layer root tree after (before + charges) change pays whole has e))
 
 -- ---- reads
 

@@ -4,7 +4,6 @@ use Rattle.sn_changed.specs.Changed.{HasChanged}
 use Rattle.sn_device.specs.Sectors.{Contents}
 use Rattle.sn_layout.specs.declared.geometry.Slot.{Slot}
 use Rattle.sn_layout.specs.declared.root.RootBody.{RootBody}
-use Rattle.sn_limits.specs.Versions.{version_1}
 use Rattle.sn_model.specs.Tree.{Tree}
 use Rattle.sn_ondisk.specs.LogHalf.{HasNoLater, base_of}
 use Rattle.sn_ondisk.specs.MapCopy.{HasMap}
@@ -27,13 +26,13 @@ pub record HasRoot (sectors : ℕ) (c : Contents) (n : ℕ) (slot : Slot) (root 
   pub newest : IsNewest c slot root
   pub none_later : (epoch : ℕ) → HasNoLater c (base_of n epoch) (root.epoch + 1)
 
--- The tree of the newest root, with the records of both epochs on top of it, is this tree; the log goes on at this position, what is charged for the records is no more than is free, and where something is to recover an age is left. What is kept is that root with the words of its map, and what the records changed.
+-- The tree of the newest root, with the records of both epochs on top of it, is this tree; the log goes on at this position, what is charged for the records is no more than is free, all by the limits of that root, and where something is to recover an age is left. What is kept is that root with the words of its map, and what the records changed.
 pub record HasFound (sectors : ℕ) (c : Contents) (k : Kept) (at : LogPosition) (tree : Tree) (room : RoomCounts) (recovers : Bool) : Type 0 where
   pub roots : HasRoot sectors c at.blocks k.slot k.root
   pub words : (words : List ℕ) → HasMap at.blocks c k.slot words → k.words ≡ words
   pub charges : ℕ
-  pub both : HasBoth c (image (store_of c) k.root.inode_file) at.blocks k.root.epoch at tree charges
-  pub changed : HasChanged version_1 k.changed (image (store_of c) k.root.inode_file) tree charges
+  pub both : HasBoth k.root.limits c (image (store_of c) k.root.inode_file) at.blocks k.root.epoch at tree charges
+  pub changed : HasChanged k.root.limits k.changed (image (store_of c) k.root.inode_file) tree charges
   pub finds : FindsRoom at.blocks c k.slot k.root charges (nameless_in (image (store_of c) k.root.inode_file)) room
-  pub recovery : TellsRecovery recovers (both.has_older.all.replayed.changes ++ both.has_newer.all.replayed.changes) (image (store_of c) k.root.inode_file)
+  pub recovery : TellsRecovery recovers k.root (both.has_older.all.replayed.changes ++ both.has_newer.all.replayed.changes) (image (store_of c) k.root.inode_file)
   pub age : recovers ≡ true → HasAgeLeft k.root

@@ -3,7 +3,6 @@ use Rattle.std.specs.Prelude.{◌≡◌, ◌⊎◌, ℕ, true, false}
 use Rattle.sn_device.specs.Sectors.{Contents}
 use Rattle.sn_layout.specs.declared.geometry.Slot.{Slot}
 use Rattle.sn_layout.specs.declared.root.RootBody.{RootBody}
-use Rattle.sn_limits.specs.Versions.{version_1}
 use Rattle.sn_model.specs.declared.fault.Damage.TheVariants.{Log}
 use Rattle.sn_model.specs.declared.fault.MountFault.{MountFault}
 use Rattle.sn_model.specs.declared.fault.MountFault.TheVariants as fault
@@ -11,18 +10,18 @@ use Rattle.sn_room.specs.Rooms.{RoomCounts, is_covered, mounted}
 use Rattle.sn_sound.specs.Logs.{half_block}
 use Rattle.sn_examine.specs.Refusing.{TellsFree}
 
--- so much is free by the map, and covers the charges
+-- so much is free by the map, and covers the charges, with those of the root's version for each file without names
 pub record FindsRoom (n : ℕ) (c : Contents) (slot : Slot) (root : RootBody) (charges dropped : ℕ) (room : RoomCounts) : Type 0 where
   pub free : ℕ
   pub told : TellsFree n c slot root free
   pub is : room ≡ mounted free charges dropped
-  pub covered : is_covered version_1 (mounted free charges dropped) ≡ true
+  pub covered : is_covered root.limits (mounted free charges dropped) ≡ true
 
 -- it doesn't, which is told of the half of the root's epoch
 pub record LacksRoom (n : ℕ) (c : Contents) (slot : Slot) (root : RootBody) (charges dropped block : ℕ) : Type 0 where
   pub free : ℕ
   pub told : TellsFree n c slot root free
-  pub uncovered : is_covered version_1 (mounted free charges dropped) ≡ false
+  pub uncovered : is_covered root.limits (mounted free charges dropped) ≡ false
   pub is : block ≡ half_block n root.epoch
 
 -- or that couldn't be read

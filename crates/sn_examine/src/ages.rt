@@ -1,17 +1,18 @@
 //! Whether something is to recover, and an age is left for that.
-ghost use Rattle.std.specs.Prelude.{◌≡◌, ◌⊎◌, ◌↔◌, ◌<◌, true, false, IsTrue, IfErr, OnOk};
+ghost use Rattle.std.specs.Prelude.{◌≡◌, ◌↔◌, true, IsTrue, IfErr, OnOk};
 ghost use Rattle.sn_sound.specs.Logs.{HasAgeLeft};
-ghost use Rattle.sn_examine.specs.Ages.{IsAged};
+ghost use Rattle.sn_examine.specs.Ages.{IsAged, TellsByNumbers};
 
 use sn_layout::{Area, Geometry, LARGEST_AGE, LogHalf, RootBody};
+use sn_limits::Limits;
 use sn_model::{Damage, MountFault};
 
-/// Whether something is to recover on top of a root: a record is logged, or a file has no name.
-pub fn is_to_recover(logged: u32, nameless: u32) -> bool
-    ensures some { result ≡ true → (0 < logged) ⊎ (0 < nameless) }
-    ensures none { result ≡ false → (logged ≡ 0) × (nameless ≡ 0) }
+/// Whether a mount of a root ends in a point of recovery: the root isn't of the version that is written, a record is logged,
+/// or a file has no name. Whoever asks that asks it here.
+pub fn is_to_recover(root: &RootBody, logged: u32, nameless: u32) -> bool
+    ensures { TellsByNumbers result root.now logged nameless }
 {
-    logged > 0 || nameless > 0
+    root.limits.version != Limits::WRITTEN.version || logged > 0 || nameless > 0
 }
 
 /// Whether a recovery has a root to write.

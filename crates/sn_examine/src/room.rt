@@ -13,7 +13,6 @@ use crate::fault::fault_of;
 use sn_block::Blocks;
 use sn_device::Device;
 use sn_layout::{Area, Geometry, LogHalf, RootBody, Slot, WORDS_PER_BLOCK, read_map_words};
-use sn_limits::Limits;
 use sn_map::Map;
 use sn_model::{Damage, MountFault};
 use sn_room::Room;
@@ -126,7 +125,7 @@ pub fn find_room<D: Device>(
         Err(fault) => return Err(fault),
     };
     let free = map.count_free_from(geometry.range(Area::Data).start);
-    match Room::mounted(&Limits::VERSION_1, free, charges, dropped) {
+    match Room::mounted(&root.limits, free, charges, dropped) {
         Some(room) => Ok((map, room)),
         None => Err(MountFault::Damaged {
             damage: Damage::Log,

@@ -15,7 +15,7 @@ use Rattle.sn_device.specs.declared.status.Status.{Status}
 use Rattle.sn_live_world.specs.World.{Alike, HasDrops, descriptors_of, nameless_of}
 use Rattle.sn_live_world.specs.declared.world.LiveWorld.{LiveWorld}
 use Rattle.sn_held.specs.Held.{Held, Kept}
-use Rattle.sn_limits.specs.Versions.{version_1}
+use Rattle.sn_limits.specs.Versions.{limits_written}
 use Rattle.sn_log.specs.Appending.{Appends}
 use Rattle.sn_log.specs.Positions.{LogPosition}
 use Rattle.sn_model.specs.Changes.{apply}
@@ -48,7 +48,7 @@ looked_mounted told disk now status after at old new room base going stopped ali
 }
 
 -- the device failed while the record of a change was appended, once its blocks had been looked at
-pub is_cut : {T E : Type 0} (e : E) (change : Change) (old new : Held) (disk : Disk) (status : Status) (tree : Tree) → apply version_1 change old.world.live ≡ Some tree → disk ≡ old.disk → status ≡ old.status → Appends {T = T} {E = E} old.at change (Err e) disk new.disk
+pub is_cut : {T E : Type 0} (e : E) (change : Change) (old new : Held) (disk : Disk) (status : Status) (tree : Tree) → apply limits_written change old.world.live ≡ Some tree → disk ≡ old.disk → status ≡ old.status → Appends {T = T} {E = E} old.at change (Err e) disk new.disk
     → CountsCalls {T = T} {E = E} (writes_of change) 2 (Err e) status new.status → IsCut change old new
 is_cut {T} {E} e change old new disk status tree applied same idle appended counted =
     let appends = subst (λ (d : Disk). Appends {T = T} {E = E} old.at change (Err e) d new.disk) same appended in

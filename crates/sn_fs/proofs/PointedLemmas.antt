@@ -17,7 +17,7 @@ use Rattle.sn_device.specs.declared.status.Status.{Status}
 use Rattle.sn_held.specs.Held.{Going, Held, Kept, RunsReady}
 use Rattle.sn_held.specs.Images.{IsImage}
 use Rattle.sn_held.proofs.EventLemmas.{ready_with}
-use Rattle.sn_limits.specs.Versions.{version_1}
+use Rattle.sn_limits.specs.Versions.{limits_written}
 use Rattle.sn_live.proofs.LiveLemmas.{none_shows}
 use Rattle.sn_live_world.specs.World.{changes_of, tree_over, world_in, world_over}
 use Rattle.sn_live_world.specs.declared.world.LiveWorld.{LiveWorld}
@@ -187,7 +187,7 @@ module _ (d0 d1 : Disk) (s0 s1 : Status) (at : LogPosition) (w0 w1 : LiveWorld) 
     pub moments_ended : LeavesOnly d0 d1 (λ c. IsImage c (settle last.world))
     moments_ended = LeavesOnly-weaker d0 d1 (EitherImage last.world last.world) (λ c. IsImage c (settle last.world)) (λ c either. either_same either) ends.0
 
-    pub changed_ended : HasChanged version_1 (changes_of w0) (tree_at d1 base1.root) last.world.live (done point.free room0).charged
+    pub changed_ended : HasChanged limits_written (changes_of w0) (tree_at d1 base1.root) last.world.live (done point.free room0).charged
     changed_ended = tree_ready (record last { room = done point.free room0; disk = d1 }) last.world (kept_in base1 (changes_of w0)) whole ends.1
 
     pub world_ended : ended.world ≡ last.world

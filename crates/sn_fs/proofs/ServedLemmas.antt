@@ -5,7 +5,7 @@ use Rattle.sn_core.specs.Called.{CanTurn, HasRoom}
 use Rattle.sn_core.specs.Served.{Chooses, HasNumber}
 use Rattle.sn_core.proofs.StepLemmas.{MadeBy, chosen_turns, has_number}
 use Rattle.sn_held.specs.Held.{Held}
-use Rattle.sn_limits.specs.Versions.{version_1}
+use Rattle.sn_limits.specs.Versions.{limits_written}
 use Rattle.sn_live_world.specs.Turned.{Picks}
 use Rattle.sn_live_world.specs.declared.choosing.Picked.{Picked}
 use Rattle.sn_live_world.proofs.ChoiceLemmas.{IsChosen, picks_chooses}
@@ -31,7 +31,7 @@ use Rattle.sn_events.proofs.DecisionLemmas.{CanBeMade, can_be_made}
 use Rattle.sn_events.proofs.ServeLemmas.{lacks_nothing, some_lack}
 use Rattle.sn_events.proofs.ToldLemmas.{told_runs, told_serves, told_whole}
 
-module _ (h p : Held) (session : ℕ) (c : Call) (o : Outcome) (numbers : IsCall c) (whole : IsWorld version_1 h.world) (decided : decision version_1 h.world session c ≡ Ok o) (same : p ≡ h) where
+module _ (h p : Held) (session : ℕ) (c : Call) (o : Outcome) (numbers : IsCall c) (whole : IsWorld limits_written h.world) (decided : decision limits_written h.world session c ≡ Ok o) (same : p ≡ h) where
   -- a number is left
   pub numbered : HasNumber p.world.live o.change
   numbered = subst (λ (x : Held). HasNumber x.world.live o.change) (sym same) (has_number h.world session c o decided)
@@ -59,8 +59,8 @@ module _ (h p : Held) (session : ℕ) (c : Call) (o : Outcome) (numbers : IsCall
       pub spelled : IsSpelled change
       spelled = can.spelled
 
-      pub applies : (tree : Tree) × (apply version_1 change p.world.live ≡ Some tree)
-      applies = (can.tree, ap (λ (x : Held). apply version_1 change x.world.live) same ∙ can.applied)
+      pub applies : (tree : Tree) × (apply limits_written change p.world.live ≡ Some tree)
+      applies = (can.tree, ap (λ (x : Held). apply limits_written change x.world.live) same ∙ can.applied)
 
       module _ (enough lack : Bool) (fits : enough ≡ is_fitting h o) (lacks : TellsLack lack p change enough) where
         pub lacks_first : lack ≡ true → LacksFirst h session c
@@ -91,7 +91,7 @@ module _ (h p : Held) (session : ℕ) (c : Call) (o : Outcome) (numbers : IsCall
               pub serves : asks_for_point c ≡ false → Serves (Some o.told) h session c new false
               serves alone = made_serves h session c o k.chosen change numbers whole decided chosen is merges mid new here all turned_so alone
 
-              pub whole_then : IsWorld version_1 new.world
+              pub whole_then : IsWorld limits_written new.world
               whole_then = made_whole h session c o k.chosen change numbers whole decided chosen is merges mid new here all turned_so
 
               pub runs_then : RunsNow p → RunsNow new
@@ -114,7 +114,7 @@ module _ (h p : Held) (session : ℕ) (c : Call) (o : Outcome) (numbers : IsCall
         pub serves_told : Serves (Some o.told) h session c new false
         serves_told = told_serves h new session c o k.chosen numbers whole decided chosen (k.change ∙ none) alone turned_on
 
-        pub whole_on : IsWorld version_1 new.world
+        pub whole_on : IsWorld limits_written new.world
         whole_on = told_whole h new session c o k.chosen numbers whole decided chosen (k.change ∙ none) alone turned_on
 
         pub runs_on : RunsNow p → RunsNow new

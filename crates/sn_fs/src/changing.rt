@@ -4,7 +4,7 @@ ghost use Rattle.sn_block.specs.Lending.{device_of};
 ghost use Rattle.sn_desc.specs.InUse.{live_in};
 ghost use Rattle.sn_events.specs.Changing.{Changes, change_fault, stops};
 ghost use Rattle.sn_fs.specs.Filesystem.{IsFs, has_stopped, held, tree_of};
-ghost use Rattle.sn_limits.specs.Versions.{version_1};
+ghost use Rattle.sn_limits.specs.Versions.{limits_written};
 ghost use Rattle.sn_live_world.specs.World.{HasDrops, IsOver, descriptors_of, nameless_of, point_of, room_of};
 ghost use Rattle.sn_log.specs.Positions.{HasRoom as HasLogRoom};
 ghost use Rattle.sn_model.specs.Changes.{apply};
@@ -39,7 +39,7 @@ impl<D: Device> Fs<D> {
     ) -> Result<Option<u16>, ChangeFault>
         requires running { has_stopped self.old ≡ false }
         requires sound { IsFs self.old }
-        requires can { IsTrue D.tells_bytes → (tree : Tree) × (apply version_1 payload.now (held self.old).world.live ≡ Some tree) }
+        requires can { IsTrue D.tells_bytes → (tree : Tree) × (apply limits_written payload.now (held self.old).world.live ≡ Some tree) }
         requires room { HasLogRoom self.old.log payload.now }
         requires charge { self.old.room.charged + charge < 2 ^ 64 }
         ensures made { IsTrue D.tells_bytes → Changes result payload.now charge (held self.old) (held self.new) }

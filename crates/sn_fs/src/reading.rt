@@ -2,7 +2,7 @@
 ghost use Rattle.std.specs.Prelude.{◌≡◌, false, Ok, IsTrue, IfErr, IfOk, OnOk};
 ghost use Rattle.sn_events.specs.Serving.{IsUndecided};
 ghost use Rattle.sn_fs.specs.Filesystem.{IsFs, has_stopped, held};
-ghost use Rattle.sn_limits.specs.Versions.{version_1};
+ghost use Rattle.sn_limits.specs.Versions.{limits_written};
 ghost use Rattle.sn_model.specs.Steps.{decision};
 ghost use Rattle.sn_model.specs.Worlds.{IsCall};
 
@@ -22,7 +22,7 @@ impl<D: Device> Fs<D> {
         requires running { has_stopped self.old ≡ false }
         requires sound { IsFs self.old }
         ensures quiet { IsTrue D.tells_bytes → OnOk result (held self.new ≡ held self.old) }
-        ensures decided { IsTrue D.tells_bytes → IfOk result (λ o. decision version_1 (held self.old).world session call.now ≡ Ok o) }
+        ensures decided { IsTrue D.tells_bytes → IfOk result (λ o. decision limits_written (held self.old).world session call.now ≡ Ok o) }
         ensures undecided { IsTrue D.tells_bytes → IfErr result (λ e. IsUndecided e (held self.old) session call.now (held self.new)) }
         ensures numbers { IfOk result (λ o. IsCall call.now) }
         ensures rest { self.new ≡ record self.old { blocks = self.new.blocks } }

@@ -2,7 +2,7 @@
 ghost use Rattle.std.specs.Prelude.{◌≡◌, ◌+◌, ◌-◌, ◌≤◌, ◌^◌, ◌<◌, false, true, IsTrue, IfNone, OnErr, OnOk, is_some, if◌then◌else◌};
 ghost use Rattle.sn_core.specs.Called.{HasRoom as HasCallRoom};
 ghost use Rattle.sn_desc.specs.InUse.{live_in};
-ghost use Rattle.sn_limits.specs.Versions.{version_1};
+ghost use Rattle.sn_limits.specs.Versions.{limits_written};
 ghost use Rattle.sn_live_world.specs.Turned.{Turns as CanTurnOver};
 ghost use Rattle.sn_live_world.specs.World.{HasDrops, IsOver, descriptors_of, nameless_of, point_of, room_of};
 ghost use Rattle.sn_model.specs.Machine as machine;
@@ -70,17 +70,17 @@ impl<D: Device> Fs<D> {
     /// Whether a call fits that comes to this: on the root that counts, and on that of the point in progress.
     fn fits(&self, outcome: &Outcome<'_>) -> bool
         ensures exact { IsOver self.now.world (tree_of self.now) → result ≡ is_fitting (held self.now) outcome.now }
-        ensures within { IsTrue result → charged_behind version_1 self.now.room (nameless_of self.now.world) outcome.now < 2 ^ 32 }
+        ensures within { IsTrue result → charged_behind limits_written self.now.room (nameless_of self.now.world) outcome.now < 2 ^ 32 }
     {
         let nameless = self.world.nameless();
-        if !self.room.fits(&Limits::VERSION_1, nameless, outcome) {
+        if !self.room.fits(&Limits::WRITTEN, nameless, outcome) {
             return false;
         }
         match &self.going {
             Some(going) => {
                 let mut behind = self.room;
                 behind.end_point(going.free);
-                behind.fits(&Limits::VERSION_1, nameless, outcome)
+                behind.fits(&Limits::WRITTEN, nameless, outcome)
             }
             None => true,
         }

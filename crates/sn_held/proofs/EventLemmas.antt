@@ -8,7 +8,7 @@ use Rattle.sn_device.specs.declared.status.Status.{Status}
 use Rattle.sn_device.proofs.CrashLemmas.{LeavesOnly-weaker, LeavesOnly-now, Always-reads}
 use Rattle.sn_layout.specs.declared.root.RootBody.{RootBody}
 use Rattle.sn_limits.specs.declared.limits.Limits.{Limits}
-use Rattle.sn_limits.specs.Versions.{version_1}
+use Rattle.sn_limits.specs.Versions.{limits_written}
 use Rattle.sn_model.specs.declared.change.Change.{Change}
 use Rattle.sn_model.specs.declared.outcome.Caller.{Caller}
 use Rattle.sn_model.specs.declared.outcome.Caller.TheVariants.{Stays, LogsIn, SetsUmask, LogsOut, Opens as OpensFile, OpensNew, Closes, Moves}
@@ -57,7 +57,7 @@ pub disk_always : (n : ℕ) (d : Disk) → IsDisk n (reads d) → Always d (IsDi
 disk_always n d disk c crash = record { size = disk.size; whole = crash.whole; long = subst (λ (m : ℕ). 8 * n ≤ m) (sym crash.others.count) disk.long }
 
 -- a root with changes that cover the live tree stands for the settled world
-pub stands_of : (s : Store) (root : RootBody) (changes : List Change) (w : World) → root.limits ≡ version_1 → MakesCover version_1 changes (image s root.inode_file) w.live → w.frozen ≡ frozen_of s root.snapshots
+pub stands_of : (s : Store) (root : RootBody) (changes : List Change) (w : World) → root.limits ≡ limits_written → MakesCover limits_written changes (image s root.inode_file) w.live → w.frozen ≡ frozen_of s root.snapshots
     → StandsFor s root changes (settle w)
 stands_of s root changes w limits cover frozen =
     let settles : found w.live (frozen_of s root.snapshots) ≡ settle w = λ i. record { live = settled w.live; frozen = sym frozen i; sessions = replicate 64 None; descriptors = map.empty } in
@@ -68,7 +68,7 @@ stands_of s root changes w limits cover frozen =
 pub fits_now : (h : Held) (w : World) (r : Runs h w) → Fits r.root.limits (r.older ++ r.newer) (image r.store r.root.inode_file) (free_blocks h.at.blocks r.store r.root)
 fits_now h w r =
     subst (λ (l : Limits). Fits l (r.older ++ r.newer) (image r.store r.root.inode_file) (free_blocks h.at.blocks r.store r.root)) (sym r.limits)
-    (subst (Fits version_1 (r.older ++ r.newer) (image r.store r.root.inode_file)) r.charged.free r.charged.fits)
+    (subst (Fits limits_written (r.older ++ r.newer) (image r.store r.root.inode_file)) r.charged.free r.charged.fits)
 
 module _ (h : Held) (w : World) (r : Runs h w) where
   pub stands_for : StandsFor r.store r.root (r.older ++ r.newer) (settle w)
@@ -98,8 +98,8 @@ left_of_tree w session caller tree = record {
   frozen = caller_frozen (with_live w tree) session caller;
 }
 
-pub left_covers : (changes : List Change) (from tree live : Tree) (held : ℕ → Bool) → live ≡ without_nameless held tree → MakesCover version_1 changes from tree → MakesCover version_1 changes from live
-left_covers changes from tree live held e m = subst (MakesCover version_1 changes from) (sym e) (dropping_covers version_1 changes from tree held m)
+pub left_covers : (changes : List Change) (from tree live : Tree) (held : ℕ → Bool) → live ≡ without_nameless held tree → MakesCover limits_written changes from tree → MakesCover limits_written changes from live
+left_covers changes from tree live held e m = subst (MakesCover limits_written changes from) (sym e) (dropping_covers limits_written changes from tree held m)
 
 -- files without names that go change nothing of the disk
 unfoldable pub dropped_runs : (h : Held) (w next : World) (kept since : ℕ → Bool) (count : ℕ) (base : Kept) → Runs h w → IsOfTree w w.live next → nameless_in w.live ≤ nameless_in next.live + count → Runs (record h { world = next; kept = kept; kept_since = since; room = dropping count h.room; base = base }) next
@@ -132,27 +132,27 @@ behind_older older newer change none =
     subst (λ (ns : List Change). (older ++ ns) ++ change ∷ [] ≡ (older ++ change ∷ []) ++ ns) (sym none)
     (ap (λ (cs : List Change). cs ++ change ∷ []) (append-nil older) ∙ sym (append-nil (older ++ change ∷ [])))
 
-module _ (old new : Held) (w next : World) (change : Change) (tree : Tree) (r : Runs old w) (spelled : IsSpelled change) (applied : apply version_1 change w.live ≡ Some tree) (of : IsOfTree w tree next)
+module _ (old new : Held) (w next : World) (change : Change) (tree : Tree) (r : Runs old w) (spelled : IsSpelled change) (applied : apply limits_written change w.live ≡ Some tree) (of : IsOfTree w tree next)
     (hierarchy : IsHierarchy w.live) (has_room : HasRoomFor old.room w.live change) (aged : HasAgeLeft r.root) (touched : Touches (InHalf (base_at old.at)) old.disk new.disk) where
   abbrev pub n : ℕ
   n = old.at.blocks
 
-  more_covers : MakesCover version_1 ((r.older ++ r.newer) ++ change ∷ []) (image r.store r.root.inode_file) next.live
+  more_covers : MakesCover limits_written ((r.older ++ r.newer) ++ change ∷ []) (image r.store r.root.inode_file) next.live
   more_covers =
       left_covers ((r.older ++ r.newer) ++ change ∷ []) (image r.store r.root.inode_file) tree next.live of.held of.live
-      (one_more_covers version_1 (r.older ++ r.newer) change (image r.store r.root.inode_file) w.live tree r.cover applied)
+      (one_more_covers limits_written (r.older ++ r.newer) change (image r.store r.root.inode_file) w.live tree r.cover applied)
 
   more_frozen : next.frozen ≡ frozen_of r.store r.root.snapshots
   more_frozen = of.frozen ∙ r.frozen
 
   -- what is charged behind it
-  all_fit : Fits version_1 ((r.older ++ r.newer) ++ change ∷ []) (image r.store r.root.inode_file) old.room.free
+  all_fit : Fits limits_written ((r.older ++ r.newer) ++ change ∷ []) (image r.store r.root.inode_file) old.room.free
   all_fit = one_more_fits old.room n r.store r.root (r.older ++ r.newer) change w.live r.charged r.cover hierarchy has_room
 
-  more_charged : nameless_in w.live ≤ nameless_in next.live → (changes : List Change) → changes ≡ (r.older ++ r.newer) ++ change ∷ [] → IsCharged (logged (charge_for version_1 w.live change) old.room) n r.store r.root changes next.live
-  more_charged no_fewer changes is = subst (λ (cs : List Change). IsCharged (logged (charge_for version_1 w.live change) old.room) n r.store r.root cs next.live) (sym is) (record {
+  more_charged : nameless_in w.live ≤ nameless_in next.live → (changes : List Change) → changes ≡ (r.older ++ r.newer) ++ change ∷ [] → IsCharged (logged (charge_for limits_written w.live change) old.room) n r.store r.root changes next.live
+  more_charged no_fewer changes is = subst (λ (cs : List Change). IsCharged (logged (charge_for limits_written w.live change) old.room) n r.store r.root cs next.live) (sym is) (record {
     free = r.charged.free;
-    charged = sym (one_more_charged (r.older ++ r.newer) change (image r.store r.root.inode_file) w.live r.cover hierarchy ∙ ap (λ (k : ℕ). k + charge_for version_1 w.live change) (sym r.charged.charged));
+    charged = sym (one_more_charged (r.older ++ r.newer) change (image r.store r.root.inode_file) w.live r.cover hierarchy ∙ ap (λ (k : ℕ). k + charge_for limits_written w.live change) (sym r.charged.charged));
     parked = omega (arith, r.charged.parked, no_fewer);
     fits = all_fit;
   })
@@ -160,7 +160,7 @@ module _ (old new : Held) (w next : World) (change : Change) (tree : Tree) (r : 
   more_fits : (changes : List Change) → changes ≡ (r.older ++ r.newer) ++ change ∷ [] → Fits r.root.limits changes (image r.store r.root.inode_file) (free_blocks n r.store r.root)
   more_fits changes is =
       subst (λ (l : Limits). Fits l changes (image r.store r.root.inode_file) (free_blocks n r.store r.root)) (sym r.limits)
-      (subst (Fits version_1 changes (image r.store r.root.inode_file)) r.charged.free (subst (λ (cs : List Change). Fits version_1 cs (image r.store r.root.inode_file) old.room.free) (sym is) all_fit))
+      (subst (Fits limits_written changes (image r.store r.root.inode_file)) r.charged.free (subst (λ (cs : List Change). Fits limits_written cs (image r.store r.root.inode_file) old.room.free) (sym is) all_fit))
 
   -- what stays where the half of the one epoch is written, and where that of the other is
   older_rest : old.at.epoch ≡ r.root.epoch → LeavesOnly old.disk new.disk (Rests n r.store r.slot r.root r.words (r.root.epoch + 1) r.newer)
@@ -183,7 +183,7 @@ module _ (old new : Held) (w next : World) (change : Change) (tree : Tree) (r : 
       in_older (none, epoch, is_ready) =
           let rest = older_rest epoch in
           let either = leaves r.older is_ready in
-          let stands = stands_of r.store r.root ((r.older ++ change ∷ []) ++ r.newer) next r.limits (subst (λ (cs : List Change). MakesCover version_1 cs (image r.store r.root.inode_file) next.live) (behind_older r.older r.newer change none) more_covers) more_frozen in
+          let stands = stands_of r.store r.root ((r.older ++ change ∷ []) ++ r.newer) next r.limits (subst (λ (cs : List Change). MakesCover limits_written cs (image r.store r.root.inode_file) next.live) (behind_older r.older r.newer change none) more_covers) more_frozen in
           record {
             follows = either.follows;
             each = λ c since. ⊎_elim
@@ -197,7 +197,7 @@ module _ (old new : Held) (w next : World) (change : Change) (tree : Tree) (r : 
       in_newer (epoch, is_ready) =
           let rest = newer_rest epoch in
           let either = leaves r.newer is_ready in
-          let stands = stands_of r.store r.root (r.older ++ (r.newer ++ change ∷ [])) next r.limits (subst (λ (cs : List Change). MakesCover version_1 cs (image r.store r.root.inode_file) next.live) (append_assoc r.older r.newer (change ∷ [])) more_covers) more_frozen in
+          let stands = stands_of r.store r.root (r.older ++ (r.newer ++ change ∷ [])) next r.limits (subst (λ (cs : List Change). MakesCover limits_written cs (image r.store r.root.inode_file) next.live) (append_assoc r.older r.newer (change ∷ [])) more_covers) more_frozen in
           record {
             follows = either.follows;
             each = λ c since. ⊎_elim
@@ -208,7 +208,7 @@ module _ (old new : Held) (w next : World) (change : Change) (tree : Tree) (r : 
           }
 
   abbrev pub after : Held
-  after = record new { at = behind old.at change; room = logged (charge_for version_1 w.live change) old.room; world = next }
+  after = record new { at = behind old.at change; room = logged (charge_for limits_written w.live change) old.room; world = next }
 
   -- after the append, between two points, the new world runs
   after_runs : (r.newer ≡ []) → old.at.epoch ≡ r.root.epoch → Always old.disk (IsReadyAt old.at r.older) → LeavesMore old.at change old.disk new.disk → AreSectors (reads new.disk) → nameless_in w.live ≤ nameless_in next.live → Runs after next
@@ -235,7 +235,7 @@ module _ (old new : Held) (w next : World) (change : Change) (tree : Tree) (r : 
         };
         none_later = λ e c crash. older_none n r.store r.slot r.root r.words (r.older ++ change ∷ []) r.newer c (behind old.at change) (rests c crash) refl epoch (more c crash) e;
         log = inl (none, epoch, more);
-        cover = subst (λ (cs : List Change). MakesCover version_1 cs (image r.store r.root.inode_file) next.live) (behind_older r.older r.newer change none) more_covers;
+        cover = subst (λ (cs : List Change). MakesCover limits_written cs (image r.store r.root.inode_file) next.live) (behind_older r.older r.newer change none) more_covers;
         charged = more_charged no_fewer ((r.older ++ change ∷ []) ++ r.newer) (sym (behind_older r.older r.newer change none));
         age = λ recovers. aged;
         frozen = more_frozen;
@@ -298,7 +298,7 @@ ready_with h w k kept since base point status ready =
 
 -- files without names that go
 pub drops_ready : (h : Held) (w next : World) (kept since : ℕ → Bool) (count : ℕ) (base : Kept) → RunsReady h w h.base → IsOfTree w w.live next → nameless_in w.live ≤ nameless_in next.live + count
-    → CarriesOn h.base w.live h.room.charged base next.live h.room.charged → IsTree version_1 next.live → RunsReady (record h { world = next; kept = kept; kept_since = since; room = dropping count h.room; base = base }) next base
+    → CarriesOn h.base w.live h.room.charged base next.live h.room.charged → IsTree limits_written next.live → RunsReady (record h { world = next; kept = kept; kept_since = since; room = dropping count h.room; base = base }) next base
 unfolding dropped_runs
 drops_ready h w next kept since count base ready of counted carried tree =
     let is = ready.ready in
@@ -315,10 +315,10 @@ drops_ready h w next kept since count base ready of counted carried tree =
     }
 
 -- a change that is appended
-pub appends_ready : (old new : Held) (w next : World) (change : Change) (tree : Tree) → RunsReady old w old.base → IsSpelled change → apply version_1 change w.live ≡ Some tree → IsOfTree w tree next → IsHierarchy w.live → HasRoomFor old.room w.live change → HasAgeLeft old.base.root
+pub appends_ready : (old new : Held) (w next : World) (change : Change) (tree : Tree) → RunsReady old w old.base → IsSpelled change → apply limits_written change w.live ≡ Some tree → IsOfTree w tree next → IsHierarchy w.live → HasRoomFor old.room w.live change → HasAgeLeft old.base.root
     → Touches (InHalf (base_at old.at)) old.disk new.disk → LeavesMore old.at change old.disk new.disk
-    → AreSectors (reads new.disk) → IsSynced new.disk → new.at ≡ behind old.at change → new.room ≡ logged (charge_for version_1 w.live change) old.room → new.world ≡ next → nameless_in w.live ≤ nameless_in next.live
-    → CarriesOn old.base w.live old.room.charged new.base next.live (old.room.charged + charge_for version_1 w.live change) → IsTree version_1 next.live → RunsReady new next new.base
+    → AreSectors (reads new.disk) → IsSynced new.disk → new.at ≡ behind old.at change → new.room ≡ logged (charge_for limits_written w.live change) old.room → new.world ≡ next → nameless_in w.live ≤ nameless_in next.live
+    → CarriesOn old.base w.live old.room.charged new.base next.live (old.room.charged + charge_for limits_written w.live change) → IsTree limits_written next.live → RunsReady new next new.base
 unfolding after_runs
 appends_ready old new w next change tree ready spelled applied of hierarchy has_room aged touched leaves whole synced at charged is no_fewer carried hierarchic =
     let r = ready.runs in

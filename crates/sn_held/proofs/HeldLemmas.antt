@@ -138,7 +138,7 @@ module _ (n : ℕ) (s : Store) (slot : Slot) (root : RootBody) (words : List ℕ
 
 module _ (n : ℕ) (s : Store) (slot : Slot) (root : RootBody) (words : List ℕ) (older newer : List Change) (world : World)
     (older_spelled : AreSpelled older) (newer_spelled : AreSpelled newer) (sound : IsSoundRoot n s root (slice_index words)) (stands : StandsFor s root (older ++ newer) world)
-    (fits : Fits root.limits (older ++ newer) (image s root.inode_file) (free_blocks n s root)) (age : IsToRecover (older ++ newer) (image s root.inode_file) → HasAgeLeft root) where
+    (fits : Fits root.limits (older ++ newer) (image s root.inode_file) (free_blocks n s root)) (age : IsToRecover root (older ++ newer) (image s root.inode_file) → HasAgeLeft root) where
   pub image_shown : (c : Contents) → IsDisk n c → block_at c 0 ≡ superblock_bytes (record { geometry = n }) → HasMap n c slot words → ((epoch : ℕ) → HasNoLater c (base_of n epoch) (root.epoch + 1)) → Shows n s slot root older newer c → IsImage c world
   image_shown c disk spelled map none shows = record {
     blocks = n;
@@ -159,7 +159,7 @@ module _ (n : ℕ) (s : Store) (slot : Slot) (root : RootBody) (words : List ℕ
     sound = root_same n s (store_of c) root shows.same (slice_index words) (slice_index words) (λ block. refl) sound;
     none_later = none;
     fits = fits_same n s (store_of c) root words (older ++ newer) shows.same sound fits;
-    age = λ recovers. age (subst (IsToRecover (older ++ newer)) (image_same s (store_of c) root shows.same) recovers);
+    age = λ recovers. age (subst (IsToRecover root (older ++ newer)) (image_same s (store_of c) root shows.same) recovers);
   }
 
   -- the records of the root's epoch are written, or those of the next one

@@ -16,7 +16,7 @@ use Rattle.std.proofs.lemmas.List.Sums.{sum_by-cons}
 use Rattle.sn_layout.specs.declared.root.RootBody.{RootBody}
 use Rattle.sn_layout.specs.declared.snapshot.Snapshot.{Snapshot}
 use Rattle.sn_limits.specs.declared.limits.Limits.{Limits}
-use Rattle.sn_limits.specs.Versions.{version_1}
+use Rattle.sn_limits.specs.Versions.{limits_written}
 use Rattle.sn_model.specs.declared.change.Change.{Change}
 use Rattle.sn_model.specs.Chains.{◌>>=◌}
 use Rattle.sn_model.specs.Changes.{apply, apply_all}
@@ -72,15 +72,15 @@ one_charge limits tree change = told (apply limits change tree)
     told (Some after) = omega arith
 
 -- a change that is made behind others to what they cover
-pub one_more_charged : (changes : List Change) (change : Change) (from live : Tree) → MakesCover version_1 changes from live → IsHierarchy live
-    → charges_from version_1 (changes ++ change ∷ []) from ≡ charges_from version_1 changes from + charge_for version_1 live change
+pub one_more_charged : (changes : List Change) (change : Change) (from live : Tree) → MakesCover limits_written changes from live → IsHierarchy live
+    → charges_from limits_written (changes ++ change ∷ []) from ≡ charges_from limits_written changes from + charge_for limits_written live change
 one_more_charged changes change from live m hierarchy =
-    charges_join version_1 changes (change ∷ []) from m.tree m.applied
-    ∙ ap (λ (k : ℕ). charges_from version_1 changes from + k) (one_charge version_1 m.tree change ∙ charged_alike version_1 m.tree live change hierarchy m.covers)
+    charges_join limits_written changes (change ∷ []) from m.tree m.applied
+    ∙ ap (λ (k : ℕ). charges_from limits_written changes from + k) (one_charge limits_written m.tree change ∙ charged_alike limits_written m.tree live change hierarchy m.covers)
 
 -- and what is charged then fits
-pub one_more_fits : (room : RoomCounts) (n : ℕ) (s : Store) (root : RootBody) (changes : List Change) (change : Change) (live : Tree) → IsCharged room n s root changes live → MakesCover version_1 changes (image s root.inode_file) live
-    → IsHierarchy live → HasRoomFor room live change → Fits version_1 (changes ++ change ∷ []) (image s root.inode_file) room.free
+pub one_more_fits : (room : RoomCounts) (n : ℕ) (s : Store) (root : RootBody) (changes : List Change) (change : Change) (live : Tree) → IsCharged room n s root changes live → MakesCover limits_written changes (image s root.inode_file) live
+    → IsHierarchy live → HasRoomFor room live change → Fits limits_written (changes ++ change ∷ []) (image s root.inode_file) room.free
 one_more_fits room n s root changes change live is m hierarchy has =
     omega (arith, one_more_charged changes change (image s root.inode_file) live m hierarchy, is.charged, is.parked, has)
 

@@ -6,7 +6,7 @@ use Rattle.sn_device.specs.declared.status.Status.{Status}
 use Rattle.sn_layout.specs.declared.geometry.Slot.{Slot}
 use Rattle.sn_layout.specs.declared.root.RootBody.{RootBody}
 use Rattle.sn_layout.specs.Superblock.{superblock_bytes}
-use Rattle.sn_limits.specs.Versions.{version_1}
+use Rattle.sn_limits.specs.Versions.{limits_written}
 use Rattle.sn_model.specs.declared.change.Change.{Change}
 use Rattle.sn_model.specs.NameTree.{IsTree}
 use Rattle.sn_model.specs.Tree.{Tree}
@@ -69,14 +69,14 @@ pub record Runs (h : Held) (world : World) : Type 0 where
   pub newer : List Change
   pub older_spelled : AreSpelled older
   pub newer_spelled : AreSpelled newer
-  pub limits : root.limits ≡ version_1
+  pub limits : root.limits ≡ limits_written
   pub formatted : Always h.disk (λ c. block_at c 0 ≡ superblock_bytes (record { geometry = h.at.blocks }))
   pub stands : RootStands h.at.blocks h.disk store slot root words older newer
   pub none_later : (epoch : ℕ) → Always h.disk (λ c. HasNoLater c (base_of h.at.blocks epoch) (root.epoch + 1))
   pub log : GoesOn h.at root older newer h.disk
-  pub cover : MakesCover version_1 (older ++ newer) (image store root.inode_file) world.live
+  pub cover : MakesCover limits_written (older ++ newer) (image store root.inode_file) world.live
   pub charged : IsCharged h.room h.at.blocks store root (older ++ newer) world.live
-  pub age : IsToRecover (older ++ newer) (image store root.inode_file) → HasAgeLeft root
+  pub age : IsToRecover root (older ++ newer) (image store root.inode_file) → HasAgeLeft root
   pub frozen : world.frozen ≡ frozen_of store root.snapshots
 
 -- No point is in progress, so that the log goes on under the root's own epoch, and nothing is unsynced.
@@ -92,8 +92,8 @@ pub record IsReady (h : Held) (world : World) (r : Runs h world) (k : Kept) : Ty
   pub slot : k.slot ≡ r.slot
   pub root : k.root ≡ r.root
   pub words : k.words ≡ r.words
-  pub changed : HasChanged version_1 k.changed (image r.store r.root.inode_file) world.live h.room.charged
-  pub tree : IsTree version_1 world.live
+  pub changed : HasChanged limits_written k.changed (image r.store r.root.inode_file) world.live h.room.charged
+  pub tree : IsTree limits_written world.live
 
 -- A mount runs over this world, and is ready for a point.
 pub record RunsReady (h : Held) (world : World) (k : Kept) : Type 0 where
@@ -105,4 +105,4 @@ pub record CarriesOn (old : Kept) (before : Tree) (charged : ℕ) (new : Kept) (
   pub slot : new.slot ≡ old.slot
   pub root : new.root ≡ old.root
   pub words : new.words ≡ old.words
-  pub changed : (root : Tree) → HasChanged version_1 old.changed root before charged → HasChanged version_1 new.changed root after charges
+  pub changed : (root : Tree) → HasChanged limits_written old.changed root before charged → HasChanged limits_written new.changed root after charges

@@ -27,7 +27,7 @@ pub record IsImage (c : Contents) (world : World) : Type 0 where
   pub none_later : (epoch : ℕ) → HasNoLater c (base_of blocks epoch) (opens.root.epoch + 1)
   pub fits : Fits opens.root.limits (opens.older ++ opens.newer) (image (store_of c) opens.root.inode_file) (free_blocks blocks (store_of c) opens.root)
   -- a mount of it can make a point, where it has to
-  pub age : IsToRecover (opens.older ++ opens.newer) (image (store_of c) opens.root.inode_file) → HasAgeLeft opens.root
+  pub age : IsToRecover opens.root (opens.older ++ opens.newer) (image (store_of c) opens.root.inode_file) → HasAgeLeft opens.root
 
 -- The log of an image ends at this position, behind the records of its root's epoch while the next one has none, else behind those of that.
 abbrev pub EndsAt : (c : Contents) (world : World) → IsImage c world → LogPosition → Type 0

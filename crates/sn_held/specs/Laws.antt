@@ -3,7 +3,7 @@ use Rattle.std.specs.Prelude.{◌≡◌, ◌⊎◌, ℕ, ◌+◌, ◌≤◌, Boo
 use Rattle.sn_device.specs.Sectors.{Contents, AreSectors}
 use Rattle.sn_device.specs.Disk.{Always, IsSynced, reads}
 use Rattle.sn_device.specs.Crash.{LeavesOnly, Touches}
-use Rattle.sn_limits.specs.Versions.{version_1}
+use Rattle.sn_limits.specs.Versions.{limits_written}
 use Rattle.sn_model.specs.declared.change.Change.{Change}
 use Rattle.sn_model.specs.Changes.{apply}
 use Rattle.sn_model.specs.Charges.{charge_for}
@@ -33,20 +33,20 @@ RunsShow = (h : Held) (world : World) → Runs h world → Always h.disk (λ c. 
 -- Files without names that go, so many that were dropped, and what becomes of sessions, change nothing of the disk, so that the mount stays ready for a point.
 abbrev pub DropsRun : Type 0
 DropsRun = (h : Held) (world next : World) (kept since : ℕ → Bool) (count : ℕ) (base : Kept) → RunsReady h world h.base → IsOfTree world world.live next → nameless_in world.live ≤ nameless_in next.live + count
-    → CarriesOn h.base world.live h.room.charged base next.live h.room.charged → IsTree version_1 next.live → RunsReady (record h { world = next; kept = kept; kept_since = since; room = dropping count h.room; base = base }) next base
+    → CarriesOn h.base world.live h.room.charged base next.live h.room.charged → IsTree limits_written next.live → RunsReady (record h { world = next; kept = kept; kept_since = since; room = dropping count h.room; base = base }) next base
 
 -- A change of the live tree that has room is appended, where another root can follow on the one that counts: a crash in its course leaves an image of the settled world from before it, or of the one after it.
 abbrev pub AppendsLeaveEither : Type 0
-AppendsLeaveEither = (old new : Held) (world next : World) (change : Change) (tree : Tree) (r : Runs old world) → IsSpelled change → apply version_1 change world.live ≡ Some tree → IsOfTree world tree next → IsHierarchy world.live → HasRoomFor old.room world.live change → HasAgeLeft r.root
+AppendsLeaveEither = (old new : Held) (world next : World) (change : Change) (tree : Tree) (r : Runs old world) → IsSpelled change → apply limits_written change world.live ≡ Some tree → IsOfTree world tree next → IsHierarchy world.live → HasRoomFor old.room world.live change → HasAgeLeft r.root
     → Touches (InHalf (base_at old.at)) old.disk new.disk → LeavesEither old.at change old.disk new.disk
     → LeavesOnly old.disk new.disk (λ c. IsImage c (settle world) ⊎ IsImage c (settle next))
 
 -- Once its record stands, and it is charged, the mount runs over the world after it, which has no fewer files without names, and is ready for a point of it.
 abbrev pub AppendsRun : Type 0
-AppendsRun = (old new : Held) (world next : World) (change : Change) (tree : Tree) → RunsReady old world old.base → IsSpelled change → apply version_1 change world.live ≡ Some tree → IsOfTree world tree next → IsHierarchy world.live → HasRoomFor old.room world.live change → HasAgeLeft old.base.root
+AppendsRun = (old new : Held) (world next : World) (change : Change) (tree : Tree) → RunsReady old world old.base → IsSpelled change → apply limits_written change world.live ≡ Some tree → IsOfTree world tree next → IsHierarchy world.live → HasRoomFor old.room world.live change → HasAgeLeft old.base.root
     → Touches (InHalf (base_at old.at)) old.disk new.disk → LeavesMore old.at change old.disk new.disk
-    → AreSectors (reads new.disk) → IsSynced new.disk → new.at ≡ behind old.at change → new.room ≡ logged (charge_for version_1 world.live change) old.room → new.world ≡ next → nameless_in world.live ≤ nameless_in next.live
-    → CarriesOn old.base world.live old.room.charged new.base next.live (old.room.charged + charge_for version_1 world.live change) → IsTree version_1 next.live → RunsReady new next new.base
+    → AreSectors (reads new.disk) → IsSynced new.disk → new.at ≡ behind old.at change → new.room ≡ logged (charge_for limits_written world.live change) old.room → new.world ≡ next → nameless_in world.live ≤ nameless_in next.live
+    → CarriesOn old.base world.live old.room.charged new.base next.live (old.room.charged + charge_for limits_written world.live change) → IsTree limits_written next.live → RunsReady new next new.base
 
 -- Files that are taken away leave no more files without names.
 abbrev pub DropsLeaveFewer : Type 0

@@ -2,7 +2,7 @@
 use Rattle.std.specs.Prelude.{◌≡◌, ℕ, ◌+◌, ◌*◌, ◌≤◌, List, ◌++◌}
 use Rattle.sn_device.specs.Sectors.{Contents}
 use Rattle.sn_layout.specs.declared.root.RootBody.{RootBody}
-use Rattle.sn_limits.specs.Versions.{version_1}
+use Rattle.sn_limits.specs.Versions.{limits_written}
 use Rattle.sn_model.specs.declared.change.Change.{Change}
 use Rattle.sn_model.specs.Charges.{charge_for}
 use Rattle.sn_model.specs.Tree.{Tree}
@@ -18,13 +18,13 @@ use Rattle.sn_held.specs.Images.{IsImage}
 -- The room that is kept is that of a root with these changes logged on top of it, which make this live tree: they are charged, no more than the root leaves free, and each file that the root's tree has without a name is live without one still, or was dropped.
 pub record IsCharged (room : RoomCounts) (n : ℕ) (s : Store) (root : RootBody) (changes : List Change) (live : Tree) : Type 0 where
   pub free : room.free ≡ free_blocks n s root
-  pub charged : room.charged ≡ charges_from version_1 changes (image s root.inode_file)
+  pub charged : room.charged ≡ charges_from limits_written changes (image s root.inode_file)
   pub parked : nameless_in (image s root.inode_file) ≤ parked room (nameless_in live)
-  pub fits : Fits version_1 changes (image s root.inode_file) room.free
+  pub fits : Fits limits_written changes (image s root.inode_file) room.free
 
 -- Behind a change of this tree all that is charged, with a charge for each parked file, is still no more than is free.
 abbrev pub HasRoomFor : RoomCounts → Tree → Change → Type 0
-HasRoomFor room tree change = room.charged + charge_for version_1 tree change + version_1.inode_charge * parked room (nameless_in tree) ≤ room.free
+HasRoomFor room tree change = room.charged + charge_for limits_written tree change + limits_written.inode_charge * parked room (nameless_in tree) ≤ room.free
 
 -- What a mount keeps of an image: its records are charged, and the files that its root's tree has without names are dropped.
 abbrev pub room_of_image : (c : Contents) (world : World) → IsImage c world → RoomCounts

@@ -9,3 +9,4 @@ pub mod SoundNameLemmas
 pub mod ByteLemmas
 pub mod NameCountLemmas
 pub mod WellFormedLemmas
+pub mod AllowedLemmas

@@ -12,6 +12,7 @@ use Rattle.sn_limits.specs.declared.kind.Kind.{Kind}
 use Rattle.sn_limits.specs.declared.kind.Kind.TheVariants.{File, Directory}
 use Rattle.sn_limits.specs.declared.limits.Limits.{Limits}
 use Rattle.sn_limits.specs.Versions.{limits_of}
+use Rattle.sn_limits.proofs.VersionLemmas.{fixed}
 use Rattle.sn_layout.specs.Geometry.{IsIn}
 use Rattle.sn_layout.specs.declared.geometry.Area.TheVariants.{Data}
 use Rattle.sn_layout.specs.declared.tree.BlockTree.{BlockTree}
@@ -36,7 +37,7 @@ use Rattle.sn_image.proofs.DecodeLemmas.{directory_read}
 use Rattle.sn_image.proofs.ListLemmas.{none_in, range-from, count-flat_map}
 use Rattle.sn_image.proofs.PieceLemmas.{sum_one, sum_two, sum_at, count-map, count-none, weight_of, once, found_once, all_flat_map, all_has}
 use Rattle.sn_image.proofs.PointLemmas.{used_in, mapped_from, named_inode, number_among, node_found, name_found}
-use Rattle.sn_image.proofs.SoundNodeLemmas.{only_version, valid_inode, node_fits}
+use Rattle.sn_image.proofs.SoundNodeLemmas.{valid_inode, node_fits}
 
 -- ---- of any root
 
@@ -240,7 +241,7 @@ module _ (limits : Limits) (n : ℕ) (s : Store) (inodes : BlockTree) (version :
   few_names number has =
       let w = from_kind s inodes number File has in
       let valid = valid_inode limits s inodes sound.records.spelled number w.0 w.1 in
-      let most : 32767 ≡ limits.links = ap (λ (l : Limits). l.links) (only_version limits version) in
+      let most = (fixed limits.version limits version).links in
       let apart : number ≢ 2 = (λ same. not_root number w.0 w.1 w.2 same) in
       omega (arith, few_for s inodes number, sound.linked.counted number w.0 apart w.1, file_links w.0.kind w.0.links w.2 valid.links, most)
     where

@@ -11,7 +11,8 @@ use Rattle.std.proofs.lemmas.List.Elements.{Contains-append_right}
 use Rattle.sn_limits.specs.declared.kind.Kind.{Kind}
 use Rattle.sn_limits.specs.declared.kind.Kind.TheVariants.{File, Directory}
 use Rattle.sn_limits.specs.declared.limits.Limits.{Limits}
-use Rattle.sn_limits.specs.Versions.{limits_of, version_1}
+use Rattle.sn_limits.specs.Versions.{limits_of}
+use Rattle.sn_limits.proofs.VersionLemmas.{fixed}
 use Rattle.sn_layout.specs.Bytes.{zeros}
 use Rattle.sn_layout.specs.Geometry.{IsIn}
 use Rattle.sn_layout.specs.Pointers.{levels_of}
@@ -45,13 +46,6 @@ same_some x y e = cc
 both : (a b : Bool) → (a && b) ≡ true → (a ≡ true) × (b ≡ true)
 both true b e = (refl, e)
 both false b e = absurd cc
-
-pub only_version : (limits : Limits) → limits_of limits.version ≡ Some limits → version_1 ≡ limits
-only_version limits e = told (limits.version == 1) e
-  where
-    told : (b : Bool) → (if b then Some version_1 else None) ≡ Some limits → version_1 ≡ limits
-    told true is = same_some version_1 limits is
-    told false is = absurd cc
 
 -- ---- bytes
 
@@ -188,7 +182,7 @@ module _ (limits : Limits) (n : ℕ) (s : Store) (inodes : BlockTree) (version :
     size_fits : (kind : Kind) (content : Content) → IsContent limits kind content → length (file_bytes s kind content) ≤ limits.largest_file
     unfolding tree_bytes
     size_fits Directory content fits = omega arith
-    size_fits File (Inline bytes) fits = let large : 67108864 ≡ limits.largest_file = ap (λ (l : Limits). l.largest_file) (only_version limits version) in omega (arith, fits, large)
+    size_fits File (Inline bytes) fits = let large = (fixed limits.version limits version).least in omega (arith, fits, large)
     size_fits File (Tree tree) fits =
         let all = flat_map (named_by s) (pointers_at s (levels_of tree.size) tree.pointers) in
         omega (arith, length-take tree.size all, min-le_left tree.size (length all), leb-true tree.size limits.largest_file (both (nat_lt 64 tree.size) (nat_le tree.size limits.largest_file) fits.1).1)

@@ -3,11 +3,13 @@ use Rattle.std.specs.Prelude.{◌≡◌, ◌⊎◌, ℕ, ◌+◌, ◌*◌, ◌<�
 use Rattle.std.specs.FinMap as fin
 use Rattle.sn_device.specs.Sectors.{Contents, AreSectors, AgreesOn}
 use Rattle.sn_limits.specs.declared.limits.Limits.{Limits}
-use Rattle.sn_limits.specs.Versions.{limits_of}
+use Rattle.sn_limits.specs.Versions.{Allows, limits_of}
 use Rattle.sn_layout.specs.declared.geometry.Area.TheVariants.{Data}
+use Rattle.sn_layout.specs.declared.snapshot.Snapshot.{Snapshot}
 use Rattle.sn_layout.specs.declared.tree.BlockTree.{BlockTree}
 use Rattle.sn_layout.specs.Bytes.{zeros}
 use Rattle.sn_layout.specs.Geometry.{IsIn}
+use Rattle.sn_layout.specs.Snapshot.{AreSnapshots}
 use Rattle.sn_layout_acl.specs.AclBlock.{IsAclBlock, acl_block_bytes}
 use Rattle.sn_layout_acl.specs.declared.acl_block.AclBlock.{AclBlock}
 use Rattle.sn_layout_node.specs.Directory.{Link, Spells, number_of}
@@ -113,6 +115,13 @@ abbrev pub SoundRootsAreTrees : Type 0
 SoundRootsAreTrees = (limits : Limits) (n : ℕ) (s : Store) (inodes : BlockTree) → limits_of limits.version ≡ Some limits
     → ((block : ℕ) → IsIn n Data block → IsBlock (s block))
     → IsSound limits n s inodes → IsTree limits (image s inodes)
+
+-- A sound root stays sound under limits that allow more, and a list of snapshots that a root body may have stays one.
+abbrev pub SoundStays : Type 0
+SoundStays = (less more : Limits) (n : ℕ) (s : Store) (inodes : BlockTree) → Allows less more → IsSound less n s inodes → IsSound more n s inodes
+
+abbrev pub SnapshotsStay : Type 0
+SnapshotsStay = (less more : Limits) (snapshots : List Snapshot) → Allows less more → AreSnapshots less snapshots → AreSnapshots more snapshots
 
 -- Where no name stands twice in a directory, one has as many names in the tree as stand in it.
 abbrev pub NamesInAreCounted : Type 0

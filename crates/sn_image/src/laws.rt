@@ -1,5 +1,5 @@
 //! The laws that the definitions of `specs/` keep.
-ghost use Rattle.sn_image.specs.Laws.{NodesAreTheirInodes, NamesAreInTheirDirectory, InodesDependOnTheirReach, RootsDependOnTheirReach, RootsDependOnTheirSectors, ReachIsASum, ReachHasEachPart, ReachIsOfAPart, RecordsAreRead, UnusedIsRead, AclBlocksAreRead, DirectoryBlocksAreRead, BytesAreInTheirBlocks, TreesHaveTheirSize, DataBlocksAreWhole, SoundRootsAreTrees, NamesInAreCounted, NamesForAreCounted, LinksAreCounted, SoundRootsAreWellFormed, NameTreesAreSound};
+ghost use Rattle.sn_image.specs.Laws.{NodesAreTheirInodes, NamesAreInTheirDirectory, InodesDependOnTheirReach, RootsDependOnTheirReach, RootsDependOnTheirSectors, ReachIsASum, ReachHasEachPart, ReachIsOfAPart, RecordsAreRead, UnusedIsRead, AclBlocksAreRead, DirectoryBlocksAreRead, BytesAreInTheirBlocks, TreesHaveTheirSize, DataBlocksAreWhole, SoundRootsAreTrees, NamesInAreCounted, NamesForAreCounted, LinksAreCounted, SoundRootsAreWellFormed, NameTreesAreSound, SoundStays, SnapshotsStay};
 
 /// The tree that a root denotes, point by point. Above this crate it is known by these alone.
 pub fn image_laws()
@@ -49,4 +49,10 @@ pub fn sound_laws()
     ensures trees { SoundRootsAreTrees }
     ensures well_formed { SoundRootsAreWellFormed }
     ensures sound { NameTreesAreSound }
+{}
+
+/// What some limits allow a root, limits that allow no less allow it too.
+pub fn limits_laws()
+    ensures sound { SoundStays }
+    ensures snapshots { SnapshotsStay }
 {}

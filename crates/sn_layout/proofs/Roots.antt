@@ -9,7 +9,7 @@ use Rattle.sn_layout.specs.declared.root.RootBody.{RootBody}
 use Rattle.sn_layout.specs.BlockTree.{tree_bytes}
 use Rattle.sn_bytes.specs.Bytes.{zeros}
 use Rattle.sn_bytes.specs.Records.{numbers_then, AreOfWidths}
-use Rattle.sn_limits.specs.Versions.{limits_of, version_1}
+use Rattle.sn_limits.proofs.VersionLemmas.{fixed}
 use Rattle.sn_layout.specs.Snapshot.{snapshots_bytes, are_rising, are_within, are_distinct}
 use Rattle.sn_layout.specs.RootBody.{IsHead, IsRootBody, head_of, head_bytes, head_widths, head_numbers, listed, root_body_bytes}
 use Rattle.sn_bytes.proofs.Records.{same_records, zero_number}
@@ -30,25 +30,13 @@ head_spelled h n old left rest fits read head e = same_records head_widths (list
 
 -- ---- the limits of a version
 
-chosen : {A : Type 0} (b : Bool) (x y : A) → cond b (Some x) None ≡ Some y → (b ≡ true) × (x ≡ y)
-chosen true x y e = (refl, cc)
-chosen false x y e = absurd cc
-
--- the limits of a version are those of their own version
-pub known : (version : ℕ) (limits : Limits) → limits_of version ≡ Some limits → (limits.version ≡ version) × (limits ≡ version_1)
-known version limits e =
-    let c = chosen (eqb version 1) version_1 limits e in
-    let one = eqb-true version 1 c.0 in
-    (ap (λ (l : Limits). l.version) (sym c.1) ∙ sym one, sym c.1)
-
 both : (a b : Bool) → (a && b) ≡ true → (a ≡ true) × (b ≡ true)
 both true b e = (refl, e)
 both false b e = absurd cc
 
-pub few : (body : RootBody) → IsRootBody body → length body.snapshots ≤ 20
+pub few : (body : RootBody) → IsRootBody body → length body.snapshots ≤ 31
 few body fits =
-    let version = known body.limits.version body.limits fits.version in
-    let most : body.limits.snapshots ≡ 20 = ap (λ (l : Limits). l.snapshots) version.1 in
+    let most = (fixed body.limits.version body.limits fits.version).snapshots in
     let list = body.snapshots in
     let most-is = body.limits.snapshots in
     let third = both (nat_le (length list) most-is && are_rising 0 list && are_within body.limits.largest_bit list) (are_distinct list) fits.snapshots.held in
@@ -59,8 +47,7 @@ few body fits =
 
 pub head_fits : (body : RootBody) → IsRootBody body → IsHead (head_of body)
 head_fits body fits =
-    let version = known body.limits.version body.limits fits.version in
-    let one : body.limits.version ≡ 1 = ap (λ (l : Limits). l.version) version.1 in
+    let version = (fixed body.limits.version body.limits fits.version).version in
     let count = few body fits in
     record {
       version = omega arith;

@@ -1,5 +1,5 @@
 -- The numbers of each version of the format.
-use Rattle.std.specs.Prelude.{ℕ, Option, Some, None, ◌==◌, if◌then◌else◌}
+use Rattle.std.specs.Prelude.{ℕ, ◌≤◌, Option, Some, None, ◌==◌, if◌then◌else◌}
 use Rattle.sn_limits.specs.declared.limits.Limits.{Limits}
 
 -- 65,534 nodes; 65,535 names in a directory; 32,767 names and 64 MiB a file; 20 snapshots
@@ -21,3 +21,16 @@ version_1 = record {
 -- the limits of each version that is read
 abbrev pub limits_of : ℕ → Option Limits
 limits_of version = if version == 1 then Some version_1 else None
+
+-- those that calls run under, and with which each new root is written
+abbrev pub limits_written : Limits
+limits_written = version_1
+
+-- What a tree or a list of snapshots may have under the first limits, it may have under the second. Charges don't matter.
+pub record Allows (less more : Limits) : Type 0 where
+  pub numbers : less.largest_number ≤ more.largest_number
+  pub names : less.names ≤ more.names
+  pub links : less.links ≤ more.links
+  pub files : less.largest_file ≤ more.largest_file
+  pub snapshots : less.snapshots ≤ more.snapshots
+  pub bits : less.largest_bit ≤ more.largest_bit

@@ -43,6 +43,9 @@ impl Limits {
         reserve: 64,
     };
 
+    /// The limits that calls run under, and with which each new root is written.
+    pub const WRITTEN: Limits = Limits::VERSION_1;
+
     /// The limits of a version that is read. Today that is version 1 alone.
     pub fn of_version(version: u32) -> Option<Limits>
         ensures { result ≡ limits_of version }

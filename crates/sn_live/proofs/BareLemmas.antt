@@ -5,7 +5,7 @@ use Rattle.std.specs.Cmp.{nat_cmp_total}
 use Rattle.std.specs.FinMap as map
 use Rattle.std.proofs.lemmas.Bool.{eq-eqb, eqb-true, false_from_ne_true, true≢false}
 use Rattle.std.proofs.lemmas.Map.Lookups.{exact_unsigned}
-use Rattle.sn_limits.specs.Versions.{version_1}
+use Rattle.sn_limits.specs.Versions.{limits_written}
 use Rattle.sn_limits.specs.declared.kind.Kind.{Kind}
 use Rattle.sn_limits.specs.declared.kind.Kind.TheVariants.{File, Directory}
 use Rattle.sn_model.specs.declared.change.Change.{Change}
@@ -125,13 +125,13 @@ bare_replaced tree cleared new moved (Some number) has e n =
     let p = replaced_is tree new moved number cleared e in
     bare_lost tree cleared new number p.node has p.there (unlinked_is tree new number p.node cleared p.gone) n
 
-bare_renamed : (tree after : Tree) (old new : Link) → (p : Renamed version_1 tree old new after) → IsRenamed version_1 tree old new p.number p.node after
+bare_renamed : (tree after : Tree) (old new : Link) → (p : Renamed limits_written tree old new after) → IsRenamed limits_written tree old new p.number p.node after
     → (n : ℕ) → bare_at after n ≡ listed_after (exchanging tree (Some p.number) (map.get tree.links new)) (bare_at tree) n
 bare_renamed tree after old new p (inl q) n =
     ap (λ (t : Tree). bare_at t n) (sym q.1) ∙ sym (ap (λ (b : Bool). listed_after (cond b Stay (losing tree (map.get tree.links new))) (bare_at tree) n) q.0)
 bare_renamed tree after old new p (inr q) n =
     let m = q.1 in
-    bare_alike m.cleared after (ap (λ (t : Tree). t.nodes) (sym m.gives)) (exchanged_names version_1 tree after old new p.number p.node p.named q.0 m) n
+    bare_alike m.cleared after (ap (λ (t : Tree). t.nodes) (sym m.gives)) (exchanged_names limits_written tree after old new p.number p.node p.named q.0 m) n
     ∙ bare_replaced tree m.cleared new p.node (map.get tree.links new) refl m.cleared_is n
     ∙ sym (ap (λ (b : Bool). listed_after (cond b Stay (losing tree (map.get tree.links new))) (bare_at tree) n) q.0)
 
@@ -141,17 +141,17 @@ link_listed : (tree after : Tree) (number : ℕ) → AreAlikeBut tree after numb
 link_listed tree after number h is true was n = cleared_bare tree after number h is n
 link_listed tree after number h is false was n = stays_bare tree after number h (is ∙ sym was) n
 
-pub listed_on : (change : Change) (tree after : Tree) → apply version_1 change tree ≡ Some after → (n : ℕ) → bare_at after n ≡ listed_after (node_moves_of tree change) (bare_at tree) n
+pub listed_on : (change : Change) (tree after : Tree) → apply limits_written change tree ≡ Some after → (n : ℕ) → bare_at after n ≡ listed_after (node_moves_of tree change) (bare_at tree) n
 listed_on (Make directory name number kind o) tree after e n =
     let link = link_to directory name in
-    let p = made_is version_1 tree link number kind o after e in
+    let p = made_is limits_written tree link number kind o after e in
     let node = node_with kind o [] in
     let made = put_link (put_node tree number node) link number in
     let named : map.get made.links link ≡ Some number = get_inserted links_total tree.links link number in
     ap (λ (t : Tree). bare_at t n) (sym p.gives) ∙ cleared_bare tree made number (made_alike tree link number node (vacant_absent tree link p.vacant)) (named_not made link number named) n
 listed_on (AddLink directory name number) tree after e n =
     let link = link_to directory name in
-    let p = linked_is version_1 tree link number after e in
+    let p = linked_is limits_written tree link number after e in
     let made = put_link tree link number in
     let named : map.get made.links link ≡ Some number = get_inserted links_total tree.links link number in
     ap (λ (t : Tree). bare_at t n) (sym p.gives) ∙ link_listed tree made number (linked_alike tree link number (vacant_absent tree link p.vacant)) (named_not made link number named) (bare_at tree number) refl n
@@ -163,13 +163,13 @@ listed_on (Remove directory name) tree after e n =
 listed_on (Rename old_directory old_name new_directory new_name) tree after e n =
     let old = link_to old_directory old_name in
     let new = link_to new_directory new_name in
-    let p = renamed_is version_1 tree old new after e in
+    let p = renamed_is limits_written tree old new after e in
     bare_renamed tree after old new p p.done n ∙ sym (ap (λ (o : Option ℕ). listed_after (exchanging tree o (map.get tree.links new)) (bare_at tree) n) p.named)
 listed_on (Write number offset bytes) tree after e n =
-    let p = written_is version_1 tree number offset bytes after e in
+    let p = written_is limits_written tree number offset bytes after e in
     bare_put tree after number p.node (record p.node { bytes = overwritten p.node.bytes offset bytes }) (file_is tree number p.node p.file).0 refl p.gives n
 listed_on (SetSize number size) tree after e n =
-    let p = cut_is version_1 tree number size after e in
+    let p = cut_is limits_written tree number size after e in
     bare_put tree after number p.node (record p.node { bytes = resized p.node.bytes size }) (file_is tree number p.node p.file).0 refl p.gives n
 listed_on (SetAttributes number o) tree after e n =
     let p = owned_is tree number o after e in
@@ -200,6 +200,6 @@ only_lost (Unname number) listed n e = told (n == number) refl
     told true same = inr (ap (λ (k : ℕ). Some k) (sym (eqb-true n number same)))
     told false apart = inl (sym (ap (λ (b : Bool). b || listed n) apart) ∙ e)
 
-pub listed_on_by : (change : Change) (tree after : Tree) (moves : NodeMoves) (old : ℕ → Bool) → apply version_1 change tree ≡ Some after → moves ≡ node_moves_of tree change → ((n : ℕ) → old n ≡ bare_at tree n) → (n : ℕ) → listed_after moves old n ≡ bare_at after n
+pub listed_on_by : (change : Change) (tree after : Tree) (moves : NodeMoves) (old : ℕ → Bool) → apply limits_written change tree ≡ Some after → moves ≡ node_moves_of tree change → ((n : ℕ) → old n ≡ bare_at tree n) → (n : ℕ) → listed_after moves old n ≡ bare_at after n
 listed_on_by change tree after moves old e is tells n =
     same_listed moves old (bare_at tree) n (tells n) ∙ ap (λ (m : NodeMoves). listed_after m (bare_at tree) n) is ∙ sym (listed_on change tree after e n)

@@ -5,7 +5,7 @@ use Rattle.std.specs.Cmp.{nat_cmp_total}
 use Rattle.std.specs.FinMap as map
 use Rattle.std.proofs.lemmas.Bool.{false_from_ne_true, lt-ltb, ltb-true, true≢false}
 use Rattle.std.proofs.lemmas.Map.Lookups.{exact_unsigned}
-use Rattle.sn_limits.specs.Versions.{version_1}
+use Rattle.sn_limits.specs.Versions.{limits_written}
 use Rattle.sn_limits.specs.declared.kind.Kind.{Kind}
 use Rattle.sn_limits.specs.declared.kind.Kind.TheVariants.{File, Directory}
 use Rattle.sn_model.specs.declared.change.Change.{Change}
@@ -68,7 +68,7 @@ few_below nodes (suc end) =
             let less : k < end = omega (arith, most, apart) in
             absurd (true≢false (sym (lt-ltb k end less) ∙ g))
 
-pub few_nameless : (tree : Tree) → IsTree version_1 tree → nameless_in tree ≤ 65536
+pub few_nameless : (tree : Tree) → IsTree limits_written tree → nameless_in tree ≤ 65536
 unfolding nameless_in
 few_nameless tree whole = omega (arith, few_below tree.nodes 65536, total-le nat_cmp_total (once (bare tree)) (once (below 65536)) tree.nodes each)
   where
@@ -219,21 +219,21 @@ replaced_count tree cleared new moved (Some n) few has e =
     let p = replaced_is tree new moved n cleared e in
     lost_count tree cleared new n p.node few has p.there (unlinked_is tree new n p.node cleared p.gone)
 
-renamed_count : (tree after : Tree) (old new : Link) → nameless_in after ≤ 65536 → (p : Renamed version_1 tree old new after) → IsRenamed version_1 tree old new p.number p.node after
+renamed_count : (tree after : Tree) (old new : Link) → nameless_in after ≤ 65536 → (p : Renamed limits_written tree old new after) → IsRenamed limits_written tree old new p.number p.node after
     → nameless_in after ≡ nameless_after (nameless_in tree) (exchanging tree (Some p.number) (map.get tree.links new))
 renamed_count tree after old new few p (inl q) = ap nameless_in (sym q.1) ∙ sym (ap (λ (b : Bool). nameless_after (nameless_in tree) (cond b Stay (losing tree (map.get tree.links new)))) q.0)
 renamed_count tree after old new few p (inr q) =
     let m = q.1 in
-    let alike = nameless_alike m.cleared after (ap (λ (t : Tree). t.nodes) (sym m.gives)) (exchanged_names version_1 tree after old new p.number p.node p.named q.0 m) in
+    let alike = nameless_alike m.cleared after (ap (λ (t : Tree). t.nodes) (sym m.gives)) (exchanged_names limits_written tree after old new p.number p.node p.named q.0 m) in
     alike ∙ replaced_count tree m.cleared new p.node (map.get tree.links new) (omega (arith, few, alike)) refl m.cleared_is
     ∙ sym (ap (λ (b : Bool). nameless_after (nameless_in tree) (cond b Stay (losing tree (map.get tree.links new)))) q.0)
 
-pub counted : (change : Change) (tree after : Tree) → IsTree version_1 after → apply version_1 change tree ≡ Some after → nameless_in after ≡ nameless_after (nameless_in tree) (node_moves_of tree change)
+pub counted : (change : Change) (tree after : Tree) → IsTree limits_written after → apply limits_written change tree ≡ Some after → nameless_in after ≡ nameless_after (nameless_in tree) (node_moves_of tree change)
 counted (Make directory name number kind o) tree after whole e =
-    let p = made_is version_1 tree (link_to directory name) number kind o after e in
+    let p = made_is limits_written tree (link_to directory name) number kind o after e in
     made_count tree after (few_nameless after whole) (link_to directory name) number _ (vacant_absent tree (link_to directory name) p.vacant) p.gives
 counted (AddLink directory name number) tree after whole e =
-    let p = linked_is version_1 tree (link_to directory name) number after e in
+    let p = linked_is limits_written tree (link_to directory name) number after e in
     linked_count tree after (few_nameless after whole) (link_to directory name) number (vacant_absent tree (link_to directory name) p.vacant) p.gives
 counted (Remove directory name) tree after whole e =
     let link = link_to directory name in
@@ -243,14 +243,14 @@ counted (Remove directory name) tree after whole e =
 counted (Rename old_directory old_name new_directory new_name) tree after whole e =
     let old = link_to old_directory old_name in
     let new = link_to new_directory new_name in
-    let p = renamed_is version_1 tree old new after e in
+    let p = renamed_is limits_written tree old new after e in
     renamed_count tree after old new (few_nameless after whole) p p.done
     ∙ sym (ap (λ (o : Option ℕ). nameless_after (nameless_in tree) (exchanging tree o (map.get tree.links new))) p.named)
 counted (Write number offset bytes) tree after whole e =
-    let p = written_is version_1 tree number offset bytes after e in
+    let p = written_is limits_written tree number offset bytes after e in
     ap nameless_in (sym p.gives) ∙ nameless_put tree number p.node (record p.node { bytes = overwritten p.node.bytes offset bytes }) (file_is tree number p.node p.file).0 refl
 counted (SetSize number size) tree after whole e =
-    let p = cut_is version_1 tree number size after e in
+    let p = cut_is limits_written tree number size after e in
     ap nameless_in (sym p.gives) ∙ nameless_put tree number p.node (record p.node { bytes = resized p.node.bytes size }) (file_is tree number p.node p.file).0 refl
 counted (SetAttributes number o) tree after whole e =
     let p = owned_is tree number o after e in

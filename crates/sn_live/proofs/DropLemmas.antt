@@ -7,7 +7,7 @@ use Rattle.std.proofs.lemmas.Map.Lookups.{exact_unsigned}
 use Rattle.sn_directories.specs.Told.{IsShown, TellsDirectories}
 use Rattle.sn_directories.specs.declared.table.Counted.{Counted}
 use Rattle.sn_directories.proofs.TellLemmas.{renoded}
-use Rattle.sn_limits.specs.Versions.{version_1}
+use Rattle.sn_limits.specs.Versions.{limits_written}
 use Rattle.sn_limits.specs.declared.kind.Kind.TheVariants.{File, Directory}
 use Rattle.sn_live.specs.Live.{IsLive, ShowsNameless, changes_of, point_of, shown_of}
 use Rattle.sn_live.specs.declared.live.LiveTree.{LiveTree}
@@ -59,11 +59,11 @@ module _ (tree : Tree) (number : ℕ) where
   was : (k : ℕ) (node : Node) → map.get (take_node tree number).nodes k ≡ Some node → map.get tree.nodes k ≡ Some node
   was k node e = (get_was nat_cmp_total exact_unsigned tree.nodes number k node e).1
 
-  left_tree : IsBare tree number → IsTree version_1 tree → IsTree version_1 (take_node tree number)
+  left_tree : IsBare tree number → IsTree limits_written tree → IsTree limits_written (take_node tree number)
   left_tree bare whole = record {
     hierarchy = hierarchy_gone tree number whole.hierarchy (not_directory tree number bare.node bare.there bare.file) (is_unnamed tree number bare.none);
-    nodes = nodes_part version_1 tree whole.nodes (take_node tree number) was (λ link k e. e);
-    few = few_same version_1 tree (take_node tree number) whole.few refl (λ k kind. let found = some_node _ File kind in is_kind tree k found.0 File (was k found.0 found.1) found.2);
+    nodes = nodes_part limits_written tree whole.nodes (take_node tree number) was (λ link k e. e);
+    few = few_same limits_written tree (take_node tree number) whole.few refl (λ k kind. let found = some_node _ File kind in is_kind tree k found.0 File (was k found.0 found.1) found.2);
   }
 
   left_told : (rows : List Counted) → TellsDirectories tree rows → TellsDirectories (take_node tree number) rows
@@ -93,7 +93,7 @@ module _ (older : Layer) (below : Tree) (rows : List Counted) (shown : IsShown o
   drop_shown : IsShown (merge older (gone number by_close)) below rows
   drop_shown = record {
     lies = merges_lie older (gone number by_close) below shown.lies over;
-    whole = subst (IsTree version_1) (sym drop_shows) (left_tree (through older below) number bare shown.whole);
+    whole = subst (IsTree limits_written) (sym drop_shows) (left_tree (through older below) number bare shown.whole);
     tells = subst (λ (t : Tree). TellsDirectories t rows) (sym drop_shows) (left_told (through older below) number rows shown.tells);
   }
 

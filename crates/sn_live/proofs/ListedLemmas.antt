@@ -5,7 +5,7 @@ use Rattle.std.specs.FinMap as map
 use Rattle.std.proofs.lemmas.List.{map-append}
 use Rattle.std.proofs.lemmas.List.Elements.{Contains-append_left, Contains-get_or, Contains-push, Contains-push_cases}
 use Rattle.std.proofs.lemmas.List.Quantifiers.{all_pairs_push}
-use Rattle.sn_limits.specs.Versions.{version_1}
+use Rattle.sn_limits.specs.Versions.{limits_written}
 use Rattle.sn_model.specs.NameTree.{IsTree}
 use Rattle.sn_model.specs.Settling.{is_nameless, settled}
 use Rattle.sn_model.specs.Tree.{Node, Tree}
@@ -110,7 +110,7 @@ bare_there : (tree : Tree) (n : ℕ) (o : Option Node) → is_nameless tree n o 
 bare_there tree n (Some x) e = refl
 bare_there tree n None e = absurd (true≢false (sym e))
 
-pub all_listed : (tree : Tree) (listed : ℕ → Bool) (files : List DroppedFile) → IsTree version_1 tree → ((n : ℕ) → listed n ≡ bare_at tree n) → AreListed listed 65536 files → TellsGone tree (settled tree) files
+pub all_listed : (tree : Tree) (listed : ℕ → Bool) (files : List DroppedFile) → IsTree limits_written tree → ((n : ℕ) → listed n ≡ bare_at tree n) → AreListed listed 65536 files → TellsGone tree (settled tree) files
 all_listed tree listed files whole tells all = record {
   each = λ n. (
     λ c. let e = sym (tells n) ∙ ((all.each n).0 c).1 in gone n ∙ goes (map.get tree.nodes n) (bare_at tree n) (bare_there tree n (map.get tree.nodes n) e) e,

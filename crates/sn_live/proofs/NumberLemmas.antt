@@ -3,7 +3,7 @@ use Rattle.std.proofs.Common.{◌≡◌, ◌≢◌, ◌⊎◌, inl, inr, ℕ, �
 use Rattle.std.specs.Cmp.{nat_cmp_total}
 use Rattle.std.specs.FinMap as map
 use Rattle.std.proofs.lemmas.Map.Lookups.{exact_unsigned}
-use Rattle.sn_limits.specs.Versions.{version_1}
+use Rattle.sn_limits.specs.Versions.{limits_written}
 use Rattle.sn_limits.specs.declared.kind.Kind.{Kind}
 use Rattle.sn_model.specs.declared.change.Change.{Change}
 use Rattle.sn_model.specs.declared.change.Change.TheVariants.{Make, AddLink, Remove, Rename, Write, SetSize, SetAttributes}
@@ -65,7 +65,7 @@ module _ (old new : NumberTable) where
       let p = replaced_is tree link moved n cleared e in
       tells_lost tree cleared link n p.node p.there (unlinked_is tree link n p.node cleared p.gone) notes tells
 
-  tells_renamed : (tree after : Tree) (from to : Link) (p : Renamed version_1 tree from to after) → IsRenamed version_1 tree from to p.number p.node after → NotesNodes (exchanging tree (Some p.number) (map.get tree.links to)) old new
+  tells_renamed : (tree after : Tree) (from to : Link) (p : Renamed limits_written tree from to after) → IsRenamed limits_written tree from to p.number p.node after → NotesNodes (exchanging tree (Some p.number) (map.get tree.links to)) old new
       → TellsNumbers tree old → TellsNumbers after new
   tells_renamed tree after from to p (inl q) notes tells =
       let same = subst (λ (b : Bool). NotesNodes (cond b Stay (losing tree (map.get tree.links to))) old new) q.0 notes in
@@ -75,12 +75,12 @@ module _ (old new : NumberTable) where
       let lost = subst (λ (b : Bool). NotesNodes (cond b Stay (losing tree (map.get tree.links to))) old new) q.0 notes in
       subst (λ (t : Tree). TellsNumbers t new) m.gives (tells_replaced tree m.cleared to p.node (map.get tree.links to) m.cleared_is lost tells)
 
-  pub tells_on : (change : Change) (tree after : Tree) → apply version_1 change tree ≡ Some after → NotesNodes (node_moves_of tree change) old new → TellsNumbers tree old → TellsNumbers after new
+  pub tells_on : (change : Change) (tree after : Tree) → apply limits_written change tree ≡ Some after → NotesNodes (node_moves_of tree change) old new → TellsNumbers tree old → TellsNumbers after new
   tells_on (Make directory name number kind o) tree after e notes tells =
-      let p = made_is version_1 tree (link_to directory name) number kind o after e in
+      let p = made_is limits_written tree (link_to directory name) number kind o after e in
       subst (λ (t : Tree). TellsNumbers t new) p.gives (notes.tells tree (node_with kind o []) tells)
   tells_on (AddLink directory name number) tree after e notes tells =
-      let p = linked_is version_1 tree (link_to directory name) number after e in
+      let p = linked_is limits_written tree (link_to directory name) number after e in
       subst (λ (t : Tree). TellsNumbers t new) p.gives (stayed tree (name_or_stay number (is_nameless tree number (map.get tree.nodes number)) notes) tells)
   tells_on (Remove directory name) tree after e notes tells =
       let link = link_to directory name in
@@ -89,13 +89,13 @@ module _ (old new : NumberTable) where
   tells_on (Rename old_directory old_name new_directory new_name) tree after e notes tells =
       let from = link_to old_directory old_name in
       let to = link_to new_directory new_name in
-      let p = renamed_is version_1 tree from to after e in
+      let p = renamed_is limits_written tree from to after e in
       tells_renamed tree after from to p p.done (subst (λ (o : Option ℕ). NotesNodes (exchanging tree o (map.get tree.links to)) old new) p.named notes) tells
   tells_on (Write number offset bytes) tree after e notes tells =
-      let p = written_is version_1 tree number offset bytes after e in
+      let p = written_is limits_written tree number offset bytes after e in
       still_put tree after number p.node (record p.node { bytes = overwritten p.node.bytes offset bytes }) (file_is tree number p.node p.file).0 p.gives notes tells
   tells_on (SetSize number size) tree after e notes tells =
-      let p = cut_is version_1 tree number size after e in
+      let p = cut_is limits_written tree number size after e in
       still_put tree after number p.node (record p.node { bytes = resized p.node.bytes size }) (file_is tree number p.node p.file).0 p.gives notes tells
   tells_on (SetAttributes number o) tree after e notes tells =
       let p = owned_is tree number o after e in

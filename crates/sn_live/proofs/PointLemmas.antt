@@ -1,7 +1,7 @@
 -- Consistency points of a live tree that begin and end.
 use Rattle.std.proofs.Common.{◌≡◌, ℕ, sym, ap, subst, ◌∙◌}
 use Rattle.sn_directories.specs.Told.{TellsDirectories}
-use Rattle.sn_limits.specs.Versions.{version_1}
+use Rattle.sn_limits.specs.Versions.{limits_written}
 use Rattle.sn_live.specs.Live.{HasNoPoint, IsLive, changes_of, point_of, shown_of}
 use Rattle.sn_live.specs.declared.live.LiveTree.{LiveTree}
 use Rattle.sn_model.specs.NameTree.{IsTree}
@@ -30,7 +30,7 @@ module _ (old : LiveTree) (rests : HasNoPoint old) (top bottom : Overlay) (none 
     point = subst (λ (l : Layer). LiesOver l below) (sym all) (subst (LiesOver (changes_of old)) (none_shows (point_of old) below rests) live.shown.lies);
     shown = record {
       lies = none_lies (layer_of top) (through (layer_of bottom) below) none;
-      whole = subst (IsTree version_1) (sym begun_shows) live.shown.whole;
+      whole = subst (IsTree limits_written) (sym begun_shows) live.shown.whole;
       tells = subst (λ (t : Tree). TellsDirectories t old.directories) (sym begun_shows) live.shown.tells;
     };
     numbers = retold (through (layer_of top) (through (layer_of bottom) below)) old.numbers numbers taken (subst (λ (t : Tree). TellsNumbers t old.numbers) (sym begun_shows) live.numbers);
@@ -51,7 +51,7 @@ module _ (old : LiveTree) (root next : Tree) (is : through (changes_of old) next
     point = none_lies (layer_of bottom) next none;
     shown = record {
       lies = subst (LiesOver (changes_of old)) (sym under) lies;
-      whole = subst (IsTree version_1) (sym ended_shows) live.shown.whole;
+      whole = subst (IsTree limits_written) (sym ended_shows) live.shown.whole;
       tells = subst (λ (t : Tree). TellsDirectories t old.directories) (sym ended_shows) live.shown.tells;
     };
     numbers = retold (through (changes_of old) (through (layer_of bottom) next)) old.numbers numbers taken (subst (λ (t : Tree). TellsNumbers t old.numbers) (sym ended_shows) live.numbers);
@@ -64,7 +64,7 @@ pub replaced_live : (old : LiveTree) (root next : Tree) → next ≡ shown_of ol
     → IsLive (record old { top = top; bottom = bottom; numbers = numbers }) next
 replaced_live old root next is top bottom over under numbers taken live =
     live_begun (record old { top = top; bottom = bottom; numbers = numbers }) next over under
-    (subst (IsTree version_1) (sym is) live.shown.whole)
+    (subst (IsTree limits_written) (sym is) live.shown.whole)
     (subst (λ (t : Tree). TellsDirectories t old.directories) (sym is) live.shown.tells)
     (retold next old.numbers numbers taken (subst (λ (t : Tree). TellsNumbers t old.numbers) (sym is) live.numbers))
     (subst (λ (t : Tree). TellsNameless t old.without_names) (sym is) live.files)

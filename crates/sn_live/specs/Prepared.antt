@@ -1,7 +1,7 @@
 -- What is prepared for a change of a live tree.
 use Rattle.std.specs.Prelude.{◌≡◌, ◌⊎◌, ℕ, true, Option, None, Some}
 use Rattle.std.specs.FinMap as map
-use Rattle.sn_limits.specs.Versions.{version_1}
+use Rattle.sn_limits.specs.declared.limits.Limits.{Limits}
 use Rattle.sn_live.specs.Nodes.{node_moves_of}
 use Rattle.sn_live.specs.declared.live.LiveTree.{LiveTree}
 use Rattle.sn_live.specs.declared.preparing.PreparedLive.{PreparedLive}
@@ -19,15 +19,15 @@ charge_of p = laid.charge_of p.change
 abbrev pub HasRoomFor : LiveTree → PreparedLive → ℕ → Type 0
 HasRoomFor live p drops = laid.HasRoomFor live.top p.change drops
 
--- A change can be made of a live tree: it was prepared for being laid over it, and does so to its nodes.
-pub record CanBeMade (p : PreparedLive) (live : Tree) (change : Change) : Type 0 where
-  pub laid : laid.CanBeLaid p.change live change
+-- A change can be made of a live tree under limits: it was prepared for being laid over it, and does so to its nodes.
+pub record CanBeMade (limits : Limits) (p : PreparedLive) (live : Tree) (change : Change) : Type 0 where
+  pub laid : laid.CanBeLaid limits p.change live change
   pub nodes : p.nodes ≡ node_moves_of live change
 
 -- or it can't be applied
-abbrev pub IsPrepared : Option PreparedLive → Tree → Change → Type 0
-IsPrepared None live change = apply version_1 change live ≡ None
-IsPrepared (Some p) live change = CanBeMade p live change
+abbrev pub IsPrepared : Limits → Option PreparedLive → Tree → Change → Type 0
+IsPrepared limits None live change = apply limits change live ≡ None
+IsPrepared limits (Some p) live change = CanBeMade limits p live change
 
 -- No file has lost its last name but the one that is told.
 abbrev pub LosesAtMost : Tree → Tree → Option ℕ → Type 0

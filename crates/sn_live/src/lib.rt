@@ -22,7 +22,7 @@
 //! What the sources leave open is decided in `docs/DECISIONS.md`, under "Reading a root on demand".
 //!
 //! ```text
-//! let Some(prepared) = live.prepare(alloc, &mut root, &change, drops)? else {
+//! let Some(prepared) = live.prepare(alloc, &limits, &mut root, &change, drops)? else {
 //!     return Err(Fault::CannotApply);
 //! };
 //! log.append(&change)?;

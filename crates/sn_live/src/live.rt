@@ -2,7 +2,8 @@
 ghost use Rattle.std.specs.Prelude.{◌≡◌, ℕ, ◌≤◌, ◌^◌, Some, IsTrue, IfOk, IfSome, OnOk};
 ghost use Rattle.std.specs.FinMap as map;
 ghost use Rattle.sn_directories.specs.Told.{IsShown, TellsDirectories};
-ghost use Rattle.sn_limits.specs.Versions.{version_1};
+ghost use Rattle.sn_limits.specs.Versions.{limits_of, limits_written};
+ghost use Rattle.sn_limits.specs.declared.limits.Limits.{Limits as TheLimits};
 ghost use Rattle.sn_live.specs.Live.{HasDrops, HasNoPoint, IsLive, KeepsBack, ShowsAlike, changes_of, count_of, kept_back_of, kept_since_of, point_of, shown_of};
 ghost use Rattle.sn_live.specs.Prepared.{CanBeMade, HasRoomFor, IsPrepared, charge_of};
 ghost use Rattle.sn_model.specs.Changes.{apply};
@@ -56,7 +57,7 @@ impl LiveTree {
         without_names: NamelessFiles,
         nameless: u32,
     ) -> LiveTree
-        ensures live { (root : Tree) → IsTree version_1 root → TellsDirectories root directories → TellsNumbers root numbers → TellsNameless root without_names → nameless ≡ nameless_in root → IsLive result root }
+        ensures live { (root : Tree) → IsTree limits_written root → TellsDirectories root directories → TellsNumbers root numbers → TellsNameless root without_names → nameless ≡ nameless_in root → IsLive result root }
         ensures shown { (root : Tree) → shown_of result root ≡ root }
         ensures point { HasNoPoint result }
         ensures changes { changes_of result ≡ no_changes }
@@ -132,17 +133,19 @@ impl LiveTree {
         &self.numbers
     }
 
-    /// Reads and grows all that a change of what is shown asks for, where it can be applied, with room for it and for
-    /// so many drops beside. `None` where it can't be applied. Nothing that is shown changes, and no room for drops is
-    /// lost, whatever the answer. A fault is one of the tree below, or of memory.
+    /// Reads and grows all that a change of what is shown asks for, where it can be applied under the limits, with room
+    /// for it and for so many drops beside. `None` where it can't be applied. Nothing that is shown changes, and no room
+    /// for drops is lost, whatever the answer. A fault is one of the tree below, or of memory.
     pub fn prepare<B: KeepsNames>(
         &mut self,
         alloc: Global,
+        limits: &Limits,
         below: &mut B,
         change: &Change<'_>,
         drops: u16,
     ) -> Result<Option<PreparedLive>, LayerFault<B::Fault>>
         requires holds { B.holds below.old }
+        requires version { limits_of limits.now.version ≡ Some limits.now }
         requires live { IsTrue B.is_told → IsLive self.old (B.shows below.old) }
         ensures kept { B.holds below.new }
         ensures follows { B.follows below.old below.new }
@@ -151,7 +154,7 @@ impl LiveTree {
         ensures point { point_of self.new ≡ point_of self.old }
         ensures changes { changes_of self.new ≡ changes_of self.old }
         ensures numbers { KeepsBack self.old self.new }
-        ensures prepared { IsTrue B.is_told → IfOk result (λ p. IsPrepared p (shown_of self.old (B.shows below.old)) change.now) }
+        ensures prepared { IsTrue B.is_told → IfOk result (λ p. IsPrepared limits.now p (shown_of self.old (B.shows below.old)) change.now) }
         ensures room { IfOk result (λ p. IfSome p (λ prepared. HasRoomFor self.new prepared drops)) }
         ensures stays { (n : ℕ) → HasDrops self.old n → HasDrops self.new n }
         ensures counted { count_of self.new ≡ count_of self.old }
@@ -160,6 +163,7 @@ impl LiveTree {
     {
         prepare_through(
             alloc,
+            limits,
             below,
             &self.bottom,
             &mut self.top,
@@ -174,14 +178,14 @@ impl LiveTree {
     /// takes no memory, and leaves room for as many drops as there was beside the change.
     pub fn commit(&mut self, prepared: PreparedLive)
         requires { HasRoomFor self.old prepared 0 }
-        ensures live { (below : Tree) (change : TheChange) → IsLive self.old below → CanBeMade prepared (shown_of self.old below) change → IsLive self.new below }
-        ensures shown { (below : Tree) (change : TheChange) → IsLive self.old below → CanBeMade prepared (shown_of self.old below) change
-            → apply version_1 change (shown_of self.old below) ≡ Some (shown_of self.new below) }
-        ensures merged { (below : Tree) (change : TheChange) → IsLive self.old below → CanBeMade prepared (shown_of self.old below) change
+        ensures live { (limits : TheLimits) (below : Tree) (change : TheChange) → limits_of limits.version ≡ Some limits → IsLive self.old below → CanBeMade limits prepared (shown_of self.old below) change → IsLive self.new below }
+        ensures shown { (limits : TheLimits) (below : Tree) (change : TheChange) → limits_of limits.version ≡ Some limits → IsLive self.old below → CanBeMade limits prepared (shown_of self.old below) change
+            → apply limits change (shown_of self.old below) ≡ Some (shown_of self.new below) }
+        ensures merged { (limits : TheLimits) (below : Tree) (change : TheChange) → limits_of limits.version ≡ Some limits → IsLive self.old below → CanBeMade limits prepared (shown_of self.old below) change
             → changes_of self.new ≡ merge (changes_of self.old) (layer_of_change (shown_of self.old below) change) }
         ensures point { point_of self.new ≡ point_of self.old }
-        ensures kept { (tree : Tree) (change : TheChange) → CanBeMade prepared tree change → (n : ℕ) → kept_back_of self.new n ≡ kept_after change (kept_back_of self.old) n }
-        ensures since { (tree : Tree) (change : TheChange) → CanBeMade prepared tree change → (n : ℕ)
+        ensures kept { (limits : TheLimits) (tree : Tree) (change : TheChange) → limits_of limits.version ≡ Some limits → CanBeMade limits prepared tree change → (n : ℕ) → kept_back_of self.new n ≡ kept_after change (kept_back_of self.old) n }
+        ensures since { (limits : TheLimits) (tree : Tree) (change : TheChange) → limits_of limits.version ≡ Some limits → CanBeMade limits prepared tree change → (n : ℕ)
             → kept_since_of self.new n ≡ since_after change (kept_back_of self.old) (kept_since_of self.old) n }
         ensures drops { (drops : ℕ) → HasRoomFor self.old prepared drops → HasDrops self.new drops }
     {

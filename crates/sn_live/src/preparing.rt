@@ -2,7 +2,8 @@
 ghost use Rattle.std.specs.Prelude.{◌≡◌, ◌≤◌, ◌^◌, Some, IsTrue, IfErr, IfOk, IfSome};
 ghost use Rattle.sn_directories.specs.Told.{IsShown};
 ghost use Rattle.sn_live.specs.Nodes.{node_moves_of};
-ghost use Rattle.sn_limits.specs.Versions.{version_1};
+ghost use Rattle.sn_limits.specs.Versions.{limits_of};
+ghost use Rattle.sn_limits.specs.declared.limits.Limits.{Limits as TheLimits};
 ghost use Rattle.sn_live.specs.Prepared.{CanBeMade, IsPrepared, LosesAtMost, charge_of};
 ghost use Rattle.sn_logged.specs.Laid as laid;
 ghost use Rattle.sn_model.specs.Changes.{apply};
@@ -15,6 +16,7 @@ ghost use Rattle.sn_overlay_change.specs.Faults.{IfBelow};
 
 use crate::nodes::{NodeMoves, lost_of, node_moves_of};
 use sn_directories::{Directories, KeepsNames, LoggedTree};
+use sn_limits::Limits;
 use sn_logged::{PreparedChange, prepare_change};
 use sn_model::Change;
 use sn_overlay::{Overlay, Through};
@@ -38,7 +40,7 @@ impl PreparedLive {
 
     /// The file that loses its last name by the change, if one does.
     pub fn lost(&self) -> Option<u16>
-        ensures { (tree after : Tree) (change : TheChange) → CanBeMade self.now tree change → apply version_1 change tree ≡ Some after → LosesAtMost tree after result }
+        ensures { (limits : TheLimits) (tree after : Tree) (change : TheChange) → limits_of limits.version ≡ Some limits → CanBeMade limits self.now tree change → apply limits change tree ≡ Some after → LosesAtMost tree after result }
     {
         lost_of(self.nodes)
     }
@@ -69,6 +71,7 @@ fn moves_over<'x, B: KeepsNames>(
 /// What is prepared for a change of what is seen through an overlay, with room for it there, and for so many drops.
 fn prepare_over<B: KeepsNames>(
     alloc: Global,
+    limits: &Limits,
     below: &mut B,
     overlay: &mut Overlay,
     directories: &Directories,
@@ -76,18 +79,20 @@ fn prepare_over<B: KeepsNames>(
     drops: u16,
 ) -> Result<Option<PreparedLive>, LayerFault<B::Fault>>
     requires holds { B.holds below.old }
+    requires version { limits_of limits.now.version ≡ Some limits.now }
     requires shown { IsTrue B.is_told → IsShown (layer_of overlay.old) (B.shows below.old) directories.now }
     ensures kept { B.holds below.new }
     ensures follows { B.follows below.old below.new }
     ensures same { IsTrue B.is_told → B.shows below.new ≡ B.shows below.old }
     ensures layer { layer_of overlay.new ≡ layer_of overlay.old }
-    ensures prepared { IsTrue B.is_told → IfOk result (λ p. IsPrepared p (through (layer_of overlay.old) (B.shows below.old)) change.now) }
+    ensures prepared { IsTrue B.is_told → IfOk result (λ p. IsPrepared limits.now p (through (layer_of overlay.old) (B.shows below.old)) change.now) }
     ensures room { IfOk result (λ p. IfSome p (λ prepared. laid.HasRoomFor overlay.new prepared.change drops)) }
     ensures stays { TakesRoom overlay.old overlay.new (record { nodes = 0; names = 0; blocks = 0 }) }
     ensures few { IfOk result (λ p. IfSome p (λ prepared. charge_of prepared ≤ 2 ^ 64)) }
     ensures cause { IfBelow result (λ f. B.causes below.old below.new f) }
 {
-    let Some(laid) = prepare_change(alloc, below, overlay, directories, change, drops)? else {
+    let Some(laid) = prepare_change(alloc, limits, below, overlay, directories, change, drops)?
+    else {
         return Ok(None);
     };
     match moves_over(below, overlay, directories, change) {
@@ -102,6 +107,7 @@ fn prepare_over<B: KeepsNames>(
 /// What is prepared for a change of what is seen through two overlays, `None` where it can't be applied.
 pub(crate) fn prepare_through<'x, B: KeepsNames>(
     alloc: Global,
+    limits: &Limits,
     below: &'x mut B,
     bottom: &'x Overlay,
     top: &mut Overlay,
@@ -110,13 +116,14 @@ pub(crate) fn prepare_through<'x, B: KeepsNames>(
     drops: u16,
 ) -> Result<Option<PreparedLive>, LayerFault<B::Fault>>
     requires holds { B.holds below.old }
+    requires version { limits_of limits.now.version ≡ Some limits.now }
     requires lies { IsTrue B.is_told → LiesOver (layer_of bottom.now) (B.shows below.old) }
     requires shown { IsTrue B.is_told → IsShown (layer_of top.old) (through (layer_of bottom.now) (B.shows below.old)) directories.now }
     ensures kept { B.holds below.new }
     ensures follows { B.follows below.old below.new }
     ensures same { IsTrue B.is_told → B.shows below.new ≡ B.shows below.old }
     ensures layer { layer_of top.new ≡ layer_of top.old }
-    ensures prepared { IsTrue B.is_told → IfOk result (λ p. IsPrepared p (through (layer_of top.old) (through (layer_of bottom.now) (B.shows below.old))) change.now) }
+    ensures prepared { IsTrue B.is_told → IfOk result (λ p. IsPrepared limits.now p (through (layer_of top.old) (through (layer_of bottom.now) (B.shows below.old))) change.now) }
     ensures room { IfOk result (λ p. IfSome p (λ prepared. laid.HasRoomFor top.new prepared.change drops)) }
     ensures stays { TakesRoom top.old top.new (record { nodes = 0; names = 0; blocks = 0 }) }
     ensures few { IfOk result (λ p. IfSome p (λ prepared. charge_of prepared ≤ 2 ^ 64)) }
@@ -126,5 +133,5 @@ pub(crate) fn prepare_through<'x, B: KeepsNames>(
         overlay: bottom,
         below,
     };
-    prepare_over(alloc, &mut shown, top, directories, change, drops)
+    prepare_over(alloc, limits, &mut shown, top, directories, change, drops)
 }

@@ -2,7 +2,7 @@
 use Rattle.std.specs.FinMap as map
 use Rattle.sn_desc.specs.InUse.{InUse}
 use Rattle.sn_frozen.specs.Frozen.{FrozenTrees}
-use Rattle.sn_limits.specs.Versions.{version_1}
+use Rattle.sn_limits.specs.Versions.{limits_written}
 use Rattle.sn_model.specs.NameTree.{IsTree}
 use Rattle.sn_model.specs.Tree.{Tree}
 use Rattle.sn_model.specs.World.{Trees, World}
@@ -15,7 +15,7 @@ live_trees tree frozen = record { live = tree; frozen = frozen }
 
 -- What is seen is a name tree, and the table tells its numbers.
 pub record IsNumbered (tree : Tree) (numbers : NumberTable) : Type 0 where
-  pub whole : IsTree version_1 tree
+  pub whole : IsTree limits_written tree
   pub tells : TellsNumbers tree numbers
 
 -- trees with who is logged in and what is open

@@ -1,7 +1,7 @@
 //! What is made of a look-up of the live tree.
 ghost use Rattle.std.specs.Prelude.{◌≡◌, IsTrue, IfOk, IfErr};
 ghost use Rattle.std.specs.Option.{option_and_then};
-ghost use Rattle.sn_limits.specs.Versions.{version_1};
+ghost use Rattle.sn_limits.specs.Versions.{limits_written};
 ghost use Rattle.sn_walk.specs.Gives.{Gives, IfFault};
 ghost use Rattle.sn_model.specs.Seen.{has_room_for_name};
 ghost use Rattle.sn_overlay.specs.Seen.{seen_node};
@@ -39,12 +39,12 @@ pub(crate) fn room_for_name<T: NamedTree>(
     ensures kept { T.holds tree.new }
     ensures follows { T.follows tree.old tree.new }
     ensures same { IsTrue T.is_told → T.shows tree.new ≡ T.shows tree.old }
-    ensures found { IsTrue T.is_told → Gives (λ u. u) result (has_room_for_name version_1 (T.shows tree.old) directory) }
+    ensures found { IsTrue T.is_told → Gives (λ u. u) result (has_room_for_name limits_written (T.shows tree.old) directory) }
     ensures cause { IfFault result (λ f. T.causes tree.old tree.new f) }
 {
     match tree.names_in(directory) {
         Ok(names) => {
-            if names < Limits::VERSION_1.names {
+            if names < Limits::WRITTEN.names {
                 return Ok(());
             }
             Err(Failure::Refused(Refusal::plain(Errno::Elimit)))

@@ -70,19 +70,19 @@ impl<'a, B: HasSnapshots> TreeView for UnreadView<'a, B> {
 
 impl<'a, B: HasSnapshots> CallView for UnreadView<'a, B> {
     ghost use Rattle.std.proofs.Common.{ap};
-    ghost use Rattle.sn_limits.specs.Versions.{version_1};
+    ghost use Rattle.sn_limits.specs.Versions.{limits_written};
     ghost use Rattle.sn_live.specs.Live.{shown_of};
     ghost use Rattle.sn_live_view.specs.Live.{live_trees};
     ghost use Rattle.sn_model.specs.Seen.{seen_names};
     ghost use Rattle.sn_model.specs.Tests.{has_room};
 
-    ghost room = { λ v. has_room version_1 (shown_of v.live.now (B.shows v.root.now)) };
+    ghost room = { λ v. has_room limits_written (shown_of v.live.now (B.shows v.root.now)) };
 
     fn has_room(&mut self, _directory: u16) -> Result<(), Failure<Refusal, Unread>> {
         Err(Failure::Fault(Unread))
     }
 
-    ghost names = { λ v. seen_names version_1 (live_trees (shown_of v.live.now (B.shows v.root.now)) (B.frozen v.root.now)) };
+    ghost names = { λ v. seen_names limits_written (live_trees (shown_of v.live.now (B.shows v.root.now)) (B.frozen v.root.now)) };
 
     fn has_room_for_name(&mut self, _directory: u16) -> Result<(), Failure<Refusal, Unread>> {
         Err(Failure::Fault(Unread))
@@ -92,9 +92,9 @@ impl<'a, B: HasSnapshots> CallView for UnreadView<'a, B> {
         Err(Unread)
     }
 
-    ghost room_stays = { λ u v told e. ap (λ w. has_room version_1 (shown_of w.live.now (B.shows w.root.now))) e };
+    ghost room_stays = { λ u v told e. ap (λ w. has_room limits_written (shown_of w.live.now (B.shows w.root.now))) e };
 
-    ghost names_stay = { λ u v told e. ap (λ w. seen_names version_1 (live_trees (shown_of w.live.now (B.shows w.root.now)) (B.frozen w.root.now))) e };
+    ghost names_stay = { λ u v told e. ap (λ w. seen_names limits_written (live_trees (shown_of w.live.now (B.shows w.root.now)) (B.frozen w.root.now))) e };
 }
 
 impl<'a, B: HasSnapshots> MoveView for UnreadView<'a, B> {

@@ -1,4 +1,4 @@
-ghost use Rattle.sn_limits.specs.Versions.{version_1};
+ghost use Rattle.sn_limits.specs.Versions.{limits_written};
 
 use crate::reads::{default_acl, room_for_name};
 use sn_acl::Acl;
@@ -89,16 +89,16 @@ impl<'a, T: NamedTree + HasContents + HasSnapshots> CallView for LiveView<'a, T>
     ghost use Rattle.sn_model.specs.Tests.{has_room};
     ghost use Rattle.sn_live_view.specs.Live.{live_trees};
 
-    ghost room = { λ v. has_room version_1 (T.shows v.tree.now) };
+    ghost room = { λ v. has_room limits_written (T.shows v.tree.now) };
 
     fn has_room(&mut self, directory: u16) -> Result<(), Failure<Refusal, T::Fault>> {
-        if !self.numbers.has_free(&Limits::VERSION_1) {
+        if !self.numbers.has_free(&Limits::WRITTEN) {
             return Err(Failure::Refused(Refusal::plain(Errno::Elimit)));
         }
         room_for_name(self.tree, directory)
     }
 
-    ghost names = { λ v. seen_names version_1 (live_trees (T.shows v.tree.now) (T.frozen v.tree.now)) };
+    ghost names = { λ v. seen_names limits_written (live_trees (T.shows v.tree.now) (T.frozen v.tree.now)) };
 
     fn has_room_for_name(&mut self, directory: u16) -> Result<(), Failure<Refusal, T::Fault>> {
         room_for_name(self.tree, directory)
@@ -111,9 +111,9 @@ impl<'a, T: NamedTree + HasContents + HasSnapshots> CallView for LiveView<'a, T>
         }
     }
 
-    ghost room_stays = { λ u v told p. ap (has_room version_1) (p.2 told) };
+    ghost room_stays = { λ u v told p. ap (has_room limits_written) (p.2 told) };
 
-    ghost names_stay = { λ u v told p. ap₂ (λ tree frozen. seen_names version_1 (live_trees tree frozen)) (p.2 told) (T.frozen_stay u.tree.now v.tree.now told p.0) };
+    ghost names_stay = { λ u v told p. ap₂ (λ tree frozen. seen_names limits_written (live_trees tree frozen)) (p.2 told) (T.frozen_stay u.tree.now v.tree.now told p.0) };
 }
 
 impl<'a, T: NamedTree + HasContents + HasSnapshots> MoveView for LiveView<'a, T> {

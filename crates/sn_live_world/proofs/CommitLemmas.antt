@@ -1,7 +1,7 @@
 -- A change that was made.
 use Rattle.std.proofs.Common.{◌≡◌, ◌⊎◌, inl, inr, ℕ, true, Option, None, Some, refl, sym, ap, ◌∙◌, true≢false}
 use Rattle.std.specs.FinMap as map
-use Rattle.sn_limits.specs.Versions.{version_1}
+use Rattle.sn_limits.specs.Versions.{limits_written}
 use Rattle.sn_limits.specs.declared.kind.Kind.TheVariants.{File}
 use Rattle.sn_live.specs.Prepared.{LosesAtMost}
 use Rattle.sn_model.specs.Descriptors.{Descriptors, is_held_in}
@@ -16,17 +16,17 @@ use Rattle.sn_model.proofs.SettlingLemmas.{nameless_is}
 use Rattle.sn_core.proofs.CallerLemmas.{is_left_nameless}
 
 -- in a world each file without names is held
-held_there : (world : World) (n : ℕ) → IsWorld version_1 world → is_nameless world.live n (map.get world.live.nodes n) ≡ true → is_held world n ≡ true
+held_there : (world : World) (n : ℕ) → IsWorld limits_written world → is_nameless world.live n (map.get world.live.nodes n) ≡ true → is_held world n ≡ true
 held_there world n whole e = told (map.get world.live.nodes n) refl
   where
     told : (found : Option Node) → map.get world.live.nodes n ≡ found → is_held world n ≡ true
     told None f = absurd (true≢false (sym e ∙ ap (is_nameless world.live n) f))
     told (Some node) f =
         let is = nameless_is world.live n node (sym (ap (is_nameless world.live n) f) ∙ e) in
-        all_held version_1 world whole n (is_kind world.live n node File f is.0) is.1
+        all_held limits_written world whole n (is_kind world.live n node File f is.0) is.1
 
 -- so only what has lost its last name may be left to nobody
-pub only_lost : (old new : World) (lost : Option ℕ) → new.descriptors ≡ old.descriptors → IsWorld version_1 old → LosesAtMost old.live new.live lost → OnlyLost new lost
+pub only_lost : (old new : World) (lost : Option ℕ) → new.descriptors ≡ old.descriptors → IsWorld limits_written old → LosesAtMost old.live new.live lost → OnlyLost new lost
 only_lost old new lost same whole loses n e = told (loses n (is_left_nameless new n e))
   where
     told : (is_nameless old.live n (map.get old.live.nodes n) ≡ true) ⊎ (lost ≡ Some n) → lost ≡ Some n

@@ -4,7 +4,7 @@ use Rattle.sn_changed.specs.Dropped.{LeadsOn, TellsGone}
 use Rattle.sn_changed.specs.declared.dropped.DroppedFile.{DroppedFile}
 use Rattle.sn_core.specs.Called.{CanTurn}
 use Rattle.sn_core_files.specs.Decided.{MayLack}
-use Rattle.sn_limits.specs.Versions.{version_1}
+use Rattle.sn_limits.specs.Versions.{limits_written}
 use Rattle.sn_live_world.specs.World.{IsOver, changes_of, descriptors_of, room_of, tree_over, world_over}
 use Rattle.sn_live_world.specs.declared.choosing.Picked.{Picked}
 use Rattle.sn_live_world.specs.declared.fault.CallFault.{CallFault}
@@ -24,19 +24,19 @@ use Rattle.sn_numbers.specs.Numbers.{next_number}
 
 -- why a call comes to nothing
 abbrev pub HasNone : CallFault → World → ℕ → Call → Type 0
-HasNone (Refused r) world session c = decision version_1 world session c ≡ Err r
+HasNone (Refused r) world session c = decision limits_written world session c ≡ Err r
 HasNone Memory world session c = MayLack world session c
 HasNone Read world session c = MayLack world session c
 
 -- what a call comes to
 abbrev pub Decides : World → ℕ → Call → Result Outcome CallFault → Type 0
-Decides world session c (Ok o) = decision version_1 world session c ≡ Ok o
+Decides world session c (Ok o) = decision limits_written world session c ≡ Ok o
 Decides world session c (Err e) = HasNone e world session c
 
 -- what is pending, where a new node has the next number
 abbrev pub Picks : Tree → (ℕ → Bool) → Pending → Caller → Picked → Type 0
 Picks tree kept Nothing caller picked = picked ≡ record { change = None; caller = caller }
-Picks tree kept (Makes directory name kind o) caller picked = (number : ℕ) × (next_number version_1 tree kept ≡ Some number) × (picked ≡ record { change = Some (Make directory name number kind o); caller = filled number caller })
+Picks tree kept (Makes directory name kind o) caller picked = (number : ℕ) × (next_number limits_written tree kept ≡ Some number) × (picked ≡ record { change = Some (Make directory name number kind o); caller = filled number caller })
 Picks tree kept (Does c) caller picked = picked ≡ record { change = Some c; caller = caller }
 
 -- The state belongs to a tree below, a caller can turn there, and no live file is left to nobody but one that lost its name.

@@ -2,7 +2,7 @@
 ghost use Rattle.std.specs.Prelude.{◌≡◌, ◌+◌, ℕ, Some, IsTrue, IfOk, IfSome};
 ghost use Rattle.sn_block.specs.Lending.{device_of};
 ghost use Rattle.sn_desc.specs.InUse.{live_in};
-ghost use Rattle.sn_limits.specs.Versions.{version_1};
+ghost use Rattle.sn_limits.specs.Versions.{limits_written};
 ghost use Rattle.sn_live.specs.Prepared.{CanBeMade, IsPrepared};
 ghost use Rattle.sn_live_world.specs.Faults.{CountsLook};
 ghost use Rattle.sn_model.specs.Changes.{apply};
@@ -22,6 +22,7 @@ use crate::fault::{LookFault, look_fault_of};
 use sn_block::Blocks;
 use sn_device::Device;
 use sn_layout::RootBody;
+use sn_limits::Limits;
 use sn_live::PreparedLive;
 use sn_model::Change;
 use sn_rooted_tree::RootedTree;
@@ -43,7 +44,7 @@ impl LiveWorld {
         requires live { IsTrue D.tells_bytes → IsOver self.old (tree_on blocks.old root.now.inode_file) }
         ensures alike { Alike self.old self.new }
         ensures sessions { HasSessions self.old self.new }
-        ensures prepared { IsTrue D.tells_bytes → IfOk result (λ p. IsPrepared p (tree_over self.old (tree_on blocks.old root.now.inode_file)) change.now) }
+        ensures prepared { IsTrue D.tells_bytes → IfOk result (λ p. IsPrepared limits_written p (tree_over self.old (tree_on blocks.old root.now.inode_file)) change.now) }
         ensures room { IfOk result (λ p. IfSome p (λ prepared. HasRoomFor self.new prepared drops)) }
         ensures keeps { (n : ℕ) → HasDrops self.old n → HasDrops self.new n }
         ensures same { IsTrue D.tells_bytes → D.disk (device_of blocks.new) ≡ D.disk (device_of blocks.old) }
@@ -55,7 +56,9 @@ impl LiveWorld {
             root,
             fault: None,
         };
-        let prepared = self.live.prepare(alloc, &mut tree, change, drops);
+        let prepared = self
+            .live
+            .prepare(alloc, &Limits::WRITTEN, &mut tree, change, drops);
         match tree.fault {
             Some(fault) => Err(look_fault_of(fault)),
             None => match prepared {
@@ -80,7 +83,7 @@ impl LiveWorld {
         requires live { IsTrue D.tells_bytes → IsOver self.old (tree_on blocks.old root.now.inode_file) }
         ensures alike { Alike self.old self.new }
         ensures sessions { HasSessions self.old self.new }
-        ensures prepared { IsTrue D.tells_bytes → IfOk result (λ p. IsPrepared p (tree_over self.old (tree_on blocks.old root.now.inode_file)) change.now) }
+        ensures prepared { IsTrue D.tells_bytes → IfOk result (λ p. IsPrepared limits_written p (tree_over self.old (tree_on blocks.old root.now.inode_file)) change.now) }
         ensures room { IfOk result (λ p. IfSome p (λ prepared. HasRoomFor self.new prepared (live_in (descriptors_of self.old) + 2))) }
         ensures keeps { (n : ℕ) → HasDrops self.old n → HasDrops self.new n }
         ensures same { IsTrue D.tells_bytes → D.disk (device_of blocks.new) ≡ D.disk (device_of blocks.old) }
@@ -96,15 +99,15 @@ impl LiveWorld {
     /// one does. It takes no memory, and leaves room for as many drops as there was beside the change.
     pub fn commit(&mut self, prepared: PreparedLive) -> Option<u16>
         requires { HasRoomFor self.old prepared 0 }
-        ensures over { (below : Tree) (change : TheChange) → IsOver self.old below → CanBeMade prepared (tree_over self.old below) change → IsOver self.new below }
-        ensures made { (below : Tree) (change : TheChange) → IsOver self.old below → CanBeMade prepared (tree_over self.old below) change
-            → (tree : Tree) × (apply version_1 change (world_over self.old below).live ≡ Some tree) × (world_over self.new below ≡ with_live (world_over self.old below) tree) }
-        ensures merged { (below : Tree) (change : TheChange) → IsOver self.old below → CanBeMade prepared (tree_over self.old below) change
+        ensures over { (below : Tree) (change : TheChange) → IsOver self.old below → CanBeMade limits_written prepared (tree_over self.old below) change → IsOver self.new below }
+        ensures made { (below : Tree) (change : TheChange) → IsOver self.old below → CanBeMade limits_written prepared (tree_over self.old below) change
+            → (tree : Tree) × (apply limits_written change (world_over self.old below).live ≡ Some tree) × (world_over self.new below ≡ with_live (world_over self.old below) tree) }
+        ensures merged { (below : Tree) (change : TheChange) → IsOver self.old below → CanBeMade limits_written prepared (tree_over self.old below) change
             → changes_of self.new ≡ merge (changes_of self.old) (layer_of_change (tree_over self.old below) change) }
-        ensures lost { (trees : Trees) (change : TheChange) → IsOver self.old trees.live → CanBeMade prepared (tree_over self.old trees.live) change
-            → IsWorld version_1 (world_in self.old trees) → OnlyLost (world_in self.new trees) result }
-        ensures kept { (tree : Tree) (change : TheChange) → CanBeMade prepared tree change → (n : ℕ) → kept_of self.new n ≡ kept_after change (kept_of self.old) n }
-        ensures since { (tree : Tree) (change : TheChange) → CanBeMade prepared tree change → (n : ℕ)
+        ensures lost { (trees : Trees) (change : TheChange) → IsOver self.old trees.live → CanBeMade limits_written prepared (tree_over self.old trees.live) change
+            → IsWorld limits_written (world_in self.old trees) → OnlyLost (world_in self.new trees) result }
+        ensures kept { (tree : Tree) (change : TheChange) → CanBeMade limits_written prepared tree change → (n : ℕ) → kept_of self.new n ≡ kept_after change (kept_of self.old) n }
+        ensures since { (tree : Tree) (change : TheChange) → CanBeMade limits_written prepared tree change → (n : ℕ)
             → kept_since_of self.new n ≡ since_after change (kept_of self.old) (kept_since_of self.old) n }
         ensures point { point_of self.new ≡ point_of self.old }
         ensures sessions { HasSessions self.old self.new }

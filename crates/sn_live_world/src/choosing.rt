@@ -72,7 +72,7 @@ impl LiveWorld {
                 name,
                 kind,
                 ownership,
-            } => match self.live.next_number(&Limits::VERSION_1) {
+            } => match self.live.next_number(&Limits::WRITTEN) {
                 Some(number) => Some(Picked {
                     change: Some(Change::Make {
                         directory,

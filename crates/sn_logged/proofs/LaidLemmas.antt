@@ -1,8 +1,11 @@
 -- A change that is prepared, and laid over.
-use Rattle.std.proofs.Common.{◌≡◌, List, true, false, Option, Some, None, is_some, refl, sym, ap, subst, ◌∙◌, ℕ}
+use Rattle.std.proofs.Common.{◌≡◌, List, true, Option, Some, None, is_some, refl, sym, ap, subst, ◌∙◌, ℕ}
 use Rattle.sn_directories.specs.Told.{IsShown, TellsDirectories}
 use Rattle.sn_directories.specs.declared.table.Counted.{Counted}
-use Rattle.sn_limits.specs.Versions.{version_1}
+use Rattle.sn_limits.proofs.VersionLemmas.{written_allows}
+use Rattle.sn_limits.specs.Versions.{limits_of, limits_written}
+use Rattle.sn_limits.specs.declared.limits.Limits.{Limits}
+use Rattle.sn_model.proofs.AllowedLemmas.{change_stays}
 use Rattle.sn_model.specs.declared.change.Change.{Change}
 use Rattle.sn_model.specs.ChangeLaws.{ChangesKeepTheTree}
 use Rattle.sn_model.specs.Changes.{apply}
@@ -25,36 +28,43 @@ pub can_be : {A : Type 0} (o : Option A) → true ≡ is_some o → (x : A) × (
 can_be None e = cc e
 can_be (Some x) e = (x, refl)
 
-module _ (older : Layer) (below : Tree) (rows next : List Counted) (change : Change) (p : PreparedChange) (new : Layer) (shown : IsShown older below rows) (can : CanBeLaid p (through older below) change) (is : new ≡ merge older (layer_of p.newer)) where
+-- What applies under limits that are read applies under the written ones, with the same result.
+pub applies_written : (limits : Limits) → limits_of limits.version ≡ Some limits → (change : Change) (tree after : Tree) → apply limits change tree ≡ Some after → apply limits_written change tree ≡ Some after
+applies_written limits version = change_stays limits limits_written (written_allows limits.version limits version)
+
+module _ (limits : Limits) (older : Layer) (below : Tree) (rows next : List Counted) (change : Change) (p : PreparedChange) (new : Layer) (shown : IsShown older below rows) (can : CanBeLaid limits p (through older below) change) (is : new ≡ merge older (layer_of p.newer)) where
   merged : MergesShowBoth → through new below ≡ can.after
   merged both = ap (λ (l : Layer). through l below) is ∙ both older (layer_of p.newer) below shown.lies.whole can.lies.whole shown.lies.fits can.lies.fits ∙ can.shows
 
-  pub laid_now : MergesShowBoth → apply version_1 change (through older below) ≡ Some (through new below)
+  pub laid_now : MergesShowBoth → apply limits change (through older below) ≡ Some (through new below)
   laid_now both = can.applied ∙ ap (λ (t : Tree). Some t) (sym (merged both))
 
-  pub still_shown : MergesShowBoth → MergesLie → ChangesKeepTheTree
-      → ((tree after : Tree) (c : Change) → IsTree version_1 tree → p.moves ≡ moves_of tree c → apply version_1 c tree ≡ Some after → TellsDirectories tree rows → TellsDirectories after next) → IsShown new below next
-  still_shown both lie keep notes = record {
+  pub still_shown : limits_of limits.version ≡ Some limits → MergesShowBoth → MergesLie → ChangesKeepTheTree
+      → ((tree after : Tree) (c : Change) → IsTree limits_written tree → p.moves ≡ moves_of tree c → apply limits_written c tree ≡ Some after → TellsDirectories tree rows → TellsDirectories after next) → IsShown new below next
+  still_shown version both lie keep notes = record {
     lies = subst (λ (l : Layer). LiesOver l below) (sym is) (lie older (layer_of p.newer) below shown.lies can.lies);
-    whole = subst (λ (t : Tree). IsTree version_1 t) (sym (merged both)) (keep version_1 change (through older below) can.after shown.whole can.applied);
-    tells = subst (λ (t : Tree). TellsDirectories t next) (sym (merged both)) (notes (through older below) can.after change shown.whole can.moves can.applied shown.tells);
+    whole = subst (λ (t : Tree). IsTree limits_written t) (sym (merged both)) (keep limits_written change (through older below) can.after shown.whole allowed);
+    tells = subst (λ (t : Tree). TellsDirectories t next) (sym (merged both)) (notes (through older below) can.after change shown.whole can.moves allowed shown.tells);
   }
+    where
+      allowed : apply limits_written change (through older below) ≡ Some can.after
+      allowed = applies_written limits version change (through older below) can.after can.applied
 
 -- What was prepared over a layer was laid over one that shows the same.
-pub laid_of : (older between : Layer) (below : Tree) (change : Change) (p : PreparedChange) (charge : ℕ) → charge ≡ p.charge → (after : Tree) → between ≡ older → CanBeLaid p (through older below) change
-    → apply version_1 change (through between below) ≡ Some after → IsLaid (Some charge) (through older below) change after
-laid_of older between below change p charge charged after same can applied = (ap (λ (l : Layer). apply version_1 change (through l below)) (sym same) ∙ applied, charged ∙ can.charged)
+pub laid_of : (limits : Limits) (older between : Layer) (below : Tree) (change : Change) (p : PreparedChange) (charge : ℕ) → charge ≡ p.charge → (after : Tree) → between ≡ older → CanBeLaid limits p (through older below) change
+    → apply limits change (through between below) ≡ Some after → IsLaid limits (Some charge) (through older below) change after
+laid_of limits older between below change p charge charged after same can applied = (ap (λ (l : Layer). apply limits change (through l below)) (sym same) ∙ applied, charged ∙ can.charged)
 
 -- what was prepared over a tree that shows what was shown before
-module _ (now live : Tree) (same : now ≡ live) (change : Change) where
-  pub can_be_laid : (charge : ℕ) (moves : NameMoves) (newer : Overlay) → IsHierarchy live → (after : Tree) → apply version_1 change live ≡ Some after
-      → ((a : Tree) → apply version_1 change now ≡ Some a → layer_of newer ≡ layer_of_change now change)
-      → ((a : Tree) → IsHierarchy now → apply version_1 change now ≡ Some a → through (layer_of newer) now ≡ a)
-      → ((a : Tree) → IsHierarchy now → apply version_1 change now ≡ Some a → LiesOver (layer_of newer) now)
-      → charge ≡ charge_for version_1 live change → moves ≡ moves_of live change → CanBeLaid (record { charge = charge; moves = moves; newer = newer }) live change
+module _ (limits : Limits) (now live : Tree) (same : now ≡ live) (change : Change) where
+  pub can_be_laid : (charge : ℕ) (moves : NameMoves) (newer : Overlay) → IsHierarchy live → (after : Tree) → apply limits change live ≡ Some after
+      → ((a : Tree) → apply limits change now ≡ Some a → layer_of newer ≡ layer_of_change now change)
+      → ((a : Tree) → IsHierarchy now → apply limits change now ≡ Some a → through (layer_of newer) now ≡ a)
+      → ((a : Tree) → IsHierarchy now → apply limits change now ≡ Some a → LiesOver (layer_of newer) now)
+      → charge ≡ charge_for limits live change → moves ≡ moves_of live change → CanBeLaid limits (record { charge = charge; moves = moves; newer = newer }) live change
   can_be_laid charge moves newer whole after applied layered shows lies charged moved =
       let whole_now = subst IsHierarchy (sym same) whole in
-      let applied_now = ap (apply version_1 change) same ∙ applied in
+      let applied_now = ap (apply limits change) same ∙ applied in
       record {
         after = after;
         applied = applied;
@@ -65,7 +75,7 @@ module _ (now live : Tree) (same : now ≡ live) (change : Change) where
         moves = moved;
       }
 
-  pub laid_there : (p : PreparedChange) → IsHierarchy live → true ≡ is_some (apply version_1 change live) → (IsHierarchy now → (a : Tree) → apply version_1 change now ≡ Some a → CanBeLaid p now change) → CanBeLaid p live change
+  pub laid_there : (p : PreparedChange) → IsHierarchy live → true ≡ is_some (apply limits change live) → (IsHierarchy now → (a : Tree) → apply limits change now ≡ Some a → CanBeLaid limits p now change) → CanBeLaid limits p live change
   laid_there p whole can prepared =
-      let made = can_be (apply version_1 change live) can in
-      subst (λ (t : Tree). CanBeLaid p t change) same (prepared (subst IsHierarchy (sym same) whole) made.0 (ap (apply version_1 change) same ∙ made.1))
+      let made = can_be (apply limits change live) can in
+      subst (λ (t : Tree). CanBeLaid limits p t change) same (prepared (subst IsHierarchy (sym same) whole) made.0 (ap (apply limits change) same ∙ made.1))

@@ -6,7 +6,7 @@ use Rattle.std.proofs.lemmas.Bool.{ltb-true, true≢false}
 use Rattle.std.proofs.lemmas.Map.Lookups.{exact_unsigned}
 use Rattle.sn_limits.specs.declared.kind.Kind.{Kind}
 use Rattle.sn_limits.specs.declared.kind.Kind.TheVariants.{File, Directory}
-use Rattle.sn_limits.specs.Versions.{version_1}
+use Rattle.sn_limits.specs.Versions.{limits_written}
 use Rattle.sn_model.specs.declared.change.Change.{Change}
 use Rattle.sn_model.specs.declared.change.Change.TheVariants.{Make, AddLink, Remove, Rename, Write, SetSize, SetAttributes}
 use Rattle.sn_model.specs.declared.change.Ownership.{Ownership}
@@ -39,8 +39,8 @@ abbrev pub Loses : Rows → Rows → ℕ → Type 0
 Loses old new directory = (tree : Tree) (link : Link) (number : ℕ) → TellsDirectories tree old → link.directory ≡ directory → map.get tree.links link ≡ Some number → TellsDirectories (take_link tree link) new
 
 -- a free number has no names
-free_unnamed : (tree : Tree) (number : ℕ) → IsHierarchy tree → is_free_number version_1 tree number ≡ true → names_for tree number ≡ 0
-free_unnamed tree number h e = told (is_none (map.get tree.nodes number)) refl (and_right (nat_lt 2 number && nat_le number version_1.largest_number) _ e)
+free_unnamed : (tree : Tree) (number : ℕ) → IsHierarchy tree → is_free_number limits_written tree number ≡ true → names_for tree number ≡ 0
+free_unnamed tree number h e = told (is_none (map.get tree.nodes number)) refl (and_right (nat_lt 2 number && nat_le number limits_written.largest_number) _ e)
   where
     told : (b : Bool) → is_none (map.get tree.nodes number) ≡ b → (is_none (map.get tree.nodes number) || (is_some (file_at tree number) && names_for tree number == 0)) ≡ true → names_for tree number ≡ 0
     told true f g = no_names_for tree number (λ link k. true≢false (sym (h.leads link number k) ∙ ap is_some (none_is _ f)))
@@ -127,24 +127,24 @@ first a b c d e = cc e
 second : (a b c d : ℕ) → Gain a b ≡ Gain c d → b ≡ d
 second a b c d e = cc e
 
-module _ (tree after : Tree) (whole : IsTree version_1 tree) (old new : Rows) (tells : TellsDirectories tree old) where
-  made_told : (d n : ℕ) (name : List ℕ) (kind : Kind) (o : Ownership) → Gains old new d n → apply version_1 (Make d name n kind o) tree ≡ Some after → TellsDirectories after new
+module _ (tree after : Tree) (whole : IsTree limits_written tree) (old new : Rows) (tells : TellsDirectories tree old) where
+  made_told : (d n : ℕ) (name : List ℕ) (kind : Kind) (o : Ownership) → Gains old new d n → apply limits_written (Make d name n kind o) tree ≡ Some after → TellsDirectories after new
   made_told d n name kind o gains e =
       let link = link_to d name in
-      let p = made_is version_1 tree link n kind o after e in
+      let p = made_is limits_written tree link n kind o after e in
       let none = free_unnamed tree n whole.hierarchy p.free in
       let base = put_node tree n (node_with kind o []) in
       let anew = node_put tree n (node_with kind o []) old (λ l f k. absurd (is_unnamed tree n none l f)) tells in
       subst (λ (t : Tree). TellsDirectories t new) p.gives (gains base link anew refl (vacant_absent tree link p.vacant) (ltb-true _ 65535 p.room.names) (λ k. none))
 
-  linked_told : (d n : ℕ) (name : List ℕ) → Gains old new d n → apply version_1 (AddLink d name n) tree ≡ Some after → TellsDirectories after new
+  linked_told : (d n : ℕ) (name : List ℕ) → Gains old new d n → apply limits_written (AddLink d name n) tree ≡ Some after → TellsDirectories after new
   linked_told d n name gains e =
       let link = link_to d name in
-      let p = linked_is version_1 tree link n after e in
+      let p = linked_is limits_written tree link n after e in
       let file = file_is tree n p.node p.file in
       subst (λ (t : Tree). TellsDirectories t new) p.gives (gains tree link tells refl (vacant_absent tree link p.vacant) (ltb-true _ 65535 p.room.names) (λ k. absurd (file_no_directory tree n p.node file.0 file.1 k)))
 
-  pub gained : (directory number : ℕ) (change : Change) → Gains old new directory number → Gain directory number ≡ moves_of tree change → apply version_1 change tree ≡ Some after → TellsDirectories after new
+  pub gained : (directory number : ℕ) (change : Change) → Gains old new directory number → Gain directory number ≡ moves_of tree change → apply limits_written change tree ≡ Some after → TellsDirectories after new
   gained directory number (Make d name n kind o) gains is e = made_told d n name kind o (subst (λ k. Gains old new d k) (second directory number d n is) (subst (λ k. Gains old new k number) (first directory number d n is) gains)) e
   gained directory number (AddLink d name n) gains is e = linked_told d n name (subst (λ k. Gains old new d k) (second directory number d n is) (subst (λ k. Gains old new k number) (first directory number d n is) gains)) e
   gained directory number (Remove d name) gains is e = absurd (gain_lose directory number d is)
@@ -164,13 +164,13 @@ module _ (tree after : Tree) (whole : IsTree version_1 tree) (old new : Rows) (t
 
   -- ---- a loss
 
-  removed_told : (d : ℕ) (name : List ℕ) → Loses old new d → apply version_1 (Remove d name) tree ≡ Some after → TellsDirectories after new
+  removed_told : (d : ℕ) (name : List ℕ) → Loses old new d → apply limits_written (Remove d name) tree ≡ Some after → TellsDirectories after new
   removed_told d name loses e =
       let link = link_to d name in
       let p = removed_is tree link after e in
       unlinked_told tree link p.number p.node after new (unlinked_is tree link p.number p.node after p.gone) (loses tree link p.number tells refl p.named)
 
-  pub lost : (directory : ℕ) (change : Change) → Loses old new directory → Lose directory ≡ moves_of tree change → apply version_1 change tree ≡ Some after → TellsDirectories after new
+  pub lost : (directory : ℕ) (change : Change) → Loses old new directory → Lose directory ≡ moves_of tree change → apply limits_written change tree ≡ Some after → TellsDirectories after new
   lost directory (Make d name n kind o) loses is e = absurd (gain_lose d n directory (sym is))
   lost directory (AddLink d name n) loses is e = absurd (gain_lose d n directory (sym is))
   lost directory (Remove d name) loses is e = removed_told d name (subst (λ k. Loses old new k) (lose_same directory d is) loses) e
@@ -211,26 +211,26 @@ other_object number None a b from to n r f g = true≢false (sym f)
 other_object number (Some m) a b from to n r f g = stay_move from to n r (sym (g ∙ ap (λ (t : Bool). cond t Stay (Move a b number true)) (turned number m true f)))
 
 module _ (tree after : Tree) (rows : Rows) (tells : TellsDirectories tree rows) where
-  stayed_renaming : (old new : Link) (p : Renamed version_1 tree old new after) → Stay ≡ moving (Some p.number) (map.get tree.links new) old.directory new.directory → TellsDirectories after rows
+  stayed_renaming : (old new : Link) (p : Renamed limits_written tree old new after) → Stay ≡ moving (Some p.number) (map.get tree.links new) old.directory new.directory → TellsDirectories after rows
   stayed_renaming old new p is = told p.done
     where
-      told : IsRenamed version_1 tree old new p.number p.node after → TellsDirectories after rows
+      told : IsRenamed limits_written tree old new p.number p.node after → TellsDirectories after rows
       told (inl same) = subst (λ (t : Tree). TellsDirectories t rows) same.1 tells
       told (inr moves) = absurd (one_object p.number (map.get tree.links new) old.directory new.directory moves.0 is)
 
-  pub stayed : (change : Change) → Stay ≡ moves_of tree change → apply version_1 change tree ≡ Some after → TellsDirectories after rows
+  pub stayed : (change : Change) → Stay ≡ moves_of tree change → apply limits_written change tree ≡ Some after → TellsDirectories after rows
   stayed (Make d name n kind o) is e = absurd (gain_stay d n (sym is))
   stayed (AddLink d name n) is e = absurd (gain_stay d n (sym is))
   stayed (Remove d name) is e = absurd (lose_stay d (sym is))
   stayed (Rename a x b y) is e =
-      let p = renamed_is version_1 tree (link_to a x) (link_to b y) after e in
+      let p = renamed_is limits_written tree (link_to a x) (link_to b y) after e in
       stayed_renaming (link_to a x) (link_to b y) p (is ∙ ap (λ (o : Option ℕ). moving o (map.get tree.links (link_to b y)) a b) p.named)
   stayed (Write n offset bytes) is e =
-      let p = written_is version_1 tree n offset bytes after e in
+      let p = written_is limits_written tree n offset bytes after e in
       let file = file_is tree n p.node p.file in
       subst (λ (t : Tree). TellsDirectories t rows) p.gives (same_kind_put tree n p.node _ rows file.0 refl tells)
   stayed (SetSize n size) is e =
-      let p = cut_is version_1 tree n size after e in
+      let p = cut_is limits_written tree n size after e in
       let file = file_is tree n p.node p.file in
       subst (λ (t : Tree). TellsDirectories t rows) p.gives (same_kind_put tree n p.node _ rows file.0 refl tells)
   stayed (SetAttributes n o) is e =
@@ -245,7 +245,7 @@ record IsReplaced (tree : Tree) (old new : Link) (number : ℕ) (rows : Rows) (c
   kinds : HasKind cleared number Directory → HasKind tree number Directory
   told : TellsDirectories cleared rows
 
-module _ (tree after : Tree) (whole : IsTree version_1 tree) (old new : Link) (number : ℕ) (node : Node) (named : map.get tree.links old ≡ Some number) (apart : same_number number (map.get tree.links new) ≡ false) (m : Moved version_1 tree old new number node after) where
+module _ (tree after : Tree) (whole : IsTree limits_written tree) (old new : Link) (number : ℕ) (node : Node) (named : map.get tree.links old ≡ Some number) (apart : same_number number (map.get tree.links new) ≡ false) (m : Moved limits_written tree old new number node after) where
   -- the names differ, since one is another's
   old_new : old ≢ new
   old_new same = true≢false (sym (ap (same_number number) (ap (map.get tree.links) (sym same) ∙ named) ∙ eq-eqb number number refl) ∙ apart)
@@ -301,10 +301,10 @@ module _ (tree after : Tree) (whole : IsTree version_1 tree) (old new : Link) (n
       kinds_of x (inr q) kind = subst (λ (t : Tree). HasKind t number Directory) (sym q.gives) kind
 
 -- what the table's calls make of a move
-module _ (tree after : Tree) (whole : IsTree version_1 tree) (one mid two end : Rows) (tells : TellsDirectories tree one) (from to number : ℕ) (replaces : Bool)
+module _ (tree after : Tree) (whole : IsTree limits_written tree) (one mid two end : Rows) (tells : TellsDirectories tree one) (from to number : ℕ) (replaces : Bool)
     (loses_if : (t : Tree) (link : Link) (n : ℕ) → replaces ≡ true → TellsDirectories t one → link.directory ≡ to → map.get t.links link ≡ Some n → TellsDirectories (take_link t link) mid) (keeps : replaces ≡ false → mid ≡ one)
     (loses : Loses mid two from) (gains : Gains two end to number) where
-  by_target : (old new : Link) (n : ℕ) (node : Node) (target : Option ℕ) → map.get tree.links new ≡ target → map.get tree.links old ≡ Some n → same_number n (map.get tree.links new) ≡ false → Moved version_1 tree old new n node after
+  by_target : (old new : Link) (n : ℕ) (node : Node) (target : Option ℕ) → map.get tree.links new ≡ target → map.get tree.links old ≡ Some n → same_number n (map.get tree.links new) ≡ false → Moved limits_written tree old new n node after
       → Move from to number replaces ≡ moving (Some n) target old.directory new.directory → TellsDirectories after end
   by_target old new n node None has named apart m is =
       let a = old.directory in
@@ -323,19 +323,19 @@ module _ (tree after : Tree) (whole : IsTree version_1 tree) (one mid two end : 
           (subst (λ k. Loses mid two k) (move_from from to number old.directory new.directory n replaces true f) loses)
           (subst (λ k. Gains two end k n) (move_to from to number old.directory new.directory n replaces true f) (subst (λ k. Gains two end to k) (move_number from to number old.directory new.directory n replaces true f) gains))
 
-  moved_renaming : (old new : Link) (p : Renamed version_1 tree old new after) → Move from to number replaces ≡ moving (Some p.number) (map.get tree.links new) old.directory new.directory → TellsDirectories after end
+  moved_renaming : (old new : Link) (p : Renamed limits_written tree old new after) → Move from to number replaces ≡ moving (Some p.number) (map.get tree.links new) old.directory new.directory → TellsDirectories after end
   moved_renaming old new p is = told p.done
     where
-      told : IsRenamed version_1 tree old new p.number p.node after → TellsDirectories after end
+      told : IsRenamed limits_written tree old new p.number p.node after → TellsDirectories after end
       told (inl same) = absurd (other_object p.number (map.get tree.links new) old.directory new.directory from to number replaces same.0 is)
       told (inr moves) = by_target old new p.number p.node (map.get tree.links new) refl p.named moves.0 moves.1 is
 
-  pub moved_told : (change : Change) → Move from to number replaces ≡ moves_of tree change → apply version_1 change tree ≡ Some after → TellsDirectories after end
+  pub moved_told : (change : Change) → Move from to number replaces ≡ moves_of tree change → apply limits_written change tree ≡ Some after → TellsDirectories after end
   moved_told (Make d name n kind o) is e = absurd (gain_move d n from to number replaces (sym is))
   moved_told (AddLink d name n) is e = absurd (gain_move d n from to number replaces (sym is))
   moved_told (Remove d name) is e = absurd (lose_move d from to number replaces (sym is))
   moved_told (Rename a x b y) is e =
-      let p = renamed_is version_1 tree (link_to a x) (link_to b y) after e in
+      let p = renamed_is limits_written tree (link_to a x) (link_to b y) after e in
       moved_renaming (link_to a x) (link_to b y) p (is ∙ ap (λ (o : Option ℕ). moving o (map.get tree.links (link_to b y)) a b) p.named)
   moved_told (Write n offset bytes) is e = absurd (stay_move from to number replaces (sym is))
   moved_told (SetSize n size) is e = absurd (stay_move from to number replaces (sym is))

@@ -1,6 +1,6 @@
 -- What is prepared for a change of a tree, and what it comes to.
 use Rattle.std.specs.Prelude.{◌≡◌, ℕ, Option, None, Some}
-use Rattle.sn_limits.specs.Versions.{version_1}
+use Rattle.sn_limits.specs.declared.limits.Limits.{Limits}
 use Rattle.sn_model.specs.declared.change.Change.{Change}
 use Rattle.sn_model.specs.Changes.{apply}
 use Rattle.sn_model.specs.Charges.{charge_for}
@@ -21,22 +21,22 @@ charge_of p = p.charge
 abbrev pub HasRoomFor : Overlay → PreparedChange → ℕ → Type 0
 HasRoomFor overlay p drops = HasRoom overlay (and_drops (sizes_of p.newer) drops)
 
--- A change can be applied to a tree. Its overlay has the layer of the change; through it, and it lies over the tree, the tree is what the change makes of it; it is charged so much, and does so to names.
-pub record CanBeLaid (p : PreparedChange) (live : Tree) (change : Change) : Type 0 where
+-- A change can be applied to a tree under limits. Its overlay has the layer of the change; through it, and it lies over the tree, the tree is what the change makes of it; it is charged so much, and does so to names.
+pub record CanBeLaid (limits : Limits) (p : PreparedChange) (live : Tree) (change : Change) : Type 0 where
   pub after : Tree
-  pub applied : apply version_1 change live ≡ Some after
+  pub applied : apply limits change live ≡ Some after
   pub layer : layer_of p.newer ≡ layer_of_change live change
   pub shows : through (layer_of p.newer) live ≡ after
   pub lies : LiesOver (layer_of p.newer) live
-  pub charged : p.charge ≡ charge_for version_1 live change
+  pub charged : p.charge ≡ charge_for limits live change
   pub moves : p.moves ≡ moves_of live change
 
 -- or it can't be applied
-abbrev pub IsPrepared : Option PreparedChange → Tree → Change → Type 0
-IsPrepared None live change = apply version_1 change live ≡ None
-IsPrepared (Some p) live change = CanBeLaid p live change
+abbrev pub IsPrepared : Limits → Option PreparedChange → Tree → Change → Type 0
+IsPrepared limits None live change = apply limits change live ≡ None
+IsPrepared limits (Some p) live change = CanBeLaid limits p live change
 
 -- The change was applied to a tree, and is charged so much; or it can't be applied, and the tree is as it was.
-abbrev pub IsLaid : Option ℕ → Tree → Change → Tree → Type 0
-IsLaid None live change after = (apply version_1 change live ≡ None) × (after ≡ live)
-IsLaid (Some charge) live change after = (apply version_1 change live ≡ Some after) × (charge ≡ charge_for version_1 live change)
+abbrev pub IsLaid : Limits → Option ℕ → Tree → Change → Tree → Type 0
+IsLaid limits None live change after = (apply limits change live ≡ None) × (after ≡ live)
+IsLaid limits (Some charge) live change after = (apply limits change live ≡ Some after) × (charge ≡ charge_for limits live change)

@@ -1,7 +1,8 @@
 //! A change laid over what is seen.
 ghost use Rattle.std.specs.Prelude.{◌≡◌, ℕ, ◌≤◌, ◌^◌, Some, IsTrue, IfOk, IfSome, OnOk};
 ghost use Rattle.sn_directories.specs.Told.{IsShown};
-ghost use Rattle.sn_limits.specs.Versions.{version_1};
+ghost use Rattle.sn_limits.specs.Versions.{limits_of};
+ghost use Rattle.sn_limits.specs.declared.limits.Limits.{Limits as TheLimits};
 ghost use Rattle.sn_logged.specs.Laid.{CanBeLaid, HasRoomFor, IsLaid, IsPrepared, charge_of};
 ghost use Rattle.sn_model.specs.Changes.{apply};
 ghost use Rattle.sn_model.specs.Tree.{Tree};
@@ -15,6 +16,7 @@ ghost use Rattle.sn_overlay_change.specs.Faults.{IfBelow};
 use crate::moving::note_moves;
 use crate::preparing::{PreparedChange, prepare};
 use sn_directories::{Directories, KeepsNames, LoggedTree};
+use sn_limits::Limits;
 use sn_model::{Change, changes_keep_the_tree};
 use sn_overlay::{Overlay, Through, merges_lie, merges_show_both};
 use sn_overlay_change::LayerFault;
@@ -23,17 +25,19 @@ use std::alloc::Global;
 // What is prepared for a change of what is seen, `None` where it can't be applied.
 fn prepare_over<'x, B: KeepsNames>(
     alloc: Global,
+    limits: &Limits,
     below: &'x mut B,
     overlay: &'x Overlay,
     directories: &'x Directories,
     change: &Change<'_>,
 ) -> Result<Option<PreparedChange>, LayerFault<B::Fault>>
     requires holds { B.holds below.old }
+    requires version { limits_of limits.now.version ≡ Some limits.now }
     requires shown { IsTrue B.is_told → IsShown (layer_of overlay.now) (B.shows below.old) directories.now }
     ensures kept { B.holds below.new }
     ensures follows { B.follows below.old below.new }
     ensures same { IsTrue B.is_told → B.shows below.new ≡ B.shows below.old }
-    ensures found { IsTrue B.is_told → IfOk result (λ p. IsPrepared p (through (layer_of overlay.now) (B.shows below.old)) change.now) }
+    ensures found { IsTrue B.is_told → IfOk result (λ p. IsPrepared limits.now p (through (layer_of overlay.now) (B.shows below.old)) change.now) }
     ensures few { IfOk result (λ p. IfSome p (λ prepared. prepared.charge ≤ 2 ^ 64)) }
     ensures cause { IfBelow result (λ f. B.causes below.old below.new f) }
 {
@@ -41,14 +45,15 @@ fn prepare_over<'x, B: KeepsNames>(
         shown: Through { overlay, below },
         directories,
     };
-    prepare(alloc, &mut live, change)
+    prepare(alloc, limits, &mut live, change)
 }
 
-/// Reads and grows all that a change of what is seen asks for, where it can be applied: its layer, its charge, and room for
-/// it in the overlay, and for so many drops beside. `None` where it can't be applied. Nothing that is seen changes, and no
-/// room is lost, whatever the answer. A fault is one of the tree below, or of memory.
+/// Reads and grows all that a change of what is seen asks for, where it can be applied under the limits: its layer, its
+/// charge, and room for it in the overlay, and for so many drops beside. `None` where it can't be applied. Nothing that is
+/// seen changes, and no room is lost, whatever the answer. A fault is one of the tree below, or of memory.
 pub fn prepare_change<B: KeepsNames>(
     alloc: Global,
+    limits: &Limits,
     below: &mut B,
     overlay: &mut Overlay,
     directories: &Directories,
@@ -56,18 +61,19 @@ pub fn prepare_change<B: KeepsNames>(
     drops: u16,
 ) -> Result<Option<PreparedChange>, LayerFault<B::Fault>>
     requires holds { B.holds below.old }
+    requires version { limits_of limits.now.version ≡ Some limits.now }
     requires shown { IsTrue B.is_told → IsShown (layer_of overlay.old) (B.shows below.old) directories.now }
     ensures kept { B.holds below.new }
     ensures follows { B.follows below.old below.new }
     ensures same { IsTrue B.is_told → B.shows below.new ≡ B.shows below.old }
     ensures layer { layer_of overlay.new ≡ layer_of overlay.old }
-    ensures prepared { IsTrue B.is_told → IfOk result (λ p. IsPrepared p (through (layer_of overlay.old) (B.shows below.old)) change.now) }
+    ensures prepared { IsTrue B.is_told → IfOk result (λ p. IsPrepared limits.now p (through (layer_of overlay.old) (B.shows below.old)) change.now) }
     ensures room { IfOk result (λ p. IfSome p (λ prepared. HasRoomFor overlay.new prepared drops)) }
     ensures stays { TakesRoom overlay.old overlay.new (record { nodes = 0; names = 0; blocks = 0 }) }
     ensures few { IfOk result (λ p. IfSome p (λ prepared. charge_of prepared ≤ 2 ^ 64)) }
     ensures cause { IfBelow result (λ f. B.causes below.old below.new f) }
 {
-    let Some(prepared) = prepare_over(alloc, below, overlay, directories, change)? else {
+    let Some(prepared) = prepare_over(alloc, limits, below, overlay, directories, change)? else {
         return Ok(None);
     };
     overlay.reserve_beside(&prepared.newer, drops)?;
@@ -79,11 +85,11 @@ pub fn prepare_change<B: KeepsNames>(
 /// there was beside the change. What the overlay makes different is then what it did, and what the change does beside.
 pub fn commit_change(prepared: PreparedChange, overlay: &mut Overlay, directories: &mut Directories)
     requires { HasRoomFor overlay.old prepared 0 }
-    ensures shown { (below : Tree) (change : TheChange) → IsShown (layer_of overlay.old) below directories.old → CanBeLaid prepared (through (layer_of overlay.old) below) change
+    ensures shown { (limits : TheLimits) (below : Tree) (change : TheChange) → limits_of limits.version ≡ Some limits → IsShown (layer_of overlay.old) below directories.old → CanBeLaid limits prepared (through (layer_of overlay.old) below) change
         → IsShown (layer_of overlay.new) below directories.new }
-    ensures laid { (below : Tree) (change : TheChange) → IsShown (layer_of overlay.old) below directories.old → CanBeLaid prepared (through (layer_of overlay.old) below) change
-        → apply version_1 change (through (layer_of overlay.old) below) ≡ Some (through (layer_of overlay.new) below) }
-    ensures merged { (live : Tree) (change : TheChange) → CanBeLaid prepared live change → layer_of overlay.new ≡ merge (layer_of overlay.old) (layer_of_change live change) }
+    ensures laid { (limits : TheLimits) (below : Tree) (change : TheChange) → limits_of limits.version ≡ Some limits → IsShown (layer_of overlay.old) below directories.old → CanBeLaid limits prepared (through (layer_of overlay.old) below) change
+        → apply limits change (through (layer_of overlay.old) below) ≡ Some (through (layer_of overlay.new) below) }
+    ensures merged { (limits : TheLimits) (live : Tree) (change : TheChange) → CanBeLaid limits prepared live change → layer_of overlay.new ≡ merge (layer_of overlay.old) (layer_of_change live change) }
     ensures drops { (drops : ℕ) → HasRoomFor overlay.old prepared drops → HasRoom overlay.new (record { nodes = drops; names = 0; blocks = 0 }) }
 {
     changes_keep_the_tree();
@@ -93,26 +99,29 @@ pub fn commit_change(prepared: PreparedChange, overlay: &mut Overlay, directorie
     note_moves(directories, prepared.moves);
 }
 
-/// Lays a change over what is seen of a tree below, where it can be applied, and answers what it is charged. `None` where
-/// it can't be applied; then all is as it was. A fault is one of the tree below, or of memory.
+/// Lays a change over what is seen of a tree below, where it can be applied under the limits, and answers what it is
+/// charged. `None` where it can't be applied; then all is as it was. A fault is one of the tree below, or of memory.
 pub fn lay_change<B: KeepsNames>(
     alloc: Global,
+    limits: &Limits,
     below: &mut B,
     overlay: &mut Overlay,
     directories: &mut Directories,
     change: &Change<'_>,
 ) -> Result<Option<u128>, LayerFault<B::Fault>>
     requires holds { B.holds below.old }
+    requires version { limits_of limits.now.version ≡ Some limits.now }
     requires shown { IsTrue B.is_told → IsShown (layer_of overlay.old) (B.shows below.old) directories.old }
     ensures kept { B.holds below.new }
     ensures follows { B.follows below.old below.new }
     ensures same { IsTrue B.is_told → B.shows below.new ≡ B.shows below.old }
     ensures shown { IsTrue B.is_told → OnOk result (IsShown (layer_of overlay.new) (B.shows below.old) directories.new) }
-    ensures laid { IsTrue B.is_told → IfOk result (λ charge. IsLaid charge (through (layer_of overlay.old) (B.shows below.old)) change.now (through (layer_of overlay.new) (B.shows below.old))) }
+    ensures laid { IsTrue B.is_told → IfOk result (λ charge. IsLaid limits.now charge (through (layer_of overlay.old) (B.shows below.old)) change.now (through (layer_of overlay.new) (B.shows below.old))) }
     ensures few { IfOk result (λ charge. IfSome charge (λ n. n ≤ 2 ^ 64)) }
     ensures cause { IfBelow result (λ f. B.causes below.old below.new f) }
 {
-    let Some(prepared) = prepare_change(alloc, below, overlay, directories, change, 0)? else {
+    let Some(prepared) = prepare_change(alloc, limits, below, overlay, directories, change, 0)?
+    else {
         return Ok(None);
     };
     let charge = prepared.charge();

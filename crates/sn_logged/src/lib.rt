@@ -5,7 +5,8 @@
 //! directories. Whether the next change can be applied is asked of that (`sn_applies`); if it can, its own overlay
 //! (`sn_overlay_change`) is laid over the older one, and the table goes on with it.
 //!
-//! The model is `apply` and `charge_for` of `sn_model`, over the tree that is seen.
+//! The model is `apply` and `charge_for` of `sn_model`, over the tree that is seen, and under the limits that a caller hands
+//! in: those of the root that the journal follows, or those that calls run under.
 //!
 //! The way through it:
 //!
@@ -18,7 +19,7 @@
 //! What the sources leave open is decided in `docs/DECISIONS.md`, under "What changed since a root".
 //!
 //! ```text
-//! match lay_change(alloc, &mut root, &mut changed, &mut directories, &change)? {
+//! match lay_change(alloc, &limits, &mut root, &mut changed, &mut directories, &change)? {
 //!     Some(charge) => charges += charge,
 //!     None => return Err(Fault::CannotApply),
 //! }

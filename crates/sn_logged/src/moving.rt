@@ -2,7 +2,7 @@
 ghost use Rattle.std.specs.Prelude.{◌≡◌, ℕ, false, true, Some, IsTrue, IfErr, IfOk};
 ghost use Rattle.std.specs.FinMap as map;
 ghost use Rattle.sn_directories.specs.Told.{TellsDirectories};
-ghost use Rattle.sn_limits.specs.Versions.{version_1};
+ghost use Rattle.sn_limits.specs.Versions.{limits_written};
 ghost use Rattle.sn_logged.specs.Moves.{moves_of, renaming};
 ghost use Rattle.sn_model.specs.Changes.{apply, take_link};
 ghost use Rattle.sn_model.specs.NameTree.{IsTree};
@@ -129,7 +129,7 @@ fn lose_if(directories: &mut Directories, loses: bool, directory: u16)
 
 // A name of a directory goes, and one of the other comes.
 fn note_move(directories: &mut Directories, from: u16, to: u16, number: u16, replaces: bool)
-    ensures { (tree after : Tree) (change : TheChange) → IsTree version_1 tree → Move from to number replaces ≡ moves_of tree change → apply version_1 change tree ≡ Some after
+    ensures { (tree after : Tree) (change : TheChange) → IsTree limits_written tree → Move from to number replaces ≡ moves_of tree change → apply limits_written change tree ≡ Some after
         → TellsDirectories tree directories.old → TellsDirectories after directories.new }
 {
     lose_if(directories, replaces, to);
@@ -139,7 +139,7 @@ fn note_move(directories: &mut Directories, from: u16, to: u16, number: u16, rep
 
 /// Notes what a change has done to names: the table tells the directories of the tree behind it.
 pub(crate) fn note_moves(directories: &mut Directories, moves: NameMoves)
-    ensures { (tree after : Tree) (change : TheChange) → IsTree version_1 tree → moves ≡ moves_of tree change → apply version_1 change tree ≡ Some after
+    ensures { (tree after : Tree) (change : TheChange) → IsTree limits_written tree → moves ≡ moves_of tree change → apply limits_written change tree ≡ Some after
         → TellsDirectories tree directories.old → TellsDirectories after directories.new }
 {
     match moves {

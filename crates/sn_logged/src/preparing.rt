@@ -1,6 +1,6 @@
 //! What is read and grown for a change before it is laid over.
 ghost use Rattle.std.specs.Prelude.{◌≡◌, ◌≤◌, ◌^◌, Some, IsTrue, IfOk, IfSome};
-ghost use Rattle.sn_limits.specs.Versions.{version_1};
+ghost use Rattle.sn_limits.specs.Versions.{limits_of};
 ghost use Rattle.sn_logged.specs.Laid.{CanBeLaid, IsPrepared, charge_of};
 ghost use Rattle.sn_model.specs.Changes.{apply};
 ghost use Rattle.sn_model.specs.NameTree.{IsHierarchy};
@@ -37,19 +37,21 @@ impl PreparedChange {
 // What is prepared for a change that can be applied.
 fn prepare_possible<T: NamedTree>(
     alloc: Global,
+    limits: &Limits,
     tree: &mut T,
     change: &Change<'_>,
 ) -> Result<PreparedChange, LayerFault<T::Fault>>
-    requires { T.holds tree.old }
+    requires holds { T.holds tree.old }
+    requires version { limits_of limits.now.version ≡ Some limits.now }
     ensures kept { T.holds tree.new }
     ensures follows { T.follows tree.old tree.new }
     ensures same { IsTrue T.is_told → T.shows tree.new ≡ T.shows tree.old }
-    ensures found { IsTrue T.is_told → IsHierarchy (T.shows tree.old) → (after : Tree) → apply version_1 change.now (T.shows tree.old) ≡ Some after
-        → IfOk result (λ p. CanBeLaid p (T.shows tree.old) change.now) }
+    ensures found { IsTrue T.is_told → IsHierarchy (T.shows tree.old) → (after : Tree) → apply limits.now change.now (T.shows tree.old) ≡ Some after
+        → IfOk result (λ p. CanBeLaid limits.now p (T.shows tree.old) change.now) }
     ensures few { IfOk result (λ p. p.charge ≤ 2 ^ 64) }
     ensures cause { IfBelow result (λ f. T.causes tree.old tree.new f) }
 {
-    let charge = match charge(&Limits::VERSION_1, tree, change) {
+    let charge = match charge(limits, tree, change) {
         Ok(charge) => charge,
         Err(fault) => return Err(LayerFault::Below(fault)),
     };
@@ -57,7 +59,7 @@ fn prepare_possible<T: NamedTree>(
         Ok(moves) => moves,
         Err(fault) => return Err(LayerFault::Below(fault)),
     };
-    let newer = of_change(alloc, &Limits::VERSION_1, tree, change)?;
+    let newer = of_change(alloc, limits, tree, change)?;
     Ok(PreparedChange {
         charge,
         moves,
@@ -68,23 +70,25 @@ fn prepare_possible<T: NamedTree>(
 /// What is prepared for a change, `None` where it can't be applied.
 pub(crate) fn prepare<T: NamedTree>(
     alloc: Global,
+    limits: &Limits,
     tree: &mut T,
     change: &Change<'_>,
 ) -> Result<Option<PreparedChange>, LayerFault<T::Fault>>
-    requires { T.holds tree.old }
+    requires holds { T.holds tree.old }
+    requires version { limits_of limits.now.version ≡ Some limits.now }
     ensures kept { T.holds tree.new }
     ensures follows { T.follows tree.old tree.new }
     ensures same { IsTrue T.is_told → T.shows tree.new ≡ T.shows tree.old }
-    ensures found { IsTrue T.is_told → IsHierarchy (T.shows tree.old) → IfOk result (λ p. IsPrepared p (T.shows tree.old) change.now) }
+    ensures found { IsTrue T.is_told → IsHierarchy (T.shows tree.old) → IfOk result (λ p. IsPrepared limits.now p (T.shows tree.old) change.now) }
     ensures few { IfOk result (λ p. IfSome p (λ prepared. prepared.charge ≤ 2 ^ 64)) }
     ensures cause { IfBelow result (λ f. T.causes tree.old tree.new f) }
 {
-    match applies(&Limits::VERSION_1, tree, change) {
+    match applies(limits, tree, change) {
         Ok(true) => {}
         Ok(false) => return Ok(None),
         Err(fault) => return Err(LayerFault::Below(fault)),
     }
-    match prepare_possible(alloc, tree, change) {
+    match prepare_possible(alloc, limits, tree, change) {
         Ok(prepared) => Ok(Some(prepared)),
         Err(fault) => Err(fault),
     }

@@ -8,7 +8,7 @@ use Rattle.std.proofs.lemmas.List.{get_or-append_right, get_or_append_left, leng
 use Rattle.std.proofs.lemmas.List.Sums.{sum_by-cons}
 use Rattle.std.proofs.lemmas.Nat.Bits.{bit_at-pow_other, bit_at-pow_same, bit_at-zero}
 use Rattle.sn_device.specs.Sectors.{AreSectors, Contents}
-use Rattle.sn_limits.specs.Versions.{version_1}
+use Rattle.sn_limits.specs.Versions.{limits_written}
 use Rattle.sn_layout.specs.Geometry.{IsDiskSize, start_of}
 use Rattle.sn_layout.specs.declared.geometry.Area.TheVariants.{Data}
 use Rattle.sn_layout.specs.declared.geometry.Slot.TheVariants.{A}
@@ -121,7 +121,7 @@ module _ (sectors n : ℕ) (c : Contents) (room : HasRoom sectors n) (fresh : Is
 
   sound_root : IsSoundRoot n store (fresh_root n) (map_word n c A)
   sound_root = record {
-    roots = λ r among. subst (λ (t : BlockTree). IsSound version_1 n store t) (ap (λ (x : Rooted). x.inodes) (only_among root_rooted r among)) (is_sound n store fresh.prepared.inodes (room_for_data n room.size));
+    roots = λ r among. subst (λ (t : BlockTree). IsSound limits_written n store t) (ap (λ (x : Rooted). x.inodes) (only_among root_rooted r among)) (is_sound n store fresh.prepared.inodes (room_for_data n room.size));
     map = λ block within. subst (IsSetOfRoots store (rooted_in (fresh_root n)) block) (sym (map_word-spelled n c A (fresh_words n) fresh.prepared.map block)) (⊎_elim
         (λ (same : block ≡ start_of n Data). subst (λ (b : ℕ). IsSetOfRoots store (rooted_in (fresh_root n)) b (slice_index (fresh_words n) b)) (sym same)
         (subst (IsSetOfRoots store (rooted_in (fresh_root n)) (start_of n Data)) (sym (word_first n)) set_first))
@@ -170,11 +170,11 @@ module _ (sectors n : ℕ) (c : Contents) (room : HasRoom sectors n) (fresh : Is
   none_left : nameless_in tree ≡ 0
   none_left = ap nameless_in (image_is n store fresh.prepared.inodes) ∙ none_nameless
 
-  replayed : (epoch : ℕ) → AreReplayed c version_1 tree n epoch [] tree
+  replayed : (epoch : ℕ) → AreReplayed c limits_written tree n epoch [] tree
   unfolding apply_all
   replayed epoch = record { spelled = tt; records = replays epoch; applied = refl }
 
-  fits : Fits version_1 [] tree (free_blocks n store (fresh_root n))
+  fits : Fits limits_written [] tree (free_blocks n store (fresh_root n))
   unfolding charges_from
   fits = omega (arith, none_left)
 

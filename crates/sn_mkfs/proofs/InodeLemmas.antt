@@ -3,7 +3,7 @@ use Rattle.std.proofs.Common.{◌≡◌, ◌≢◌, ⊎_elim, ℕ, ◌+◌, ◌-
 use Rattle.std.specs.Prelude.{nat_le, nat_lt, slice_index}
 use Rattle.std.proofs.lemmas.Bool.{cases_eq, cases_lt, leb-true, ltb-true, ne_eqb}
 use Rattle.std.proofs.lemmas.List.{get_or-replicate, get_or_past, length-replicate, take-append-drop, take-append-le, drop-append-le, take-replicate, drop-replicate, take_at, drop_at, drop-drop}
-use Rattle.sn_limits.specs.Versions.{version_1}
+use Rattle.sn_limits.specs.Versions.{limits_written}
 use Rattle.sn_layout.specs.Bytes.{Puts, number_bytes, zeros}
 use Rattle.sn_layout.specs.Geometry.{start_of}
 use Rattle.sn_layout.specs.declared.geometry.Area.TheVariants.{Data}
@@ -20,7 +20,7 @@ zero_at k i = ⊎_elim (λ (within : i < k). get_or-replicate k i 0 0 within) (�
 
 -- ---- the root directory
 
-pub directory_fits : IsInode version_1 root_directory
+pub directory_fits : IsInode limits_written root_directory
 directory_fits = record {
   objects = record { owner = omega arith; group = omega arith; other = omega arith };
   links = refl;
@@ -114,7 +114,7 @@ module _ (n : ℕ) (s : Store) (here : s (start_of n Data) ≡ inode_block) wher
 
   pub directory_inode : inode_at s (inode_file n) 2 ≡ Some root_directory
   unfolding inode_at
-  directory_inode = ap inode_of directory_record ∙ inode_read version_1 root_directory directory_fits
+  directory_inode = ap inode_of directory_record ∙ inode_read limits_written root_directory directory_fits
 
   -- no other number is used
   pub no_inode : (number : ℕ) → number ≢ 2 → inode_at s (inode_file n) number ≡ None

@@ -11,7 +11,7 @@ use Rattle.std.proofs.lemmas.Bool.{cases_eq, cases_lt, ne_eqb}
 use Rattle.std.proofs.lemmas.List.Sums.{sum_by-cons}
 use Rattle.std.proofs.lemmas.Map.Lookups.{exact_unsigned}
 use Rattle.sn_device.proofs.SectorLemmas.{Contains-cases}
-use Rattle.sn_limits.specs.Versions.{version_1}
+use Rattle.sn_limits.specs.Versions.{limits_written}
 use Rattle.sn_limits.specs.declared.kind.Kind.TheVariants.{File, Directory}
 use Rattle.sn_layout.specs.Bytes.{zeros}
 use Rattle.sn_layout.specs.Geometry.{start_of}
@@ -154,7 +154,7 @@ module _ (n : ℕ) (s : Store) (here : s (start_of n Data) ≡ inode_block) wher
           (λ (apart : x ≡ block → ⊥). omega (arith, times-other block x apart))
           (cases_eq x block)
 
-  file : IsInodeFile version_1 (inode_file n)
+  file : IsInodeFile limits_written (inode_file n)
   file = record { least = omega arith; most = omega arith; whole = omega arith }
 
   past_pointer : (depth i : ℕ) → depth ≤ 0 → 4096 ≤ i * span_at 4096 depth → entry s depth (inode_file n).pointers i ≡ 0
@@ -171,23 +171,23 @@ module _ (n : ℕ) (s : Store) (here : s (start_of n Data) ≡ inode_block) wher
   ends : EndsAtSize s (inode_file n)
   ends = record { pointers = past_pointer; bytes = past_byte }
 
-  unused_is : SpellsRecord version_1 (zeros 128)
+  unused_is : SpellsRecord limits_written (zeros 128)
   unused_is = (Unused, tt, refl)
 
-  records : HasRecords version_1 s (inode_file n)
+  records : HasRecords limits_written s (inode_file n)
   records = record {
     spelled = λ number low. spelled number low;
     reserved = reserved_record n s here;
     root = subst (λ (o : Option Inode). IsSomeAnd o (λ inode. inode.kind ≡ Directory)) (sym (directory_inode n s here)) refl;
   }
     where
-      spelled : (number : ℕ) → number < 4096 / 128 → SpellsRecord version_1 (record_at s (inode_file n) number)
+      spelled : (number : ℕ) → number < 4096 / 128 → SpellsRecord limits_written (record_at s (inode_file n) number)
       spelled number low = ⊎_elim
-          (λ (few : number < 2). subst (SpellsRecord version_1) (sym (reserved_record n s here number few)) unused_is)
+          (λ (few : number < 2). subst (SpellsRecord limits_written) (sym (reserved_record n s here number few)) unused_is)
           (λ (more : 2 ≤ number). ⊎_elim
-          (λ (same : number ≡ 2). subst (λ (k : ℕ). SpellsRecord version_1 (record_at s (inode_file n) k)) (sym same)
-          (subst (SpellsRecord version_1) (sym (directory_record n s here)) (Used root_directory, directory_fits, refl)))
-          (λ (apart : number ≡ 2 → ⊥). subst (SpellsRecord version_1) (sym (unused_record n s here number (omega (arith, more, apart)) (omega (arith, low)))) unused_is)
+          (λ (same : number ≡ 2). subst (λ (k : ℕ). SpellsRecord limits_written (record_at s (inode_file n) k)) (sym same)
+          (subst (SpellsRecord limits_written) (sym (directory_record n s here)) (Used root_directory, directory_fits, refl)))
+          (λ (apart : number ≡ 2 → ⊥). subst (SpellsRecord limits_written) (sym (unused_record n s here number (omega (arith, more, apart)) (omega (arith, low)))) unused_is)
           (cases_eq number 2))
           (cases_lt number 2)
 
@@ -215,7 +215,7 @@ module _ (n : ℕ) (s : Store) (here : s (start_of n Data) ≡ inode_block) wher
     contents = λ number inode e. subst (λ (i : Inode). HasContent s i.kind i.content) (sym (only_inode n s here number inode e).1) directory_content;
   }
 
-  names : HasNames version_1 s (inode_file n)
+  names : HasNames limits_written s (inode_file n)
   names = record {
     once = λ d name. subst (λ (ls : List Link). count_by (λ l. bytes_eq l.name name) ls ≤ 1) (sym (no_names d)) (omega arith);
     few = λ d. subst (λ (ls : List Link). length ls ≤ 65535) (sym (no_names d)) (omega arith);
@@ -233,5 +233,5 @@ module _ (n : ℕ) (s : Store) (here : s (start_of n Data) ≡ inode_block) wher
     reached = λ number inode e kind. subst (IsReached s (inode_file n)) (sym (only_inode n s here number inode e).0) root;
   }
 
-  pub is_sound : start_of n Data < n → IsSound version_1 n s (inode_file n)
+  pub is_sound : start_of n Data < n → IsSound limits_written n s (inode_file n)
   is_sound room = record { placed = placed room; file = file; ends = ends; records = records; used = used; names = names; linked = linked }

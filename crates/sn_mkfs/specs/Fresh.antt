@@ -1,6 +1,6 @@
 -- A disk as it is formatted: its root, its one directory, and where each of its bytes stands.
 use Rattle.std.specs.Prelude.{◌≡◌, ℕ, ◌-◌, false, List, [], ◌∷◌, ◌++◌, replicate}
-use Rattle.sn_limits.specs.Versions.{version_1}
+use Rattle.sn_limits.specs.Versions.{limits_written}
 use Rattle.sn_limits.specs.declared.kind.Kind.TheVariants.{Directory}
 use Rattle.sn_device.specs.Sectors.{Contents}
 use Rattle.sn_layout.specs.Bytes.{zeros}
@@ -25,7 +25,7 @@ inode_file n = record { size = 4096; pointers = start_of n Data ∷ replicate 15
 
 -- the first root of a disk of n blocks, without snapshots
 abbrev pub fresh_root : ℕ → RootBody
-fresh_root n = record { limits = version_1; generation = 1; epoch = 1; inode_file = inode_file n; snapshots = [] }
+fresh_root n = record { limits = limits_written; generation = 1; epoch = 1; inode_file = inode_file n; snapshots = [] }
 
 -- the root directory, of user 0 and group 0 and of mode 0755: it has no names, and so no blocks
 abbrev pub root_directory : Inode

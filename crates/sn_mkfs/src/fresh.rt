@@ -1,6 +1,6 @@
 //! The first root and its one directory.
 ghost use Rattle.std.specs.Prelude.{◌≡◌};
-ghost use Rattle.sn_limits.specs.Versions.{version_1};
+ghost use Rattle.sn_limits.specs.Versions.{limits_written};
 ghost use Rattle.sn_layout.specs.RootBody.{IsRootBody};
 ghost use Rattle.sn_layout_node.specs.Inode.{IsInode};
 ghost use Rattle.sn_mkfs.specs.Fresh.{fresh_root as the_fresh_root, inode_block as the_inode_block, root_directory as the_root_directory};
@@ -21,7 +21,7 @@ pub fn fresh_root(geometry: Geometry) -> RootBody
     let mut pointers = Pointers::default();
     pointers.set(0, geometry.start(Area::Data));
     RootBody {
-        limits: Limits::VERSION_1,
+        limits: Limits::WRITTEN,
         generation: 1,
         epoch: 1,
         inode_file: BlockTree {
@@ -35,7 +35,7 @@ pub fn fresh_root(geometry: Geometry) -> RootBody
 // The root directory, which has no names yet.
 fn root_directory() -> Inode
     ensures value { result ≡ the_root_directory }
-    ensures fits { IsInode version_1 result }
+    ensures fits { IsInode limits_written result }
 {
     let others = Permissions::ALL.difference(Permissions::WRITE);
     Inode {
@@ -63,7 +63,7 @@ pub fn inode_block() -> Block
     ensures { result ≡ the_inode_block }
 {
     let mut record = [0; INODE_SIZE];
-    InodeRecord::Used(root_directory()).encode(&Limits::VERSION_1, &mut record);
+    InodeRecord::Used(root_directory()).encode(&Limits::WRITTEN, &mut record);
     let mut block = [0; BLOCK_SIZE];
     put_bytes(&mut block, INODE_SIZE * ROOT_NUMBER as usize, &record);
     block

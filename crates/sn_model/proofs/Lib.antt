@@ -3,6 +3,7 @@ pub mod ByteLemmas
 pub mod MapLemmas
 pub mod LinkLemmas
 pub mod PartLemmas
+pub mod AllowedLemmas
 pub mod EntryLemmas
 pub mod CountLemmas
 pub mod NameLemmas

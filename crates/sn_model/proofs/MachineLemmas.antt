@@ -5,7 +5,7 @@ use Rattle.std.proofs.lemmas.List.{length-replicate}
 use Rattle.std.specs.FinMap as map
 use Rattle.sn_limits.specs.declared.kind.Kind.TheVariants.{File}
 use Rattle.sn_limits.specs.declared.limits.Limits.{Limits}
-use Rattle.sn_limits.specs.Versions.{version_1}
+use Rattle.sn_limits.specs.Versions.{limits_written}
 use Rattle.sn_model.specs.declared.call.Call.{Call}
 use Rattle.sn_model.specs.declared.call.Event.{Event}
 use Rattle.sn_model.specs.declared.call.Event.TheVariants as event
@@ -133,8 +133,8 @@ run_from limits old last [] (reply ∷ replies) all run w = absurd run
 run_from limits old last (e ∷ events) [] all run w = absurd run
 run_from limits old last (e ∷ events) (reply ∷ replies) all run w = run_from limits run.0 last events replies all.1 run.2 (events_keep limits old run.0 e run.1.0 reply all.0 w run.1.2)
 
-pub run_world : (events : List Event) (replies : List Reply) (last : State) → AllByRecursion IsEvent events → Run Anything version_1 (Running new_world) events replies last → IsState version_1 last
-run_world events replies last all run = run_from version_1 (Running new_world) last events replies all run new_is_world
+pub run_world : (events : List Event) (replies : List Reply) (last : State) → AllByRecursion IsEvent events → Run Anything limits_written (Running new_world) events replies last → IsState limits_written last
+run_world events replies last all run = run_from limits_written (Running new_world) last events replies all run (new_is_world limits_written.version limits_written refl)
 
 -- what a crash leaves
 left_found : (limits : Limits) (old : State) (w : World) → IsState limits old → Left old w → IsFound limits w

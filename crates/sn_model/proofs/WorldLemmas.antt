@@ -9,7 +9,8 @@ use Rattle.std.specs.FinMap as map
 use Rattle.std.proofs.lemmas.List.{length-set, length-replicate}
 use Rattle.std.proofs.lemmas.Map.Lookups.{exact_unsigned}
 use Rattle.sn_limits.specs.declared.kind.Kind.TheVariants.{File, Directory}
-use Rattle.sn_limits.specs.Versions.{version_1}
+use Rattle.sn_limits.specs.Versions.{limits_of, version_1}
+use Rattle.sn_limits.proofs.VersionLemmas.{first_allowed}
 use Rattle.sn_model.specs.declared.call.Call.{Call}
 use Rattle.sn_acl.specs.declared.modes.Mode.{Mode}
 use Rattle.sn_model.specs.declared.change.Change.TheVariants.{Make}
@@ -33,6 +34,7 @@ use Rattle.sn_model.proofs.MapLemmas.{same_or_apart, get_inserted, get_other, ge
 use Rattle.sn_model.proofs.CountLemmas.{count_none}
 use Rattle.sn_model.proofs.ChainLemmas.{some_same}
 use Rattle.sn_model.proofs.PartLemmas.{made_is}
+use Rattle.sn_model.proofs.AllowedLemmas.{tree_stays}
 use Rattle.sn_model.proofs.MoveLemmas.{is_kind, kind_at, some_node, is_there}
 use Rattle.sn_acl.proofs.Validity.{valid-from_test}
 use Rattle.sn_model.proofs.TreeLemmas.{tree_kept}
@@ -332,16 +334,20 @@ new_whole = record {
   };
 }
 
+-- it is one in each version, since the first allows the least
+pub new_tree_is : (version : ℕ) (limits : Limits) → limits_of version ≡ Some limits → IsTree limits new_tree
+new_tree_is version limits e = tree_stays version_1 limits (first_allowed version limits e) new_tree new_whole
+
 pub free_sessions : (n : ℕ) → AllByRecursion IsSession (replicate n None)
 free_sessions zero = tt
 free_sessions (suc n) = (tt, free_sessions n)
 
-pub new_is_world : IsWorld version_1 new_world
-new_is_world = record {
-  live = new_whole;
+pub new_is_world : (version : ℕ) (limits : Limits) → limits_of version ≡ Some limits → IsWorld limits new_world
+new_is_world version limits e = record {
+  live = new_tree_is version limits e;
   frozen = λ name tree e. let never : None ≡ Some tree = sym (map.get-empty (slice_cmp nat_cmp) name) ∙ e in cc;
   snapshot_names = λ name tree e. let never : None ≡ Some tree = sym (map.get-empty (slice_cmp nat_cmp) name) ∙ e in cc;
-  few_snapshots = subst (λ n. n ≤ 20) (sym (map.len-empty (slice_cmp nat_cmp) Tree)) (lit≤ tt);
+  few_snapshots = subst (λ n. n ≤ limits.snapshots) (sym (map.len-empty (slice_cmp nat_cmp) Tree)) (omega arith);
   count = length-replicate {A = Option Session} 64 None;
   callers = free_sessions 64;
   open_files = λ i fd d e. let never : None ≡ Some d = sym (map.get-empty descriptor_cmp (i, fd)) ∙ e in cc;

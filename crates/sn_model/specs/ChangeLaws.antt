@@ -3,6 +3,7 @@ use Rattle.std.specs.Prelude.{◌≡◌, ◌↔◌, ℕ, Bool, true, List, [], �
 use Rattle.std.specs.FinMap as map
 use Rattle.sn_limits.specs.declared.kind.Kind.TheVariants.{File, Directory}
 use Rattle.sn_limits.specs.declared.limits.Limits.{Limits}
+use Rattle.sn_limits.specs.Versions.{Allows}
 use Rattle.sn_model.specs.declared.change.Change.{Change}
 use Rattle.sn_model.specs.declared.change.Change.TheVariants.{Make, AddLink, Remove, Rename, Write, SetSize, SetAttributes}
 use Rattle.sn_model.specs.declared.link.Link.{Link}
@@ -19,6 +20,16 @@ ChangesKeepTheTree = (limits : Limits) (c : Change) (tree after : Tree) → IsTr
 
 abbrev pub ListsKeepTheTree : Type 0
 ListsKeepTheTree = (limits : Limits) (cs : List Change) (tree after : Tree) → IsTree limits tree → apply_all limits cs tree ≡ Some after → IsTree limits after
+
+-- A name tree stays one under limits that allow more, and what can be done to a tree can be done under them, with the same result.
+abbrev pub TreesStay : Type 0
+TreesStay = (less more : Limits) (tree : Tree) → Allows less more → IsTree less tree → IsTree more tree
+
+abbrev pub ChangesStay : Type 0
+ChangesStay = (less more : Limits) (c : Change) (tree after : Tree) → Allows less more → apply less c tree ≡ Some after → apply more c tree ≡ Some after
+
+abbrev pub ListsStay : Type 0
+ListsStay = (less more : Limits) (cs : List Change) (tree after : Tree) → Allows less more → apply_all less cs tree ≡ Some after → apply_all more cs tree ≡ Some after
 
 -- Dropping files without names keeps a name tree.
 abbrev pub DroppingKeepsTheTree : Type 0

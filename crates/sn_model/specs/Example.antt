@@ -3,7 +3,7 @@ use Rattle.std.specs.Prelude.{◌≡◌, ℕ, true, false, List, [], None, Some,
 use Rattle.std.specs.FinMap as map
 use Rattle.sn_acl.specs.Modes.{three_entries}
 use Rattle.sn_limits.specs.declared.kind.Kind.TheVariants.{File, Directory}
-use Rattle.sn_limits.specs.Versions.{version_1}
+use Rattle.sn_limits.specs.Versions.{limits_written}
 use Rattle.sn_model.specs.declared.call.Call.TheVariants.{Login, Stat}
 use Rattle.sn_model.specs.declared.call.Event.TheVariants as event
 use Rattle.sn_model.specs.declared.reply.Errno.TheVariants.{Ebadf, Ebusy, Eio, Estopped}
@@ -55,10 +55,10 @@ pub record Settles : Type 0 where
 -- What is answered before, and after.
 pub record Answers : Type 0 where
   pub caller : slice_get busy_world.sessions 1 ≡ Some (Some (new_session 1001 100 []))
-  pub busy : decision version_1 busy_world 1 (Login 5 5 []) ≡ Err (plain Ebusy)
-  pub nobody : decision version_1 busy_world 2 (Stat (codes "/d")) ≡ Err (plain Ebadf)
-  pub logged_out : decision version_1 (settle busy_world) 1 (Stat (codes "/d")) ≡ Err (plain Ebadf)
-  pub mounts : EventStep version_1 (Running busy_world) event.Restart None answer.Done (Running (settle busy_world))
-  pub stays : EventStep version_1 (Running busy_world) event.Restart (Some Read) (refused Eio) (Running busy_world)
-  pub stops : EventStep version_1 (Running busy_world) event.Step (Some Write) (refused Eio) (Stopped (settle busy_world) (settle busy_world))
-  pub stopped : EventStep version_1 (Stopped (settle busy_world) busy_world) event.Step None (refused Estopped) (Stopped (settle busy_world) busy_world)
+  pub busy : decision limits_written busy_world 1 (Login 5 5 []) ≡ Err (plain Ebusy)
+  pub nobody : decision limits_written busy_world 2 (Stat (codes "/d")) ≡ Err (plain Ebadf)
+  pub logged_out : decision limits_written (settle busy_world) 1 (Stat (codes "/d")) ≡ Err (plain Ebadf)
+  pub mounts : EventStep limits_written (Running busy_world) event.Restart None answer.Done (Running (settle busy_world))
+  pub stays : EventStep limits_written (Running busy_world) event.Restart (Some Read) (refused Eio) (Running busy_world)
+  pub stops : EventStep limits_written (Running busy_world) event.Step (Some Write) (refused Eio) (Stopped (settle busy_world) (settle busy_world))
+  pub stopped : EventStep limits_written (Stopped (settle busy_world) busy_world) event.Step None (refused Estopped) (Stopped (settle busy_world) busy_world)

@@ -1,7 +1,7 @@
 -- What the machine comes to over events, runs and lives, said as a user would say it.
 use Rattle.std.specs.Prelude.{◌≡◌, ◌≢◌, List, Option}
 use Rattle.std.specs.List.{AllByRecursion}
-use Rattle.sn_limits.specs.Versions.{version_1}
+use Rattle.sn_limits.specs.Versions.{limits_written}
 use Rattle.sn_limits.specs.declared.limits.Limits.{Limits}
 use Rattle.sn_model.specs.declared.call.Event.{Event}
 use Rattle.sn_model.specs.declared.call.Event.TheVariants as event
@@ -33,7 +33,7 @@ EventsKeepTheState = (limits : Limits) (old new : State) (e : Event) (met : Opti
 
 -- The same of runs from a new world: trees are name trees, open files are there, and nobody is logged in with a number that isn't one.
 abbrev pub RunsKeepTheWorld : Type 0
-RunsKeepTheWorld = (events : List Event) (replies : List Reply) (last : State) → AllByRecursion IsEvent events → Run Anything version_1 (Running new_world) events replies last → IsState version_1 last
+RunsKeepTheWorld = (events : List Event) (replies : List Reply) (last : State) → AllByRecursion IsEvent events → Run Anything limits_written (Running new_world) events replies last → IsState limits_written last
 
 -- A life, whatever its crashes, leaves a world that a mount may find.
 abbrev pub LivesKeepTheWorld : Type 0

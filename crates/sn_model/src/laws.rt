@@ -1,6 +1,6 @@
 ghost use Rattle.sn_model.specs.Denials.{AccessIsDeniedByRule};
 ghost use Rattle.sn_model.specs.AccessLaws.{AccessCallsDenyByRule, AccessIsGrantedByRule, ChmodSetsTheMode, ChownSetsOwnerAndGroup, SetaclSetsOneAcl, UmaskSetsTheMask};
-ghost use Rattle.sn_model.specs.ChangeLaws.{ChangesBring, ChangesKeepCovers, ChangesKeepTheTree, CoveredSettleAlike, CoversItself, CoversJoin, DroppingKeepsCovers, DroppingKeepsTheTree, ListsJoin, ListsKeepCovers, ListsKeepTheTree, TestIsBelow};
+ghost use Rattle.sn_model.specs.ChangeLaws.{ChangesBring, ChangesKeepCovers, ChangesKeepTheTree, ChangesStay, CoveredSettleAlike, CoversItself, CoversJoin, DroppingKeepsCovers, DroppingKeepsTheTree, ListsJoin, ListsKeepCovers, ListsKeepTheTree, ListsStay, TestIsBelow, TreesStay};
 ghost use Rattle.sn_model.specs.Example.{Answers, Settles};
 ghost use Rattle.sn_model.specs.MachineLaws.{EventsKeepTheState, LivesKeepTheWorld, RefusedEventsChangeNothing, RestartsSettle, RunsKeepTheWorld, StoppedStays};
 ghost use Rattle.sn_model.specs.FileLaws.{AppendsGoToTheEnd, ReadsAskForNoRight, ReadsPastTheEndGiveNothing, WritesOfNothingDoNothing};
@@ -102,6 +102,13 @@ pub fn dropping_keeps_the_tree()
 /// The same for a list of changes.
 pub fn lists_keep_the_tree()
     ensures { ListsKeepTheTree }
+{}
+
+/// What some limits allow, limits that allow no less allow too.
+pub fn larger_limits_allow_as_much()
+    ensures trees { TreesStay }
+    ensures changes { ChangesStay }
+    ensures lists { ListsStay }
 {}
 
 /// What a list of changes makes of the live tree, replay makes too.

@@ -56,12 +56,13 @@ pub use laws::{
     appends_go_to_the_end, changes_bring, changes_keep_covers, changes_keep_the_tree,
     chmod_sets_the_mode, chown_sets_owner_and_group, covered_settle_alike, covers_itself,
     covers_join, decided_changes_apply, decided_changes_pay, dropping_keeps_covers,
-    dropping_keeps_the_tree, events_keep_the_state, example_holds, link_gives_one_more_name,
-    lists_join, lists_keep_covers, lists_keep_the_tree, lives_keep_the_world, makes_one_more,
-    readdir_lists_the_names, reads_ask_for_no_right, reads_past_the_end_give_nothing,
-    refusals_change_nothing, refused_events_change_nothing, rename_moves_the_name, restarts_settle,
-    rmdir_takes_an_empty_directory, runs_keep_the_world, setacl_sets_one_acl, stopped_stays,
-    test_is_below, umask_sets_the_mask, writes_of_nothing_do_nothing,
+    dropping_keeps_the_tree, events_keep_the_state, example_holds, larger_limits_allow_as_much,
+    link_gives_one_more_name, lists_join, lists_keep_covers, lists_keep_the_tree,
+    lives_keep_the_world, makes_one_more, readdir_lists_the_names, reads_ask_for_no_right,
+    reads_past_the_end_give_nothing, refusals_change_nothing, refused_events_change_nothing,
+    rename_moves_the_name, restarts_settle, rmdir_takes_an_empty_directory, runs_keep_the_world,
+    setacl_sets_one_acl, stopped_stays, test_is_below, umask_sets_the_mask,
+    writes_of_nothing_do_nothing,
 };
 pub use link::Link;
 pub use lists::{FileData, Names, StoredAcl};

@@ -14,7 +14,7 @@ use Rattle.sn_layout.specs.declared.root.RootBody.{RootBody}
 use Rattle.sn_layout.specs.Geometry.{start_of}
 use Rattle.sn_layout.specs.Superblock.{superblock_bytes}
 use Rattle.sn_limits.specs.declared.limits.Limits.{Limits}
-use Rattle.sn_limits.specs.Versions.{version_1}
+use Rattle.sn_limits.specs.Versions.{limits_written}
 use Rattle.sn_log.specs.Clearing.{Clears}
 use Rattle.sn_log.specs.Positions.{IsReadyAt, LogPosition, first_of, payloads_of}
 use Rattle.sn_map.specs.Free.{is_free_word}
@@ -33,7 +33,6 @@ use Rattle.sn_ondisk.proofs.MapLemmas.{map_is_one}
 use Rattle.sn_ondisk.proofs.OneRootLemmas.{shown_is_one}
 use Rattle.sn_ondisk.proofs.PlaceLemmas.{halves_apart}
 use Rattle.sn_image.specs.Image.{image}
-use Rattle.sn_image.proofs.SoundNodeLemmas.{only_version}
 use Rattle.sn_opening.specs.Covering.{MakesCover}
 use Rattle.sn_opening.specs.Opens.{Opens, Shows}
 use Rattle.sn_opening.proofs.CoveringLemmas.{replay_covers}
@@ -196,7 +195,7 @@ module _ (d : Disk) (w : World) (n : ℕ) (k : Kept) (over : IsImageOver d w n k
   pub has_room : (room : RoomCounts) → room ≡ fresh (free_data k.words (start_of n Data)) → HasRoomOf (reads d) w room
   has_room room is = (its, is ∙ sym room_over_is)
 
-  module _ (tree : IsTree version_1 w.live) (none : k.changed ≡ no_changes) (closed : Always d (λ c. IsClosed c (base_of n k.root.epoch + 0))) (keeps_back since : ℕ → Bool) (status : Status) where
+  module _ (tree : IsTree limits_written w.live) (none : k.changed ≡ no_changes) (written : k.root.limits ≡ limits_written) (closed : Always d (λ c. IsClosed c (base_of n k.root.epoch + 0))) (keeps_back since : ℕ → Bool) (status : Status) where
     abbrev held_at : RoomCounts → LogPosition → Held
     held_at room at = record { world = w; kept = keeps_back; kept_since = since; room = room; at = at; base = k; point = None; disk = d; status = status }
 
@@ -212,12 +211,12 @@ module _ (d : Disk) (w : World) (n : ℕ) (k : Kept) (over : IsImageOver d w n k
       };
     }
 
-    limits_one : version_1 ≡ opened.root.limits
-    limits_one = only_version opened.root.limits opened.shown.newest.body.fits.version
+    its_limits : opened.root.limits ≡ limits_written
+    its_limits = ap (λ (r : RootBody). r.limits) over.root ∙ written
 
-    covers : MakesCover version_1 (opened.older ++ opened.newer) tree_of_root w.live
+    covers : MakesCover limits_written (opened.older ++ opened.newer) tree_of_root w.live
     covers =
-        subst (λ (l : Limits). MakesCover l (opened.older ++ opened.newer) tree_of_root w.live) (sym limits_one)
+        subst (λ (l : Limits). MakesCover l (opened.older ++ opened.newer) tree_of_root w.live) its_limits
         (subst (MakesCover opened.root.limits (opened.older ++ opened.newer) tree_of_root) (sym (ap (λ (x : World). x.live) opened.stands.settles))
         (replay_covers opened.root.limits (opened.older ++ opened.newer) tree_of_root opened.stands.tree opened.stands.applied))
 
@@ -232,7 +231,7 @@ module _ (d : Disk) (w : World) (n : ℕ) (k : Kept) (over : IsImageOver d w n k
       newer = opened.newer;
       older_spelled = opened.older_spelled;
       newer_spelled = opened.newer_spelled;
-      limits = sym limits_one;
+      limits = its_limits;
       formatted = Always-synced d (λ c. block_at c 0 ≡ superblock_bytes (record { geometry = its.blocks })) over.synced its.spelled;
       stands = record {
         disk = its.disk;
@@ -245,19 +244,19 @@ module _ (d : Disk) (w : World) (n : ℕ) (k : Kept) (over : IsImageOver d w n k
       cover = covers;
       charged = record {
         free = refl;
-        charged = ap (λ (l : Limits). charges_from l (opened.older ++ opened.newer) tree_of_root) (sym limits_one);
+        charged = ap (λ (l : Limits). charges_from l (opened.older ++ opened.newer) tree_of_root) its_limits;
         parked = omega arith;
-        fits = subst (λ (l : Limits). Fits l (opened.older ++ opened.newer) tree_of_root (free_blocks its.blocks store opened.root)) (sym limits_one) its.fits;
+        fits = subst (λ (l : Limits). Fits l (opened.older ++ opened.newer) tree_of_root (free_blocks its.blocks store opened.root)) its_limits its.fits;
       };
       age = its.age;
       frozen = ap (λ (x : World). x.frozen) opened.stands.settles;
     }
 
-    changed_here : HasChanged version_1 k.changed tree_of_root w.live (charges_from opened.root.limits (opened.older ++ opened.newer) tree_of_root)
+    changed_here : HasChanged limits_written k.changed tree_of_root w.live (charges_from opened.root.limits (opened.older ++ opened.newer) tree_of_root)
     changed_here =
-        subst (λ (layer : Layer). HasChanged version_1 layer tree_of_root w.live (charges_from opened.root.limits (opened.older ++ opened.newer) tree_of_root)) (sym none)
-        (subst (HasChanged version_1 no_changes tree_of_root w.live) (sym charged_is)
-        (subst (λ (t : Tree). HasChanged version_1 no_changes tree_of_root t 0) live_is (nothing_changed version_1 tree_of_root)))
+        subst (λ (layer : Layer). HasChanged limits_written layer tree_of_root w.live (charges_from opened.root.limits (opened.older ++ opened.newer) tree_of_root)) (sym none)
+        (subst (HasChanged limits_written no_changes tree_of_root w.live) (sym charged_is)
+        (subst (λ (t : Tree). HasChanged limits_written no_changes tree_of_root t 0) live_is (nothing_changed limits_written tree_of_root)))
 
     is_ready : IsReady here w runs_here k
     is_ready = record {

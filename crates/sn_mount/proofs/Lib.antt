@@ -1,3 +1,4 @@
+pub mod AllowedLemmas
 pub mod ClearingLemmas
 pub mod RecoverLemmas
 pub mod RootingLemmas

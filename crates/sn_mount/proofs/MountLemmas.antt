@@ -1,5 +1,5 @@
 -- A mount as a whole: what it has read, the root that it makes, and what stands once the first place of that root's log is cleared.
-use Rattle.std.proofs.Common.{◌≡◌, ℕ, ◌+◌, Bool, None, Result, Ok, refl, sym, ap, subst, ◌∙◌, arith}
+use Rattle.std.proofs.Common.{◌≡◌, ℕ, ◌+◌, Bool, true, false, None, Result, Ok, refl, sym, ap, subst, ◌∙◌, arith}
 use Rattle.std.specs.Prelude.{IfOk}
 use Rattle.sn_alloc.specs.Taking.{free_data}
 use Rattle.sn_device.specs.Sectors.{AreSectors, Contents, Single}
@@ -12,7 +12,8 @@ use Rattle.sn_layout.specs.declared.geometry.Area.TheVariants.{Data}
 use Rattle.sn_layout.specs.declared.root.RootBody.{RootBody}
 use Rattle.sn_layout.specs.Geometry.{start_of}
 use Rattle.sn_limits.specs.declared.limits.Limits.{Limits}
-use Rattle.sn_limits.specs.Versions.{version_1}
+use Rattle.sn_limits.specs.Versions.{limits_written}
+use Rattle.sn_limits.proofs.VersionLemmas.{written_allows}
 use Rattle.sn_log.specs.Clearing.{Clears}
 use Rattle.sn_log.specs.Positions.{LogPosition, first_of}
 use Rattle.sn_model.specs.declared.fault.MountFault.{MountFault}
@@ -25,7 +26,6 @@ use Rattle.sn_ondisk.specs.Gates.{IsClosed}
 use Rattle.sn_ondisk.specs.LogHalf.{InHalf, base_of, cleared_sector}
 use Rattle.sn_ondisk.specs.Trees.{store_of}
 use Rattle.sn_image.specs.Image.{image}
-use Rattle.sn_image.proofs.SoundNodeLemmas.{only_version}
 use Rattle.sn_opening.specs.Opens.{Opens}
 use Rattle.sn_opening.specs.Worlds.{found, frozen_of}
 use Rattle.sn_overlay.specs.Layers.{Layer}
@@ -46,11 +46,13 @@ use Rattle.sn_examine.specs.Laws.{IsSomeClean}
 use Rattle.sn_examine.proofs.ImageLemmas.{clean_image}
 use Rattle.sn_check.specs.Verdicts.{IsCause}
 use Rattle.sn_mount.specs.Recovering.{IsRecovered, KeepsTheRoot, LeavesTheWorld, WritesAtFault}
+use Rattle.sn_mount.specs.Rooting.{BecomesRoot}
 use Rattle.sn_mount.specs.Settling.{IsNoRoot, MakesRoot, SettlesChanges}
+use Rattle.sn_mount.proofs.AllowedLemmas.{world_stays}
 use Rattle.sn_mount.proofs.CauseLemmas.{refused_cause}
 use Rattle.sn_mount.proofs.ClearingLemmas.{cleared_within}
 use Rattle.sn_mount.proofs.ClearedLemmas.{has_room, over_keeps, over_stays, runs_over}
-use Rattle.sn_mount.proofs.RecoverLemmas.{found_is, no_root_refuses, no_root_writes, root_kept, root_leaves, root_over}
+use Rattle.sn_mount.proofs.RecoverLemmas.{found_is, no_root_refuses, no_root_writes, root_kept, root_leaves, root_over, written as written_there}
 
 -- What a mount has read of a clean disk, on which all is synced, and what it has made of that up to a root.
 pub record HasRooted (sectors : ℕ) (old mid rooted : Disk) (k : Kept) (at : LogPosition) (shown : Tree) (k2 : Kept) (result : Result PointBase MountFault) : Type 0 where
@@ -63,9 +65,10 @@ pub record HasRooted (sectors : ℕ) (old mid rooted : Disk) (k : Kept) (at : Lo
   pub same : reads mid ≡ reads old
   pub synced : IsSynced mid
   pub settles : SettlesChanges k shown k2
-  pub tree : IsTree version_1 shown
+  pub tree : IsTree limits_written shown
   pub makes : MakesRoot result at.blocks k2 recovers mid rooted
   pub touched : Touches (IsApart at.blocks k.slot) mid rooted
+  pub becomes : IfOk result (λ next. BecomesRoot recovers k2 (kept_in next no_changes))
 
 -- The first place of the root's half of the log is cleared, and the log goes on there, with the room that the root leaves.
 pub record HasCleared (n : ℕ) (base : PointBase) (new : Disk) (at : LogPosition) (room : RoomCounts) : Type 0 where
@@ -75,13 +78,14 @@ pub record HasCleared (n : ℕ) (base : PointBase) (new : Disk) (at : LogPositio
   pub at_first : at ≡ first_of n base.root.epoch
   pub room_fresh : room ≡ fresh (free_data base.map (start_of n Data))
 
--- a clean disk is an image of a world alone, by the rules of the version that there is
-clean_is_world : (sectors : ℕ) (c : Contents) (w : World) → IsOfDevice sectors c → IsSomeClean sectors c → IsImage c w → IsWorld version_1 w
+-- a clean disk is an image of a world alone, by the limits of its root, and so by those that are written
+clean_is_world : (sectors : ℕ) (c : Contents) (w : World) → IsOfDevice sectors c → IsSomeClean sectors c → IsImage c w → IsWorld limits_written w
 clean_is_world sectors c w device (free, clean) im =
     let size : im.blocks ≡ clean.blocks =
     one_size sectors c im.blocks clean.blocks (record { size = im.disk.size; spelled = im.spelled; room = omega (arith, im.disk.long, device.count) }) clean.sound.formatted in
     let opened = opens_to_found sectors c clean.blocks clean.slot clean.root device clean.sound w (subst (λ (n : ℕ). Opens n c w) size im.opens) in
-    subst (λ (l : Limits). IsWorld l w) (sym (only_version clean.root.limits clean.sound.newest.body.fits.version)) opened.whole
+    let limits = clean.root.limits in
+    world_stays limits limits_written (written_allows limits.version limits clean.sound.newest.body.fits.version) w opened.whole
 
 module _ {sectors : ℕ} {old mid rooted : Disk} {k : Kept} {at : LogPosition} {shown : Tree} {k2 : Kept} {result : Result PointBase MountFault} (m : HasRooted sectors old mid rooted k at shown k2 result) where
   never_written : (new : Disk) → Touches (IsApart at.blocks k.slot) mid new → KeepsTheRoot sectors old new
@@ -129,6 +133,16 @@ module _ {sectors : ℕ} {old mid rooted : Disk} {k : Kept} {at : LogPosition} {
     pub leaves_at_end : (w : World) → IsImage (reads mid) w → LeavesTheWorld old new w
     leaves_at_end w is = leaves_by new w (LeavesOnly-join mid rooted new (λ c. IsImage c w) (to_root w is) (over_keeps rooted new w at.blocks (kept_in base no_changes) (over w is) cleared clears))
 
+    -- the root that counts then has the written limits
+    root_written : base.root.limits ≡ limits_written
+    root_written = told m.recovers refl (subst (λ (r : Result PointBase MountFault). IfOk r (λ next. BecomesRoot m.recovers k2 (kept_in next no_changes))) done m.becomes)
+      where
+        told : (b : Bool) → m.recovers ≡ b → BecomesRoot b k2 (kept_in base no_changes) → base.root.limits ≡ limits_written
+        told true e becomes = becomes.1.limits
+        told false e becomes =
+            let its = clean_image sectors (reads mid) m.device m.clean in
+            ap (λ (r : RootBody). r.limits) (becomes.1 ∙ m.settles.root) ∙ written_there sectors (reads mid) k at shown m.room m.recovers m.found m.device.whole m.device.count its.0 its.1 e
+
     module _ {p : LogPosition} {q : RoomCounts} (e : HasCleared at.blocks base new p q) where
       stays : (w : World) → IsImage (reads mid) w → IsImageOver new w at.blocks (kept_in base no_changes)
       stays w is = over_stays rooted new w at.blocks (kept_in base no_changes) (over w is) cleared clears e.whole e.synced
@@ -157,12 +171,12 @@ module _ {sectors : ℕ} {old mid rooted : Disk} {k : Kept} {at : LogPosition} {
         runs_now : (w : World) → IsImage (reads mid) w → (keeps_back since : ℕ → Bool) (status : Status)
             → RunsReady (record { world = w; kept = keeps_back; kept_since = since; room = q; at = p; base = kept_in base no_changes; point = None; disk = new; status = status }) w (kept_in base no_changes)
         runs_now w is keeps_back since status =
-            runs_over new w at.blocks (kept_in base no_changes) (stays w is) (clean_is_world sectors (reads mid) w m.device m.clean is).live refl e.closed keeps_back since status q p e.room_fresh e.at_first
+            runs_over new w at.blocks (kept_in base no_changes) (stays w is) (clean_is_world sectors (reads mid) w m.device m.clean is).live refl root_written e.closed keeps_back since status q p e.room_fresh e.at_first
 
-        pub is_world : IsWorld version_1 shown_world
+        pub is_world : IsWorld limits_written shown_world
         is_world =
             let its = clean_image sectors (reads mid) m.device m.clean in
-            subst (IsWorld version_1) (sym (world_is its.0 its.1)) (clean_is_world sectors (reads mid) its.0 m.device m.clean its.1)
+            subst (IsWorld limits_written) (sym (world_is its.0 its.1)) (clean_is_world sectors (reads mid) its.0 m.device m.clean its.1)
 
         module _ (layer : Layer) (none : layer ≡ no_changes) where
           pub runs_shown : (keeps_back since : ℕ → Bool) (status : Status)

@@ -1,5 +1,5 @@
 -- What a mount makes of what it has found: it is the disk's world, and where a root can't be made of it, the map is no sound root's.
-use Rattle.std.proofs.Common.{◌≡◌, ◌≢◌, inl, inr, ℕ, zero, suc, ◌+◌, ◌*◌, ◌≤◌, Bool, true, false, List, [], ◌∷◌, ◌++◌, length, slice_index, Option, Some, None, Result, Err, refl, sym, ap, subst, ◌∙◌, arith, leb-true}
+use Rattle.std.proofs.Common.{◌≡◌, ◌≢◌, inl, inr, ℕ, zero, suc, ◌+◌, ◌*◌, ◌≤◌, ◌==◌, Bool, true, false, List, [], ◌∷◌, ◌++◌, length, map as map_list, slice_index, Option, Some, None, Result, Err, refl, sym, ap, subst, ◌∙◌, arith, eq-eqb, eqb-true, leb-true, true≢false}
 use Rattle.std.specs.Prelude.{IfOk}
 use Rattle.std.specs.FinMap as map
 use Rattle.std.specs.Cmp.{nat_cmp_total}
@@ -18,20 +18,20 @@ use Rattle.sn_layout.specs.declared.geometry.Slot.{Slot}
 use Rattle.sn_layout.specs.declared.root.RootBody.{RootBody}
 use Rattle.sn_layout.specs.Geometry.{start_of}
 use Rattle.sn_limits.specs.declared.limits.Limits.{Limits}
-use Rattle.sn_limits.specs.Versions.{version_1}
+use Rattle.sn_limits.specs.Versions.{limits_of, limits_written}
+use Rattle.sn_limits.proofs.VersionLemmas.{each_version, written_known}
 use Rattle.sn_model.specs.declared.change.Change.{Change}
 use Rattle.sn_model.specs.declared.fault.Damage.{Damage}
 use Rattle.sn_model.specs.declared.fault.Damage.TheVariants.{MapWord}
 use Rattle.sn_model.specs.declared.fault.MountFault.{MountFault}
 use Rattle.sn_model.specs.declared.fault.MountFault.TheVariants as fault
-use Rattle.sn_model.specs.Chains.{◌>>=◌}
 use Rattle.sn_model.specs.Changes.{apply_all}
 use Rattle.sn_model.specs.NameTree.{IsTree}
 use Rattle.sn_model.specs.Settling.{is_nameless, settled}
 use Rattle.sn_model.specs.Tree.{Tree}
 use Rattle.sn_model.specs.World.{World, new_world}
 use Rattle.sn_model.proofs.DropLemmas.{dropping_tree}
-use Rattle.sn_model.proofs.ListLemmas.{lists_join}
+use Rattle.sn_model.proofs.ListLemmas.{lists_keep}
 use Rattle.sn_model.proofs.SettlingLemmas.{get_without}
 use Rattle.sn_ondisk.specs.MapCopy.{HasMap}
 use Rattle.sn_ondisk.specs.Roots.{IsNewest}
@@ -39,17 +39,19 @@ use Rattle.sn_ondisk.specs.Shown.{Shown}
 use Rattle.sn_ondisk.specs.Trees.{Store, store_of}
 use Rattle.sn_log.specs.Positions.{LogPosition, payloads_of}
 use Rattle.sn_image.specs.Image.{image}
-use Rattle.sn_image.proofs.SoundNodeLemmas.{only_version}
+use Rattle.sn_image.proofs.ByteLemmas.{data_whole}
+use Rattle.sn_image.proofs.SoundNameLemmas.{sound_tree}
 use Rattle.sn_opening.specs.Opens.{IsDisk, Opens, Shows}
 use Rattle.sn_opening.specs.Worlds.{found, frozen_of}
-use Rattle.sn_overlay.specs.Needs.{nameless_in}
+use Rattle.sn_overlay.specs.Needs.{AreCharged, nameless_in}
 use Rattle.sn_overlay.specs.Overlays.{no_changes}
 use Rattle.sn_overlay_change.proofs.NamelessLemmas.{drops_are_counted}
 use Rattle.sn_room.specs.Rooms.{RoomCounts}
 use Rattle.sn_sound.specs.Charges.{Fits, charges_from}
 use Rattle.sn_sound.specs.Disks.{IsFormatted}
 use Rattle.sn_sound.specs.Logs.{HasAgeLeft, IsToRecover}
-use Rattle.sn_sound.specs.Maps.{IsSoundRoot, free_blocks}
+use Rattle.sn_sound.specs.Maps.{IsSoundRoot, Rooted, free_blocks, frozen_root}
+use Rattle.sn_sound.proofs.StandingLemmas.{first_among}
 use Rattle.sn_held.specs.Held.{Kept}
 use Rattle.sn_held.specs.Images.{IsImage}
 use Rattle.sn_held.proofs.EventLemmas.{images_one}
@@ -65,7 +67,7 @@ use Rattle.sn_cp_whole.specs.declared.fault.PointFault.TheVariants as point
 use Rattle.sn_examine.specs.Ages.{TellsRecovery}
 use Rattle.sn_examine.specs.Finding.{HasFound}
 use Rattle.sn_examine.specs.Refusing.{Refuses}
-use Rattle.sn_examine.proofs.FindLemmas.{IsSameRoot, are_replayed, charges_are, same_root}
+use Rattle.sn_examine.proofs.FindLemmas.{IsSameRoot, are_replayed, both_applied, charges_are, same_root}
 use Rattle.sn_examine.specs.Failing.{read_fault}
 use Rattle.sn_mount.specs.Recovering.{KeepsTheRoot, WritesAtFault}
 use Rattle.sn_mount.specs.Settling.{IsNoRoot, MakesRoot, SettlesChanges}
@@ -76,6 +78,20 @@ both_nil : {A : Type 0} (xs ys : List A) → (xs ++ ys ≢ [] → ⊥) → (xs �
 both_nil [] [] never = (refl, refl)
 both_nil [] (y ∷ ys) never = absurd (never (λ nil. cc))
 both_nil (x ∷ xs) ys never = absurd (never (λ nil. cc))
+
+same_number : (a b : ℕ) → (a ≢ b → ⊥) → a ≡ b
+same_number a b never = told (a == b) refl
+  where
+    told : (t : Bool) → (a == b) ≡ t → a ≡ b
+    told true is = eqb-true a b is
+    told false is = absurd (never (λ same. true≢false (sym (eq-eqb a b same) ∙ is)))
+
+within_all : (m free all : ℕ) → m ≤ free → free ≡ all → m ≤ all
+within_all m free all few is = omega (arith, few, is)
+
+-- the charges of each version pay for what its changes need
+versions_charged : (version : ℕ) (limits : Limits) → limits_of version ≡ Some limits → AreCharged limits
+versions_charged = each_version AreCharged (record { inodes = omega arith; blocks = refl })
 
 is_zero : (m : ℕ) → (m ≢ 0 → ⊥) → m ≡ 0
 is_zero zero never = refl
@@ -119,20 +135,24 @@ module _ (sectors : ℕ) (c : Contents) (k : Kept) (at : LogPosition) (shown : T
   abbrev settled_over : RootBody → World
   settled_over b = record new_world { live = settled shown; frozen = frozen_of s b.snapshots }
 
-  pub limits_one : version_1 ≡ k.root.limits
-  limits_one = only_version k.root.limits f.roots.newest.body.fits.version
+  -- its version is one that is read
+  abbrev limits : Limits
+  limits = k.root.limits
 
-  made_one : apply_all version_1 (older ++ newer) img ≡ Some shown
-  made_one = lists_join version_1 older newer img ∙ ap (λ (o : Option Tree). o >>= apply_all version_1 newer) f.both.has_older.all.replayed.applied ∙ f.both.has_newer.all.replayed.applied
+  pub version : limits_of limits.version ≡ Some limits
+  version = f.roots.newest.body.fits.version
 
-  charged_one : f.charges ≡ charges_from version_1 (older ++ newer) img
-  charged_one = charges_are c img n k.root.epoch at shown f.charges f.both
+  pub made : apply_all limits (older ++ newer) img ≡ Some shown
+  made = both_applied limits c img n k.root.epoch at shown f.charges f.both
+
+  charged_one : f.charges ≡ charges_from limits (older ++ newer) img
+  charged_one = charges_are limits c img n k.root.epoch at shown f.charges f.both
 
   pub shown_here : Shown n c k.slot k.root (payloads_of older) (payloads_of newer)
   shown_here = record {
     newest = f.roots.newest;
-    has_older = (are_replayed c img n k.root.epoch f.both.older f.both.middle f.both.first f.both.has_older).records;
-    has_newer = (are_replayed c f.both.middle n (k.root.epoch + 1) f.both.newer shown f.both.second f.both.has_newer).records;
+    has_older = (are_replayed limits c img n k.root.epoch f.both.older f.both.middle f.both.first f.both.has_older).records;
+    has_newer = (are_replayed limits c f.both.middle n (k.root.epoch + 1) f.both.newer shown f.both.second f.both.has_newer).records;
   }
 
   -- where the map is that of a sound root
@@ -140,18 +160,25 @@ module _ (sectors : ℕ) (c : Contents) (k : Kept) (at : LogPosition) (shown : T
     pub disk_is : IsDisk n c
     disk_is = record { size = f.roots.formatted.size; whole = whole; long = subst (λ (m : ℕ). 8 * n ≤ m) (sym count) f.roots.formatted.room }
 
-    covers : f.charges + version_1.inode_charge * nameless_in img ≤ free_blocks n s k.root
-    covers = omega (arith, leb-true (f.charges + version_1.inode_charge * nameless_in img) f.finds.free f.finds.covered, f.finds.told k.words spelled sound)
+    covers : f.charges + limits.inode_charge * nameless_in img ≤ free_blocks n s k.root
+    covers = within_all (f.charges + limits.inode_charge * nameless_in img) f.finds.free (free_blocks n s k.root) (leb-true (f.charges + limits.inode_charge * nameless_in img) f.finds.free f.finds.covered) (f.finds.told k.words spelled sound)
 
-    pub fits_one : Fits version_1 (older ++ newer) img (free_blocks n s k.root)
-    fits_one = omega (arith, covers, charged_one)
+    pub fits_one : Fits limits (older ++ newer) img (free_blocks n s k.root)
+    fits_one = subst (λ (m : ℕ). m + limits.inode_charge * nameless_in img ≤ free_blocks n s k.root) charged_one covers
 
-    module _ (k2 : Kept) (w : World) (settles : SettlesChanges k shown k2) (live : w.live ≡ settled shown) (frozen : w.frozen ≡ frozen_of s k2.root.snapshots) (tree : IsTree version_1 shown) where
-      tree_left : IsTree version_1 w.live
-      tree_left = subst (IsTree version_1) (sym live) (dropping_tree version_1 shown (λ _. false) tree)
+    -- under the root's limits its own tree is a name tree, and so is what the records made of it
+    shown_tree : IsTree limits shown
+    shown_tree =
+        let root : Rooted = record { bit = 0; inodes = k.root.inode_file } in
+        let its = sound.roots root (first_among root (map_list frozen_root k.root.snapshots)) in
+        lists_keep limits (older ++ newer) img shown (sound_tree limits n s k.root.inode_file version (λ block lies. data_whole c n block whole disk_is.long lies) its) made
 
-      changed_left : HasChanged version_1 k2.changed img w.live f.charges
-      changed_left = subst (λ (t : Tree). HasChanged version_1 k2.changed img t f.charges) (sym live) (settles.changed img f.charges f.changed)
+    module _ (k2 : Kept) (w : World) (settles : SettlesChanges k shown k2) (live : w.live ≡ settled shown) (frozen : w.frozen ≡ frozen_of s k2.root.snapshots) where
+      tree_left : IsTree limits w.live
+      tree_left = subst (IsTree limits) (sym live) (dropping_tree limits shown (λ _. false) shown_tree)
+
+      changed_left : HasChanged limits k2.changed img w.live f.charges
+      changed_left = subst (λ (t : Tree). HasChanged limits k2.changed img t f.charges) (sym live) (settles.changed limits img f.charges (versions_charged limits.version limits version) f.changed)
 
       stands : StandsKept n c w k2
       stands = record {
@@ -162,20 +189,19 @@ module _ (sectors : ℕ) (c : Contents) (k : Kept) (at : LogPosition) (shown : T
         shown = subst (λ (slot : Slot). Shows n s slot k2.root older newer c) (sym settles.slot) (subst (λ (b : RootBody). Shows n s k.slot b older newer c) (sym settles.root) (record { shown = shown_here; same = λ block among. refl }));
         map = subst (λ (slot : Slot). HasMap n c slot k2.words) (sym settles.slot) (subst (λ (ws : List ℕ). HasMap n c k.slot ws) (sym settles.words) spelled);
         sound = subst (λ (b : RootBody). IsSoundRoot n s b (slice_index k2.words)) (sym settles.root) (subst (λ (ws : List ℕ). IsSoundRoot n s k.root (slice_index ws)) (sym settles.words) sound);
-        limits = ap (λ (b : RootBody). b.limits) settles.root ∙ sym limits_one;
         frozen = frozen;
         charged = f.charges;
-        changed = subst (λ (b : RootBody). HasChanged version_1 k2.changed (image s b.inode_file) w.live f.charges) (sym settles.root) changed_left;
-        fits = subst (λ (b : RootBody). f.charges + version_1.inode_charge * nameless_in (image s b.inode_file) ≤ free_blocks n s b) (sym settles.root) covers;
-        tree = tree_left;
+        changed = subst (λ (b : RootBody). HasChanged b.limits k2.changed (image s b.inode_file) w.live f.charges) (sym settles.root) changed_left;
+        fits = subst (λ (b : RootBody). f.charges + b.limits.inode_charge * nameless_in (image s b.inode_file) ≤ free_blocks n s b) (sym settles.root) covers;
+        tree = subst (λ (b : RootBody). IsTree b.limits w.live) (sym settles.root) tree_left;
       }
 
   -- where no root can be made of it, it isn't
-  module _ (whole : AreSectors c) (count : length c ≡ sectors) (k2 : Kept) (settles : SettlesChanges k shown k2) (tree : IsTree version_1 shown) (never : CanBeBuilt n s k2 → ⊥) where
+  module _ (whole : AreSectors c) (count : length c ≡ sectors) (k2 : Kept) (settles : SettlesChanges k shown k2) (never : CanBeBuilt n s k2 → ⊥) where
     unsound : (words : List ℕ) → HasMap n c k.slot words → IsSoundRoot n s k.root (slice_index words) → ⊥
     unsound words spelled sound =
         let same = f.words words spelled in
-        never (kept_can_be_built n c (settled_over k2.root) k2 (stands whole count (subst (λ (ws : List ℕ). HasMap n c k.slot ws) (sym same) spelled) (subst (λ (ws : List ℕ). IsSoundRoot n s k.root (slice_index ws)) (sym same) sound) k2 (settled_over k2.root) settles refl refl tree))
+        never (kept_can_be_built n c (settled_over k2.root) k2 (stands whole count (subst (λ (ws : List ℕ). HasMap n c k.slot ws) (sym same) spelled) (subst (λ (ws : List ℕ). IsSoundRoot n s k.root (slice_index ws)) (sym same) sound) k2 (settled_over k2.root) settles refl refl))
 
     pub map_refuses : (damage : Damage) (block : ℕ) → damage ≡ MapWord → block ≡ start_of n (MapCopy k2.slot) → Refuses (fault.Damaged damage block) sectors c
     map_refuses damage block is at_map =
@@ -215,9 +241,6 @@ module _ (sectors : ℕ) (c : Contents) (k : Kept) (at : LogPosition) (shown : T
     abbrev pub standing : World
     standing = found shown (frozen_of s k.root.snapshots)
 
-    pub made : apply_all k.root.limits (older ++ newer) img ≡ Some shown
-    made = subst (λ (l : Limits). apply_all l (older ++ newer) img ≡ Some shown) limits_one made_one
-
     abbrev pub opens_it : Opens n c standing
     opens_it = record {
       slot = k.slot;
@@ -230,9 +253,9 @@ module _ (sectors : ℕ) (c : Contents) (k : Kept) (at : LogPosition) (shown : T
       stands = record { tree = shown; applied = made; settles = refl };
     }
 
-    pub age_left : (b : Bool) → recovers ≡ b → IsToRecover (older ++ newer) img → HasAgeLeft k.root
+    pub age_left : (b : Bool) → recovers ≡ b → IsToRecover k.root (older ++ newer) img → HasAgeLeft k.root
     age_left true e some = f.age e
-    age_left false e some = absurd (subst (λ (b : Bool). TellsRecovery b (older ++ newer) img) e f.recovery some)
+    age_left false e some = absurd (subst (λ (b : Bool). TellsRecovery b k.root (older ++ newer) img) e f.recovery some)
 
     abbrev pub image_found : IsImage c standing
     image_found = record {
@@ -244,7 +267,7 @@ module _ (sectors : ℕ) (c : Contents) (k : Kept) (at : LogPosition) (shown : T
       map = spelled_here;
       sound = sound_here;
       none_later = f.roots.none_later;
-      fits = subst (λ (l : Limits). Fits l (older ++ newer) img (free_blocks n s k.root)) limits_one (fits_one whole count spelled_here sound_here);
+      fits = fits_one whole count spelled_here sound_here;
       age = age_left recovers refl;
     }
 
@@ -257,21 +280,25 @@ module _ (sectors : ℕ) (c : Contents) (k : Kept) (at : LogPosition) (shown : T
 
     -- where nothing is to recover
     module _ (none : recovers ≡ false) where
-      left : IsToRecover (older ++ newer) img → ⊥
-      left = subst (λ (b : Bool). TellsRecovery b (older ++ newer) img) none f.recovery
+      left : IsToRecover k.root (older ++ newer) img → ⊥
+      left = subst (λ (b : Bool). TellsRecovery b k.root (older ++ newer) img) none f.recovery
 
       pub no_records : (older ≡ []) × (newer ≡ [])
-      no_records = both_nil older newer (λ some. left (inl some))
+      no_records = both_nil older newer (λ some. left (inr (inl some)))
+
+      -- the root is of the written version
+      pub written : limits ≡ limits_written
+      written = written_known limits version (same_number limits.version limits_written.version (λ other. left (inl other)))
 
       pub tree_stays : img ≡ settled shown
       tree_stays =
-          let live : shown ≡ img = made_of_none version_1 (older ++ newer) img shown (λ i. no_records.0 i ++ no_records.1 i) made_one in
-          sym (settled_same img (is_zero (nameless_in img) (λ some. left (inr some)))) ∙ ap settled (sym live)
+          let live : shown ≡ img = made_of_none limits (older ++ newer) img shown (λ i. no_records.0 i ++ no_records.1 i) made in
+          sym (settled_same img (is_zero (nameless_in img) (λ some. left (inr (inr some))))) ∙ ap settled (sym live)
 
 -- ---- the root that is made
 
 module _ (sectors : ℕ) (mid : Disk) (k : Kept) (at : LogPosition) (shown : Tree) (room : RoomCounts) (recovers : Bool) (f : HasFound sectors (reads mid) k at shown room recovers) (count : length (reads mid) ≡ sectors) (whole : AreSectors (reads mid))
-    (synced : IsSynced mid) (k2 : Kept) (settles : SettlesChanges k shown k2) (tree : IsTree version_1 shown) where
+    (synced : IsSynced mid) (k2 : Kept) (settles : SettlesChanges k shown k2) (tree : IsTree limits_written shown) where
   module _ (w : World) (im : IsImage (reads mid) w) where
     abbrev here : World
     here = standing sectors (reads mid) k at shown room recovers f whole count w im
@@ -285,9 +312,10 @@ module _ (sectors : ℕ) (mid : Disk) (k : Kept) (at : LogPosition) (shown : Tre
       slot = settles.slot;
       root = settles.root;
       words = settles.words;
-      changed = subst (λ (charges : ℕ). HasChanged version_1 k2.changed (image (store_of (reads mid)) k.root.inode_file) here.live charges) (charged_one sectors (reads mid) k at shown room recovers f)
-          (settles.changed (image (store_of (reads mid)) k.root.inode_file) f.charges f.changed);
-      tree = dropping_tree version_1 shown (λ _. false) tree;
+      changed = subst (λ (l : Limits). HasChanged l k2.changed (image (store_of (reads mid)) k.root.inode_file) here.live (charges_from l (its.opens.older ++ its.opens.newer) (image (store_of (reads mid)) k.root.inode_file))) (sym (ap (λ (r : RootBody). r.limits) settles.root))
+          (subst (λ (charges : ℕ). HasChanged k.root.limits k2.changed (image (store_of (reads mid)) k.root.inode_file) here.live charges) (charged_one sectors (reads mid) k at shown room recovers f)
+          (settles.changed k.root.limits (image (store_of (reads mid)) k.root.inode_file) f.charges (versions_charged k.root.limits.version k.root.limits f.roots.newest.body.fits.version) f.changed));
+      tree = dropping_tree limits_written shown (λ _. false) tree;
     }
 
     stays : recovers ≡ false → IsImageOver mid here at.blocks (record k2 { changed = no_changes })
@@ -326,7 +354,7 @@ module _ (sectors : ℕ) (mid : Disk) (k : Kept) (at : LogPosition) (shown : Tre
 
   -- where no root can be made
   pub no_root_refuses : (fault : MountFault) (d : Disk) → IsNoRoot fault at.blocks k2 mid d → Refuses fault sectors (reads mid)
-  no_root_refuses (fault.Damaged damage block) d is = map_refuses sectors (reads mid) k at shown room recovers f whole count k2 settles tree is.3 damage block is.0 is.1
+  no_root_refuses (fault.Damaged damage block) d is = map_refuses sectors (reads mid) k at shown room recovers f whole count k2 settles is.3 damage block is.0 is.1
   no_root_refuses fault.NotFormatted d is = absurd is
   no_root_refuses fault.Version d is = absurd is
   no_root_refuses fault.NoRoot d is = absurd is

@@ -6,6 +6,7 @@ use Rattle.sn_image.specs.Image.{image}
 use Rattle.sn_layout.specs.declared.geometry.Slot.{Slot}
 use Rattle.sn_layout.specs.declared.root.RootBody.{RootBody}
 use Rattle.sn_layout.specs.Geometry.{other_slot}
+use Rattle.sn_limits.specs.declared.limits.Limits.{Limits}
 use Rattle.sn_log.specs.Positions.{LogPosition}
 use Rattle.sn_model.specs.declared.change.Change.{Change}
 use Rattle.sn_model.specs.Tree.{Tree}
@@ -33,17 +34,17 @@ becomes_alike false old other next l m slots roots words b = (b.0 ∙ slots, b.1
 becomes_alike true old other next l m slots roots words b = (b.0 ∙ ap other_slot slots, subst (λ (r : RootBody). IsFollowing Recovery r next.root) roots b.1)
 
 -- the records that were found, one behind the other
-abbrev all_of : {c : Contents} {from : Tree} {n epoch : ℕ} {at : LogPosition} {tree : Tree} {charges : ℕ} → HasBoth c from n epoch at tree charges → List Change
+abbrev all_of : {limits : Limits} {c : Contents} {from : Tree} {n epoch : ℕ} {at : LogPosition} {tree : Tree} {charges : ℕ} → HasBoth limits c from n epoch at tree charges → List Change
 all_of both = both.has_older.all.replayed.changes ++ both.has_newer.all.replayed.changes
 
 -- they are those of the image
-recovery_of : (c : Contents) (w : World) (im : IsImage c w) (at : LogPosition) (tree : Tree) (charges : ℕ) (recovers : Bool) (n : ℕ) (root : RootBody) → im.blocks ≡ n → im.opens.root ≡ root → (both : HasBoth c (image (store_of c) root.inode_file) n root.epoch at tree charges)
-    → TellsRecovery recovers (all_of both) (image (store_of c) root.inode_file) → TellsRecovery recovers (im.opens.older ++ im.opens.newer) (image (store_of c) im.opens.root.inode_file)
+recovery_of : (c : Contents) (w : World) (im : IsImage c w) (at : LogPosition) (tree : Tree) (charges : ℕ) (recovers : Bool) (n : ℕ) (root : RootBody) → im.blocks ≡ n → im.opens.root ≡ root → (both : HasBoth root.limits c (image (store_of c) root.inode_file) n root.epoch at tree charges)
+    → TellsRecovery recovers root (all_of both) (image (store_of c) root.inode_file) → TellsRecovery recovers im.opens.root (im.opens.older ++ im.opens.newer) (image (store_of c) im.opens.root.inode_file)
 recovery_of c w im at tree charges recovers n root in_n is both tells =
     let its = im.opens.root in
-    let here = subst (λ (m : ℕ). (b : HasBoth c (image (store_of c) its.inode_file) m its.epoch at tree charges) × TellsRecovery recovers (all_of b) (image (store_of c) its.inode_file)) (sym in_n)
-    (subst (λ (r : RootBody). (b : HasBoth c (image (store_of c) r.inode_file) n r.epoch at tree charges) × TellsRecovery recovers (all_of b) (image (store_of c) r.inode_file)) (sym is) (both, tells)) in
-    subst (λ (xs : List Change). TellsRecovery recovers xs (image (store_of c) its.inode_file)) (image_changes c w im at tree charges here.0) here.1
+    let here = subst (λ (m : ℕ). (b : HasBoth its.limits c (image (store_of c) its.inode_file) m its.epoch at tree charges) × TellsRecovery recovers its (all_of b) (image (store_of c) its.inode_file)) (sym in_n)
+    (subst (λ (r : RootBody). (b : HasBoth r.limits c (image (store_of c) r.inode_file) n r.epoch at tree charges) × TellsRecovery recovers r (all_of b) (image (store_of c) r.inode_file)) (sym is) (both, tells)) in
+    subst (λ (xs : List Change). TellsRecovery recovers its xs (image (store_of c) its.inode_file)) (image_changes c w im at tree charges here.0) here.1
 
 module _ (sectors : ℕ) (c : Contents) (k : Kept) (at : LogPosition) (shown : Tree) (room : RoomCounts) (recovers : Bool) (f : HasFound sectors c k at shown room recovers) (count : length c ≡ sectors) (w : World) (im : IsImage c w) where
   same : IsSameRoot c at.blocks k.slot k.root w im

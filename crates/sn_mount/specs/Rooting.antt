@@ -23,9 +23,9 @@ BecomesRoot true old new = (new.slot ≡ other_slot old.slot) × IsFollowing Rec
 abbrev pub root_of_image : (c : Contents) (world : World) → IsImage c world → Kept
 root_of_image c world im = record { slot = im.opens.slot; root = im.opens.root; words = im.words; changed = no_changes }
 
--- A mount of an image makes a point exactly where a record was replayed or a file without names dropped, and that is what tells root and cost.
+-- A mount of an image makes a point exactly where the root isn't of the written version, a record was replayed, or a file without names dropped, and that is what tells root and cost.
 pub record MountsRoot (c : Contents) (world : World) (im : IsImage c world) (base : Kept) (old new : Status) : Type 0 where
   pub recovers : Bool
-  pub tells : TellsRecovery recovers (im.opens.older ++ im.opens.newer) (image (store_of c) im.opens.root.inode_file)
+  pub tells : TellsRecovery recovers im.opens.root (im.opens.older ++ im.opens.newer) (image (store_of c) im.opens.root.inode_file)
   pub root : BecomesRoot recovers (root_of_image c world im) base
   pub costs : CostsFound recovers im.blocks old new

@@ -5,7 +5,7 @@ use Rattle.sn_device.specs.Crash.{LeavesOnly}
 use Rattle.sn_device.specs.Disk.{Disk, reads}
 use Rattle.sn_layout.specs.declared.geometry.Area.TheVariants.{MapCopy}
 use Rattle.sn_layout.specs.Geometry.{start_of}
-use Rattle.sn_limits.specs.Versions.{version_1}
+use Rattle.sn_limits.specs.declared.limits.Limits.{Limits}
 use Rattle.sn_model.specs.declared.fault.Damage.TheVariants.{MapWord}
 use Rattle.sn_model.specs.declared.fault.MountFault.{MountFault}
 use Rattle.sn_model.specs.declared.fault.MountFault.TheVariants as fault
@@ -13,6 +13,7 @@ use Rattle.sn_model.specs.Settling.{settled}
 use Rattle.sn_model.specs.Tree.{Tree}
 use Rattle.sn_model.specs.World.{World}
 use Rattle.sn_ondisk.specs.Trees.{store_of}
+use Rattle.sn_overlay.specs.Needs.{AreCharged}
 use Rattle.sn_overlay.specs.Overlays.{no_changes}
 use Rattle.sn_held.specs.Held.{Kept}
 use Rattle.sn_held.specs.Images.{IsImage}
@@ -29,7 +30,7 @@ pub record SettlesChanges (old : Kept) (live : Tree) (new : Kept) : Type 0 where
   pub slot : new.slot ≡ old.slot
   pub root : new.root ≡ old.root
   pub words : new.words ≡ old.words
-  pub changed : (root : Tree) (charged : ℕ) → HasChanged version_1 old.changed root live charged → HasChanged version_1 new.changed root (settled live) charged
+  pub changed : (limits : Limits) (root : Tree) (charged : ℕ) → AreCharged limits → HasChanged limits old.changed root live charged → HasChanged limits new.changed root (settled live) charged
 
 -- What a recovery that isn't made makes of a mount. That no age is left never comes, since it is looked for before.
 abbrev pub mount_fault : PointFault → ℕ → MountFault

@@ -102,7 +102,7 @@ pub(crate) fn find<D: Device>(
         Ok(found) => found,
         Err(fault) => return Err(fault),
     };
-    let recovers = is_to_recover(at.count(), dropped);
+    let recovers = is_to_recover(&root, at.count(), dropped);
     match test_age(geometry, &root, recovers) {
         Ok(()) => {}
         Err(fault) => return Err(fault),

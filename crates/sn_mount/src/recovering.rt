@@ -6,7 +6,7 @@ ghost use Rattle.sn_block.specs.Lending.{device_of};
 ghost use Rattle.sn_cp_whole.specs.Making.{room_over};
 ghost use Rattle.sn_cp_whole.specs.Planning.{IsBaseAt, kept_in};
 ghost use Rattle.sn_desc.specs.InUse.{live_in};
-ghost use Rattle.sn_limits.specs.Versions.{version_1};
+ghost use Rattle.sn_limits.specs.Versions.{limits_written};
 ghost use Rattle.sn_live_world.specs.World.{HasDrops, IsOver, changes_of, descriptors_of, kept_of, kept_since_of, nameless_of, point_of};
 ghost use Rattle.sn_held.specs.Images.{IsImage};
 ghost use Rattle.sn_log.specs.Positions.{first_of};
@@ -33,14 +33,14 @@ use sn_room::Room;
 use std::alloc::Global;
 
 /// Syncs, checks the whole disk, finds the newest root with the log on top of it, and drops the files that no name stands
-/// for. Where a record was replayed or a file dropped, a whole point makes a root of that. Last it clears the first place of
-/// the root's half of the log, where nothing is logged then. `NotFormatted`, `NoRoot`, `Version` and `Damaged` come in this
+/// for. Where a record was replayed, a file dropped, or the root isn't of the version that is written, a whole point makes a
+/// root of that, which is of that version. Last it clears the first place of the root's half of the log, where nothing is logged then. `NotFormatted`, `NoRoot`, `Version` and `Damaged` come in this
 /// order, each before anything is written, and as the check tells them.
 pub fn recover<D: Device>(alloc: Global, blocks: &mut Blocks<D>) -> Result<Recovered, MountFault>
     ensures recovers { IsTrue D.tells_bytes → Recovers result (D.status (device_of blocks.old)).sectors (D.disk (device_of blocks.old)) (D.disk (device_of blocks.new)) }
     ensures clean { IsTrue D.tells_bytes → OnOk result (IsSomeClean (D.status (device_of blocks.old)).sectors (reads (D.disk (device_of blocks.old)))) }
     ensures over { IsTrue D.tells_bytes → IfOk result (λ r. IsOver r.world (tree_on blocks.new r.base.root.inode_file)) }
-    ensures whole { IsTrue D.tells_bytes → IfOk result (λ r. IsWorld version_1 (recovered_world r (D.disk (device_of blocks.new)))) }
+    ensures whole { IsTrue D.tells_bytes → IfOk result (λ r. IsWorld limits_written (recovered_world r (D.disk (device_of blocks.new)))) }
     ensures runs { IsTrue D.tells_bytes → IfOk result (λ r. RunsOver r (D.disk (device_of blocks.new))) }
     ensures kept { IfOk result (λ r. (number : ℕ) → kept_of r.world number ≡ false) }
     ensures since { IfOk result (λ r. (number : ℕ) → kept_since_of r.world number ≡ false) }

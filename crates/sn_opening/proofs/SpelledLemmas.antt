@@ -10,7 +10,7 @@ use Rattle.sn_limits.specs.declared.kind.Kind.{Kind}
 use Rattle.sn_limits.specs.declared.kind.Kind.TheVariants.{Directory}
 use Rattle.sn_limits.specs.Names.{is_name}
 use Rattle.sn_walk.specs.Views.{is_directory, is_hidden_name}
-use Rattle.sn_limits.specs.Versions.{version_1}
+use Rattle.sn_limits.specs.Versions.{limits_written}
 use Rattle.sn_model.specs.declared.change.Change.{Change}
 use Rattle.sn_model.specs.declared.change.Change.TheVariants.{Make, AddLink, Remove, Rename, Write, SetSize, SetAttributes}
 use Rattle.sn_model.specs.declared.link.Link.{Link}
@@ -74,9 +74,9 @@ ownership_is kind o e =
 fits_two : (n : ℕ) → n ≤ 65535 → n < 256 ^ 2
 fits_two n h = omega arith
 
-pub applied_spelled : (tree after : Tree) (directory : ℕ) (name : List ℕ) (number : ℕ) (kind : Kind) (o : Ownership) → IsTree version_1 tree → made version_1 tree (link_to directory name) number kind o ≡ Some after → IsSpelled (Make directory name number kind o)
+pub applied_spelled : (tree after : Tree) (directory : ℕ) (name : List ℕ) (number : ℕ) (kind : Kind) (o : Ownership) → IsTree limits_written tree → made limits_written tree (link_to directory name) number kind o ≡ Some after → IsSpelled (Make directory name number kind o)
 applied_spelled tree after directory name number kind o whole e =
-    let m = made_is version_1 tree (link_to directory name) number kind o after e in
+    let m = made_is limits_written tree (link_to directory name) number kind o after e in
     let first = nat_lt 2 number in
     let within = nat_le number 65535 in
     let free = is_none (map.get tree.nodes number) || (is_some (file_at tree number) && names_for tree number == 0) in
@@ -93,21 +93,21 @@ applied_spelled tree after directory name number kind o whole e =
     )
 
 -- the same of attributes that are set
-pub set_spelled : (tree after : Tree) (number : ℕ) (o : Ownership) → IsTree version_1 tree → owned tree number o ≡ Some after → IsSpelled (SetAttributes number o)
+pub set_spelled : (tree after : Tree) (number : ℕ) (o : Ownership) → IsTree limits_written tree → owned tree number o ≡ Some after → IsSpelled (SetAttributes number o)
 set_spelled tree after number o whole e =
     let p = owned_is tree number o after e in
     ((fits_two number (whole.nodes.nodes number p.node p.there).within, ownership_is p.node.kind o p.fits), tt)
 
 -- where a name is, is a directory
-directory_fits : (tree : Tree) (link : Link) (number : ℕ) → IsTree version_1 tree → map.get tree.links link ≡ Some number → link.directory < 256 ^ 2
+directory_fits : (tree : Tree) (link : Link) (number : ℕ) → IsTree limits_written tree → map.get tree.links link ≡ Some number → link.directory < 256 ^ 2
 directory_fits tree link number whole named =
     let x = some_node (map.get tree.nodes link.directory) Directory (whole.hierarchy.held link number named) in
     fits_two link.directory (whole.nodes.nodes link.directory x.0 x.1).within
 
-parent_fits : (tree : Tree) (d : ℕ) (node : Node) → IsTree version_1 tree → directory_at tree d ≡ Some node → d < 256 ^ 2
+parent_fits : (tree : Tree) (d : ℕ) (node : Node) → IsTree limits_written tree → directory_at tree d ≡ Some node → d < 256 ^ 2
 parent_fits tree d node whole e = fits_two d (whole.nodes.nodes d node (directory_is tree d node e).0).within
 
-file_fits : (tree : Tree) (number : ℕ) (node : Node) → IsTree version_1 tree → file_at tree number ≡ Some node → number < 256 ^ 2
+file_fits : (tree : Tree) (number : ℕ) (node : Node) → IsTree limits_written tree → file_at tree number ≡ Some node → number < 256 ^ 2
 file_fits tree number node whole e = fits_two number (whole.nodes.nodes number node (file_is tree number node e).0).within
 
 fits_eight : (n : ℕ) → n ≤ 67108864 → n < 256 ^ 8
@@ -117,7 +117,7 @@ one_number : (number : ℕ) (o : Option ℕ) → same_number number o ≡ true �
 one_number number None e = cc
 one_number number (Some m) e = (m, refl)
 
-renamed_spelled : (tree after : Tree) (old new : Link) (number : ℕ) (node : Node) → IsTree version_1 tree → IsRenamed version_1 tree old new number node after → (new.directory < 256 ^ 2) × (is_name new.name ≡ true)
+renamed_spelled : (tree after : Tree) (old new : Link) (number : ℕ) (node : Node) → IsTree limits_written tree → IsRenamed limits_written tree old new number node after → (new.directory < 256 ^ 2) × (is_name new.name ≡ true)
 renamed_spelled tree after old new number node whole (inl q) =
     let m = one_number number (map.get tree.links new) q.0 in
     (directory_fits tree new m.0 whole m.1, whole.nodes.names new m.0 m.1)
@@ -127,11 +127,11 @@ renamed_spelled tree after old new number node whole (inr q) = (
 )
 
 -- the same of each change of nodes that are there
-pub old_spelled : (tree after : Tree) (c : Change) → IsTree version_1 tree → IsOfOld c → apply version_1 c tree ≡ Some after → IsSpelled c
+pub old_spelled : (tree after : Tree) (c : Change) → IsTree limits_written tree → IsOfOld c → apply limits_written c tree ≡ Some after → IsSpelled c
 old_spelled tree after (Make directory name number kind o) whole old e = absurd old
 old_spelled tree after (AddLink directory name number) whole old e =
     let link = link_to directory name in
-    let p = linked_is version_1 tree link number after e in (
+    let p = linked_is limits_written tree link number after e in (
       (parent_fits tree directory p.room.directory whole p.room.parent, file_fits tree number p.node whole p.file),
       and_left (is_name name) (not (is_hidden_name directory name)) (and_left _ (is_none (map.get tree.links link)) p.vacant),
     )
@@ -142,16 +142,16 @@ old_spelled tree after (Remove directory name) whole old e =
 old_spelled tree after (Rename old_directory old_name new_directory new_name) whole old e =
     let from = link_to old_directory old_name in
     let to = link_to new_directory new_name in
-    let p = renamed_is version_1 tree from to after e in
+    let p = renamed_is limits_written tree from to after e in
     let t = renamed_spelled tree after from to p.number p.node whole p.done in
     ((directory_fits tree from p.number whole p.named, t.0), (whole.nodes.names from p.number p.named, t.1))
 old_spelled tree after (Write number offset bytes) whole old e =
-    let p = written_is version_1 tree number offset bytes after e in
+    let p = written_is limits_written tree number offset bytes after e in
     let front = and_left (nat_lt 0 (length bytes) && nat_le (offset + length bytes) 67108864) (list_all (λ b. nat_lt b 256) bytes) p.fits in
     let some = ltb-true 0 (length bytes) (and_left (nat_lt 0 (length bytes)) (nat_le (offset + length bytes) 67108864) front) in
     let few = leb-true (offset + length bytes) 67108864 (and_right (nat_lt 0 (length bytes)) (nat_le (offset + length bytes) 67108864) front) in
     ((file_fits tree number p.node whole p.file, fits_eight offset (omega (arith, few))), (omega (arith, some), old))
 old_spelled tree after (SetSize number size) whole old e =
-    let p = cut_is version_1 tree number size after e in
+    let p = cut_is limits_written tree number size after e in
     ((file_fits tree number p.node whole p.file, fits_eight size (leb-true size 67108864 p.fits)), tt)
 old_spelled tree after (SetAttributes number o) whole old e = set_spelled tree after number o whole e

@@ -88,7 +88,7 @@ sync_stores n slot plan d synced count fits (few, holds, has) = record {
 pub done_stands : (n : ℕ) (s : Store) (slot : Slot) (root : RootBody) (newer : List Change) (trees : Trees) (plan : Plan) (d : Disk) → AreSectors (reads d) → IsSynced d
     → IsBuilt n s root trees plan → IsStored n d slot plan → Always d (λ c. SameIn (all_reach s root) s (store_of c))
     → Always d (λ c. Shown n c slot plan.next (payloads_of newer) [])
-    → NextStands n slot root.limits plan.next newer trees.live d
+    → NextStands n slot plan.next.limits plan.next newer trees.live d
 done_stands n s slot root newer trees plan d whole synced built stored same shown =
     let now = Always-reads d (λ c. SameIn (all_reach s root) s (store_of c)) whole same in
     let blocks = Always-reads d (λ c. HoldsAll (store_of c) plan.blocks) whole stored.blocks in

@@ -94,4 +94,4 @@ abbrev pub DoneStands : Type 0
 DoneStands = (n : ℕ) (s : Store) (slot : Slot) (root : RootBody) (newer : List Change) (trees : Trees) (plan : Plan) (d : Disk) → AreSectors (reads d) → IsSynced d
     → IsBuilt n s root trees plan → IsStored n d slot plan → Always d (λ c. SameIn (all_reach s root) s (store_of c))
     → Always d (λ c. Shown n c slot plan.next (payloads_of newer) [])
-    → NextStands n slot root.limits plan.next newer trees.live d
+    → NextStands n slot plan.next.limits plan.next newer trees.live d

@@ -45,7 +45,6 @@ numbers_written blocks = map (λ (b : Written). b.0) blocks
 -- What `build` gives: in every store that has the new blocks and agrees with the old root in what that reaches, the next root is sound and denotes the tree that was frozen, and its snapshots the frozen trees that are wanted.
 pub record IsBuilt (n : ℕ) (s : Store) (root : RootBody) (trees : Trees) (plan : Plan) : Type 0 where
   pub fits : IsRootBody plan.next
-  pub limits : plan.next.limits ≡ root.limits
   pub later : root.generation < plan.next.generation
   pub place : AllByRecursion (λ (b : Written). IsIn n Data b.0) plan.blocks
   pub apart : (b : Written) → Contains plan.blocks b → Contains (all_reach s root) b.0 → ⊥
@@ -53,7 +52,7 @@ pub record IsBuilt (n : ℕ) (s : Store) (root : RootBody) (trees : Trees) (plan
   pub whole : (b : Written) → Contains plan.blocks b → length b.1 ≡ 4096
   pub tree : (r : Store) → SameIn (all_reach s root) s r → HoldsAll r plan.blocks → image r plan.next.inode_file ≡ trees.live
   pub frozen : (r : Store) → SameIn (all_reach s root) s r → HoldsAll r plan.blocks → frozen_of r plan.next.snapshots ≡ trees.frozen
-  pub sound : (r : Store) → SameIn (all_reach s root) s r → HoldsAll r plan.blocks → IsSound root.limits n r plan.next.inode_file
+  pub sound : (r : Store) → SameIn (all_reach s root) s r → HoldsAll r plan.blocks → IsSound plan.next.limits n r plan.next.inode_file
   -- it reaches nothing but new blocks and those of the old root
   pub reach : (r : Store) → SameIn (all_reach s root) s r → HoldsAll r plan.blocks → (block : ℕ) → Contains (all_reach r plan.next) block → Contains (all_reach s root) block ⊎ Contains (numbers_written plan.blocks) block
 

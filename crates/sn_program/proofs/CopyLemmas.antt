@@ -13,7 +13,7 @@ use Rattle.sn_device.specs.Disk.{Always, CrashNow, Disk, IsSynced, reads}
 use Rattle.sn_device.specs.Crash.{Touches}
 use Rattle.sn_device.proofs.CrashLemmas.{Always-synced, LeavesOnly-now, LeavesOnly-torn}
 use Rattle.sn_block.specs.Effects.{Nowhere}
-use Rattle.sn_limits.specs.Versions.{version_1}
+use Rattle.sn_limits.specs.Versions.{limits_written}
 use Rattle.sn_model.specs.declared.call.Event.{Event}
 use Rattle.sn_model.specs.declared.end.End.{End}
 use Rattle.sn_model.specs.declared.end.End.TheVariants as ending
@@ -54,7 +54,7 @@ kept copy last world events replies end left whole synced image run crash = of r
     of : LeavesAll replies copy last ⊎ LeavesItsRun world events replies copy last → ShowsCut (Running world) events replies left
     of (inl h) =
         let here = untouched (λ c. IsImage c world) copy last whole synced image h.touches left crash in
-        let cut : CutRun Anything version_1 (Running world) events replies world = subst (λ (r : List Reply). CutRun Anything version_1 (Running world) events r world) (sym h.none) (cut_now world events (found_settled (reads copy) world image)) in
+        let cut : CutRun Anything limits_written (Running world) events replies world = subst (λ (r : List Reply). CutRun Anything limits_written (Running world) events r world) (sym h.none) (cut_now world events (found_settled (reads copy) world image)) in
         (world, here, cut)
     of (inr h) = at_last (Running world) events [] replies h.mounted last h.moments left crash
 

@@ -4,7 +4,7 @@ use Rattle.std.specs.declared.option.Option.{Option}
 use Rattle.std.specs.Io.KnownBytes.{Appends}
 use Rattle.sn_device.specs.Disk.{Disk, reads}
 use Rattle.sn_device.specs.declared.status.Status.{Status}
-use Rattle.sn_limits.specs.Versions.{version_1}
+use Rattle.sn_limits.specs.Versions.{limits_written}
 use Rattle.sn_model.specs.declared.call.Event.{Event}
 use Rattle.sn_model.specs.declared.end.End.{End}
 use Rattle.sn_model.specs.declared.fault.MountFault.{MountFault}
@@ -20,7 +20,7 @@ use Rattle.sn_script.specs.Scripts.{IsScript}
 pub record IsRun (end : End) (events : List Event) (replies : List Reply) (disk : Disk) (status : Status) (last_disk : Disk) (last_status : Status) : Type 0 where
   pub runs : RunsTo end events replies disk status last_disk last_status
   pub machine : (world : World) → IsImage (reads disk) world → IsRunOf world events replies end disk last_disk
-  pub unfit : (fault : MountFault) → LacksRoot status.sectors (reads disk) fault → WholeRun Anything version_1 (Lacks fault) events replies end
+  pub unfit : (fault : MountFault) → LacksRoot status.sectors (reads disk) fault → WholeRun Anything limits_written (Lacks fault) events replies end
   pub causes : last_status.failures ≡ status.failures → HasCauses end events replies disk status last_disk last_status runs
 
 -- what an output had, and then the front of a text

@@ -11,7 +11,7 @@ use Rattle.sn_layout.specs.RootBody.{root_body_bytes}
 use Rattle.sn_layout.specs.declared.gate.Gate.TheVariants.{Open}
 use Rattle.sn_layout.specs.declared.geometry.Slot.{Slot}
 use Rattle.sn_layout.specs.declared.root.RootBody.{RootBody}
-use Rattle.sn_layout.proofs.Roots.{known}
+use Rattle.sn_limits.proofs.VersionLemmas.{fixed}
 use Rattle.sn_ondisk.specs.Blocks.{bytes_at, block_at}
 use Rattle.sn_ondisk.specs.Gates.{IsOpen}
 use Rattle.sn_ondisk.specs.Roots.{body_block, HasRoot}
@@ -49,8 +49,7 @@ root_front root =
 pub root_known : (c : Contents) (slot : Slot) (root : RootBody) → HasRoot c slot root → limits_of (version_at c slot) ≢ None
 unfolding Front
 root_known c slot root body none =
-    let version = known root.limits.version root.limits body.fits.version in
-    let small : root.limits.version < 256 ^ 4 = omega (arith, ap (λ l. l.version) version.1) in
+    let small : root.limits.version < 256 ^ 4 = omega (arith, (fixed root.limits.version root.limits body.fits.version).version) in
     let front = root_front root in
     let is : version_at c slot ≡ root.limits.version = version_read (block_at c (body_block slot)) front.0 root.limits.version small (body.bytes ∙ front.1) in
     let same : limits_of (version_at c slot) ≡ Some root.limits = ap limits_of is ∙ body.fits.version in

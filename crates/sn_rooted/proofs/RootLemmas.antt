@@ -35,7 +35,7 @@ use Rattle.sn_image.specs.Sound.{HasContent}
 use Rattle.sn_image.proofs.ByteLemmas.{data_whole, tree_long}
 use Rattle.sn_image.proofs.PointLemmas.{node_found}
 use Rattle.sn_image.proofs.ReachLemmas.{reach_parts}
-use Rattle.sn_image.proofs.SoundNodeLemmas.{only_version}
+use Rattle.sn_limits.proofs.VersionLemmas.{fixed}
 use Rattle.sn_image.proofs.WellFormedLemmas.{links_counted}
 use Rattle.sn_dir.specs.Blocks.{CanRead, IsDamaged}
 use Rattle.sn_dir.specs.Laws.{SoundDirectoriesAreRead}
@@ -169,7 +169,7 @@ module _ (limits : Limits) (sectors : ℕ) (c : Contents) (file : BlockTree) (ar
         told : (content : Content) → IsContent limits File content → ((block : ℕ) → Contains (content_reach s content) block → length (s block) ≡ 4096) → length (bytes_of s content) ≡ size_of content
         told (Inline bytes) is whole = refl
         told (InTree tree) is whole =
-            let largest : limits.largest_file ≡ 67108864 = ap (λ (l : Limits). l.largest_file) (sym (only_version limits root.version)) in
+            let largest = (fixed limits.version limits root.version).files in
             let within : tree.size ≤ limits.largest_file = leb-true tree.size limits.largest_file (and_parts (nat_lt 64 tree.size) (nat_le tree.size limits.largest_file) is.1).1 in
             tree_long s tree is.0.pointers.count (omega (arith, largest, within)) whole
 

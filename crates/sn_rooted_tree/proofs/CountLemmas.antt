@@ -19,7 +19,7 @@ use Rattle.sn_limits.specs.declared.kind.Kind.TheVariants.{Directory}
 use Rattle.sn_image.specs.Image.{image}
 use Rattle.sn_layout.specs.declared.tree.BlockTree.{BlockTree}
 use Rattle.sn_limits.specs.declared.limits.Limits.{Limits}
-use Rattle.sn_limits.specs.Versions.{version_1}
+use Rattle.sn_limits.specs.Versions.{limits_written}
 use Rattle.sn_model.specs.declared.link.Link.{Link}
 use Rattle.sn_model.specs.NameTree.{HasKind, IsTree}
 use Rattle.sn_model.specs.Seen.{names_of}
@@ -167,7 +167,7 @@ none_counted tree n rows is = record {
 }
 
 -- where each node has a number below an end
-module _ (tree : Tree) (whole : IsTree version_1 tree) (end : ℕ) (within : (number : ℕ) (node : Node) → fin.get tree.nodes number ≡ Some node → number < end) where
+module _ (tree : Tree) (whole : IsTree limits_written tree) (end : ℕ) (within : (number : ℕ) (node : Node) → fin.get tree.nodes number ≡ Some node → number < end) where
   low : (link : Link) (number : ℕ) → fin.get tree.links link ≡ Some number → link.directory < end
   low link number e =
       let found = some_node _ Directory (whole.hierarchy.held link number e) in

@@ -1,5 +1,5 @@
 -- Nodes and blocks of a sound root, as overlays see them.
-use Rattle.std.proofs.Common.{◌≡◌, ℕ, ◌+◌, ◌-◌, ◌*◌, ◌/◌, ◌^◌, ◌<◌, ◌≤◌, ◌⊎◌, inl, inr, List, [], ◌++◌, length, get_or, take, drop, replicate, min, Option, Some, None, refl, sym, ap, subst, ◌∙◌, arith, length-append, length-drop}
+use Rattle.std.proofs.Common.{◌≡◌, ℕ, ◌+◌, ◌-◌, ◌*◌, ◌/◌, ◌^◌, ◌<◌, ◌≤◌, ◌⊎◌, inl, inr, List, [], ◌++◌, length, get_or, take, drop, replicate, min, Option, Some, None, refl, sym, ap, ◌∙◌, arith, length-append, length-drop}
 use Rattle.std.specs.Option.{option_map}
 use Rattle.std.specs.FinMap as fin
 use Rattle.std.proofs.lemmas.Bool.{cases_lt}
@@ -12,10 +12,12 @@ use Rattle.sn_layout_node.specs.declared.inode.Inode.{Inode}
 use Rattle.sn_limits.specs.declared.kind.Kind.{Kind}
 use Rattle.sn_limits.specs.declared.kind.Kind.TheVariants.{File, Directory}
 use Rattle.sn_limits.specs.declared.limits.Limits.{Limits}
-use Rattle.sn_limits.specs.Versions.{version_1}
+use Rattle.sn_limits.specs.Versions.{limits_written}
+use Rattle.sn_limits.proofs.VersionLemmas.{written_allows}
 use Rattle.sn_live_files.specs.Known.{attributes_of}
 use Rattle.sn_model.specs.FileCalls.{bytes_of}
 use Rattle.sn_model.specs.NameTree.{IsTree}
+use Rattle.sn_model.proofs.AllowedLemmas.{tree_stays}
 use Rattle.sn_model.specs.Tree.{Node, Tree, size_of as listed_size, attributes_of as known_of, viewed}
 use Rattle.sn_ondisk.specs.Trees.{Store, store_of}
 use Rattle.sn_image.specs.Acls.{acls_at, no_acls}
@@ -24,7 +26,6 @@ use Rattle.sn_image.specs.Inodes.{inode_at}
 use Rattle.sn_image.proofs.ByteLemmas.{data_whole}
 use Rattle.sn_image.proofs.PointLemmas.{used_in, in_numbers}
 use Rattle.sn_image.proofs.SoundNameLemmas.{node_is as image_node, sound_tree}
-use Rattle.sn_image.proofs.SoundNodeLemmas.{only_version}
 use Rattle.sn_image.proofs.WellFormedLemmas.{links_counted}
 use Rattle.sn_overlay.specs.Layers.{bytes_of as shown_bytes}
 use Rattle.sn_overlay.specs.Pieces.{piece}
@@ -65,8 +66,8 @@ plain_acls s block none = sym (ap (acls_at s) none)
 -- ---- the tree of a root
 
 module _ (limits : Limits) (sectors : ℕ) (c : Contents) (file : BlockTree) (are : AreSectors c) (count : length c ≡ sectors) (root : IsSoundRoot limits sectors (store_of c) file) where
-  pub root_tree : IsTree version_1 (image (store_of c) file)
-  root_tree = subst (λ (l : Limits). IsTree l (image (store_of c) file)) (sym (only_version limits root.version))
+  pub root_tree : IsTree limits_written (image (store_of c) file)
+  root_tree = tree_stays limits limits_written (written_allows limits.version limits root.version) (image (store_of c) file)
       (sound_tree limits root.blocks (store_of c) file root.version (λ block lies. data_whole c root.blocks block are (omega (arith, root.fits, count)) lies) root.sound)
 
 -- a directory has no bytes, so what a walk is told of its size is how many are seen
@@ -75,7 +76,7 @@ size_is File bytes none = refl
 size_is Directory bytes none = sym (ap length (none refl))
 
 -- what a walk is told of a node of a name tree is told of the node that is seen
-pub viewed_seen : (tree : Tree) (number : ℕ) → IsTree version_1 tree → (viewed tree).node number ≡ option_map attributes_of (seen_node tree number)
+pub viewed_seen : (tree : Tree) (number : ℕ) → IsTree limits_written tree → (viewed tree).node number ≡ option_map attributes_of (seen_node tree number)
 viewed_seen tree number whole = told (fin.get tree.nodes number) refl
   where
     told : (o : Option Node) → fin.get tree.nodes number ≡ o → option_map (known_of tree number) o ≡ option_map attributes_of (option_map (seen_of tree number) o)
@@ -83,14 +84,14 @@ viewed_seen tree number whole = told (fin.get tree.nodes number) refl
     told (Some node) e = ap (λ (size : ℕ). Some (record (known_of tree number node) { size = size })) (size_is node.kind node.bytes (whole.nodes.nodes number node e).of_directory)
 
 -- no node has a number that the inode file has no record for
-pub numbered : (s : Store) (file : BlockTree) (end : ℕ) → end ≡ min (file.size / 128) 65536 → IsTree version_1 (image s file) → (number : ℕ) (node : Node) → fin.get (image s file).nodes number ≡ Some node → number < end
+pub numbered : (s : Store) (file : BlockTree) (end : ℕ) → end ≡ min (file.size / 128) 65536 → IsTree limits_written (image s file) → (number : ℕ) (node : Node) → fin.get (image s file).nodes number ≡ Some node → number < end
 numbered s file end is whole number node e =
     let most : number ≤ 65535 = (whole.nodes.nodes number node e).within in
     let used = image_node s file number node e in
     omega (arith, is, most, (in_numbers file number (used_in s file number used.0 used.1)).1)
 
 -- no file is longer than the largest
-pub file_short : (tree : Tree) (number : ℕ) → IsTree version_1 tree → length (shown_bytes (fin.get tree.nodes number)) ≤ 67108864
+pub file_short : (tree : Tree) (number : ℕ) → IsTree limits_written tree → length (shown_bytes (fin.get tree.nodes number)) ≤ 67108864
 file_short tree number whole = told (fin.get tree.nodes number) refl
   where
     told : (o : Option Node) → fin.get tree.nodes number ≡ o → length (shown_bytes o) ≤ 67108864

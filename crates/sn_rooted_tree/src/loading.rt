@@ -4,7 +4,7 @@ ghost use Rattle.std.specs.FinMap as fin;
 ghost use Rattle.sn_block.specs.Lending.{device_of};
 ghost use Rattle.sn_directories.specs.Told.{TellsDirectories};
 ghost use Rattle.sn_dir.specs.declared.listings.ListedName.{ListedName as TheName};
-ghost use Rattle.sn_limits.specs.Versions.{version_1};
+ghost use Rattle.sn_limits.specs.Versions.{limits_written};
 ghost use Rattle.sn_model.specs.NameTree.{IsTree};
 ghost use Rattle.sn_model.specs.Seen.{names_of};
 ghost use Rattle.sn_model.specs.Tree.{Tree, link_to};
@@ -52,7 +52,7 @@ fn count_of(names: &[ListedName]) -> u32
 
 // Enters the names of a directory, which are all that it has.
 fn enter_names(directories: &mut Directories, directory: u16, names: &[ListedName])
-    ensures { (tree : Tree) → IsTree version_1 tree → map (λ (listed : TheName). listed.name) names.now ≡ names_of tree directory
+    ensures { (tree : Tree) → IsTree limits_written tree → map (λ (listed : TheName). listed.name) names.now ≡ names_of tree directory
         → ((listed : TheName) → Contains names.now listed → fin.get tree.links (link_to directory listed.name) ≡ Some listed.number)
         → AreCounted tree directory directories.old → AreCounted tree (directory + 1) directories.new }
 {

@@ -6,7 +6,7 @@ use Rattle.sn_device.specs.Status.{has_ended}
 use Rattle.sn_device.specs.declared.status.Status.{Status}
 use Rattle.sn_block.specs.Counts.{IsLater}
 use Rattle.sn_block.proofs.CountLemmas.{later-ended}
-use Rattle.sn_limits.specs.Versions.{version_1}
+use Rattle.sn_limits.specs.Versions.{limits_written}
 use Rattle.sn_model.specs.declared.call.Event.{Event}
 use Rattle.sn_model.specs.declared.call.Event.TheVariants as event
 use Rattle.sn_model.specs.declared.end.End.{End}
@@ -73,7 +73,7 @@ unmounted_for s before after Write reply new h = inl tt
 unmounted_for s before after Space reply new h = absurd (cc h.is)
 unmounted_for s before after Age reply new h = absurd (cc h.is)
 
-stops_for : (s : State) (e : Event) (met : Option Mishap) (reply : Reply) (new : State) → EventStep version_1 s e met reply new → HasStopped new → Stops s met reply
+stops_for : (s : State) (e : Event) (met : Option Mishap) (reply : Reply) (new : State) → EventStep limits_written s e met reply new → HasStopped new → Stops s met reply
 stops_for (Stopped before after) e met reply new step stopped = inr (inr tt)
 stops_for (Running old) (event.Call session c) None reply new step stopped = absurd (never_stops step.next new step.runs stopped)
 stops_for (Running old) (event.Call session c) (Some Memory) reply new step stopped = absurd (never_stops old new step.1.same stopped)

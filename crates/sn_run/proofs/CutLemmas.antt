@@ -5,7 +5,7 @@ use Rattle.sn_device.specs.Sectors.{Contents}
 use Rattle.sn_device.specs.Disk.{Disk}
 use Rattle.sn_device.specs.Crash.{LeavesOnly}
 use Rattle.sn_device.proofs.CrashLemmas.{LeavesOnly-weaker}
-use Rattle.sn_limits.specs.Versions.{version_1}
+use Rattle.sn_limits.specs.Versions.{limits_written}
 use Rattle.sn_model.specs.declared.call.Call.{Call}
 use Rattle.sn_model.specs.declared.call.Event.{Event}
 use Rattle.sn_model.specs.declared.call.Event.TheVariants as event
@@ -37,7 +37,7 @@ stopped_settled a b reply next h = subst AreSettled (sym h.left) (settles_twice 
 refused_settled : (old : World) (m : Mishap) (reply : Reply) (next : State) → IsRefused old m reply next → AreSettled next
 refused_settled old m reply next h = subst AreSettled (sym h.same) tt
 
-call_settled : (old : World) (session : ℕ) (c : Call) (met : Option Mishap) (reply : Reply) (next : State) → CallStep version_1 old session c met reply next → AreSettled next
+call_settled : (old : World) (session : ℕ) (c : Call) (met : Option Mishap) (reply : Reply) (next : State) → CallStep limits_written old session c met reply next → AreSettled next
 call_settled old session c None reply next h = subst AreSettled (sym h.runs) tt
 call_settled old session c (Some machine.Write) reply next h = stopped_settled old h.next reply next h.stops
 call_settled old session c (Some machine.Memory) reply next h = refused_settled old machine.Memory reply next h.1
@@ -52,7 +52,7 @@ fails_settled old machine.Memory reply next h = refused_settled old machine.Memo
 fails_settled old machine.Read reply next h = refused_settled old machine.Read reply next h
 fails_settled old machine.Age reply next h = refused_settled old machine.Age reply next h
 
-pub step_settled : (s : State) (e : Event) (met : Option Mishap) (reply : Reply) (next : State) → AreSettled s → EventStep version_1 s e met reply next → AreSettled next
+pub step_settled : (s : State) (e : Event) (met : Option Mishap) (reply : Reply) (next : State) → AreSettled s → EventStep limits_written s e met reply next → AreSettled next
 step_settled (Running old) (event.Call session c) met reply next here h = call_settled old session c met reply next h
 step_settled (Running old) event.Step None reply next here h = subst AreSettled (sym h.1) tt
 step_settled (Running old) event.Step (Some m) reply next here h = fails_settled old m reply next h
@@ -71,7 +71,7 @@ step_settled (Stopped before after) event.Restart (Some m) reply next here h = s
 
 -- the contents are an image of a world that a crash in an event leaves
 abbrev ShowsLeft : State → Event → Contents → Type 0
-ShowsLeft s e c = (w : World) × IsImage c w × LeftIn version_1 s e w
+ShowsLeft s e c = (w : World) × IsImage c w × LeftIn limits_written s e w
 
 abbrev ShowsNow : State → Contents → Type 0
 ShowsNow s c = (w : World) × IsImage c w × Left s w
@@ -81,7 +81,7 @@ shown_now (Running w) c h = (settle w, h, refl)
 shown_now (Stopped before after) c (inl h) = (before, h, inl refl)
 shown_now (Stopped before after) c (inr h) = (after, h, inr refl)
 
-left_in : (s : State) (e : Event) (w : World) → Left s w → LeftIn version_1 s e w
+left_in : (s : State) (e : Event) (w : World) → Left s w → LeftIn limits_written s e w
 left_in (Running old) (event.Call session c) w h = inl h
 left_in (Running old) event.Step w h = h
 left_in (Running old) event.Restart w h = h
@@ -104,12 +104,12 @@ shown_stopped old next e c same h = told (subst (λ (x : State). ShowsState x c)
     told (inr k) = left_now (Running old) e c (settle old, k, refl)
 
 -- after a call that was answered
-after_answer : (old : World) (session : ℕ) (x : Call) (reply : Reply) (next : State) (c : Contents) → IsAnswered version_1 old session x reply next → ShowsState next c → ShowsLeft (Running old) (event.Call session x) c
+after_answer : (old : World) (session : ℕ) (x : Call) (reply : Reply) (next : State) (c : Contents) → IsAnswered limits_written old session x reply next → ShowsState next c → ShowsLeft (Running old) (event.Call session x) c
 after_answer old session x reply next c h shows =
     (settle h.next, subst (λ (s : State). ShowsState s c) h.runs shows, inr (record { reply = reply; next = h.next; becomes = h.becomes; left = refl }))
 
 -- and one that was cut off
-after_cut : (old : World) (session : ℕ) (x : Call) (reply : Reply) (next : State) (c : Contents) → IsCutOff version_1 old session x reply next → ShowsState next c → ShowsLeft (Running old) (event.Call session x) c
+after_cut : (old : World) (session : ℕ) (x : Call) (reply : Reply) (next : State) (c : Contents) → IsCutOff limits_written old session x reply next → ShowsState next c → ShowsLeft (Running old) (event.Call session x) c
 after_cut old session x reply next c h shows = told (subst (λ (s : State). ShowsState s c) h.stops.left shows)
   where
     told : IsImage c (settle old) ⊎ IsImage c (settle h.next) → ShowsLeft (Running old) (event.Call session x) c
@@ -120,12 +120,12 @@ after_cut old session x reply next c h shows = told (subst (λ (s : State). Show
       inr (record {
         reply = h.outcome.told;
         next = h.next;
-        becomes = subst (λ (d : Result Outcome Refusal). Becomes version_1 old session d h.outcome.told h.next) (sym h.decided) (refl, h.comes);
+        becomes = subst (λ (d : Result Outcome Refusal). Becomes limits_written old session d h.outcome.told h.next) (sym h.decided) (refl, h.comes);
         left = refl;
       }),
     )
 
-after_call : (old : World) (session : ℕ) (x : Call) (met : Option Mishap) (reply : Reply) (next : State) (c : Contents) → CallStep version_1 old session x met reply next → ShowsState next c → ShowsLeft (Running old) (event.Call session x) c
+after_call : (old : World) (session : ℕ) (x : Call) (met : Option Mishap) (reply : Reply) (next : State) (c : Contents) → CallStep limits_written old session x met reply next → ShowsState next c → ShowsLeft (Running old) (event.Call session x) c
 after_call old session x None reply next c h shows = after_answer old session x reply next c h shows
 after_call old session x (Some machine.Write) reply next c h shows = after_cut old session x reply next c h shows
 after_call old session x (Some machine.Memory) reply next c h shows = shown_same (Running old) next (event.Call session x) c h.1.same shows
@@ -151,7 +151,7 @@ after_mount before after None reply next c here (told, inl h) shows = (before, s
 after_mount before after None reply next c here (told, inr h) shows = (after, subst (IsImage c) here.1 (subst (λ (s : State). ShowsState s c) h shows), inr refl)
 after_mount before after (Some m) reply next c here h shows = shown_same (Stopped before after) next event.Restart c h.left shows
 
-after_event : (s : State) (e : Event) (met : Option Mishap) (reply : Reply) (next : State) (c : Contents) → AreSettled s → EventStep version_1 s e met reply next → ShowsState next c → ShowsLeft s e c
+after_event : (s : State) (e : Event) (met : Option Mishap) (reply : Reply) (next : State) (c : Contents) → AreSettled s → EventStep limits_written s e met reply next → ShowsState next c → ShowsLeft s e c
 after_event (Running old) (event.Call session x) met reply next c here h shows = after_call old session x met reply next c h shows
 after_event (Running old) event.Step None reply next c here h shows = shown_same (Running old) next event.Step c h.1 shows
 after_event (Running old) event.Step (Some m) reply next c here h shows = after_failing old event.Step m reply next c h shows
@@ -163,15 +163,15 @@ after_event (Stopped before after) event.Step (Some m) reply next c here h shows
 after_event (Stopped before after) event.Restart met reply next c here h shows = after_mount before after met reply next c here h shows
 
 -- a crash in its course
-in_event : (s : State) (e : Event) (met : Option Mishap) (reply : Reply) (next : State) (c : Contents) → AreSettled s → EventStep version_1 s e met reply next → ShowsState s c ⊎ ShowsState next c → ShowsLeft s e c
+in_event : (s : State) (e : Event) (met : Option Mishap) (reply : Reply) (next : State) (c : Contents) → AreSettled s → EventStep limits_written s e met reply next → ShowsState s c ⊎ ShowsState next c → ShowsLeft s e c
 in_event s e met reply next c here h (inl shows) = left_now s e c (shown_now s c shows)
 in_event s e met reply next c here h (inr shows) = after_event s e met reply next c here h shows
 
 -- ---- events of a run
 
 -- a step of the machine
-step_of : (old new : Standing) (e : Event) (reply : Reply) → Goes old e reply new → StepOf Anything version_1 old.state e reply new.state
-step_of old new e reply goes = (goes.answers.met, tt, subst (λ (s : State). EventStep version_1 old.state e goes.answers.met reply s) (sym goes.next) goes.answers.step)
+step_of : (old new : Standing) (e : Event) (reply : Reply) → Goes old e reply new → StepOf Anything limits_written old.state e reply new.state
+step_of old new e reply goes = (goes.answers.met, tt, subst (λ (s : State). EventStep limits_written old.state e goes.answers.met reply s) (sym goes.next) goes.answers.step)
 
 goes_settled : (old new : Standing) (e : Event) (reply : Reply) → AreSettled old.state → Goes old e reply new → AreSettled new.state
 goes_settled old new e reply here goes = let step = step_of old new e reply goes in step_settled old.state e step.0 reply new.state here step.2
@@ -183,7 +183,7 @@ goes_leaves old new e reply here goes =
     (λ c. in_event old.state e a.met reply a.next c here a.step) a.lasts.moments
 
 -- of the machine
-pub machine_run : (first last : Standing) (events : List Event) (replies : List Reply) → RunBy Goes first events replies last → Run Anything version_1 first.state events replies last.state
+pub machine_run : (first last : Standing) (events : List Event) (replies : List Reply) → RunBy Goes first events replies last → Run Anything limits_written first.state events replies last.state
 machine_run first last [] [] run = ap (λ (x : Standing). x.state) run
 machine_run first last [] (reply ∷ replies) run = absurd run
 machine_run first last (e ∷ events) [] run = absurd run
@@ -203,7 +203,7 @@ cut_in first mid next (d ∷ done) todo e (r ∷ said) reply here run goes =
     (cut_in run.0 mid next done todo e said reply (goes_settled first run.0 d r here run.1) run.2 goes)
 
 -- a crash behind the last event
-cut_behind : (first last : Standing) (events : List Event) (said : List Reply) (w : World) → RunBy Goes first events said last → Left last.state w → CutRun Anything version_1 first.state (events ++ []) said w
+cut_behind : (first last : Standing) (events : List Event) (said : List Reply) (w : World) → RunBy Goes first events said last → Left last.state w → CutRun Anything limits_written first.state (events ++ []) said w
 cut_behind first last [] [] w run here = subst (λ (x : Standing). Left x.state w) run here
 cut_behind first last [] (reply ∷ said) w run here = absurd run
 cut_behind first last (e ∷ events) [] w run here = absurd run
@@ -231,7 +231,7 @@ run_leaves first mid last done (e ∷ todo) said (reply ∷ replies) new here be
     )
 
 -- before the first event
-pub cut_now : (world : World) (events : List Event) → settle world ≡ world → CutRun Anything version_1 (Running world) events [] world
+pub cut_now : (world : World) (events : List Event) → settle world ≡ world → CutRun Anything limits_written (Running world) events [] world
 cut_now world [] settled = sym settled
 cut_now world (e ∷ events) settled = left_in (Running world) e world (sym settled)
 

@@ -5,7 +5,7 @@ use Rattle.sn_device.specs.Status.{has_ended}
 use Rattle.sn_device.specs.declared.status.Status.{Status}
 use Rattle.sn_block.specs.Counts.{IsLater}
 use Rattle.sn_block.proofs.CountLemmas.{later-ended, later-join, later-same}
-use Rattle.sn_limits.specs.Versions.{version_1}
+use Rattle.sn_limits.specs.Versions.{limits_written}
 use Rattle.sn_model.specs.declared.call.Event.{Event}
 use Rattle.sn_model.specs.declared.reply.Reply.{Reply}
 use Rattle.sn_model.specs.Machine.{State, Mishap, Memory, Read, Write, Space, Age, EventStep, Run, RunBy}
@@ -45,7 +45,7 @@ runs_later first last (e ∷ events) (reply ∷ replies) run = later-join first.
 
 pub run_unfailing : (first last : Standing) (events : List Event) (replies : List Reply) → RunBy Goes first events replies last
     → last.held.status.failures ≡ first.held.status.failures → has_ended last.held.status ≡ false
-    → Run Unfailing version_1 first.state events replies last.state
+    → Run Unfailing limits_written first.state events replies last.state
 run_unfailing first last [] [] run same goes_on = ap (λ (x : Standing). x.state) run
 run_unfailing first last [] (reply ∷ replies) run same goes_on = absurd run
 run_unfailing first last (e ∷ events) [] run same goes_on = absurd run
@@ -57,6 +57,6 @@ run_unfailing first last (e ∷ events) (reply ∷ replies) run same goes_on =
     let there : last.held.status.failures ≡ mid.held.status.failures = omega (arith, here, same) in
     let on : has_ended mid.held.status ≡ false = not_ended (has_ended mid.held.status) (λ ended. true≢false (sym (later-ended mid.held.status last.held.status rest ended) ∙ goes_on)) in (
       mid.state,
-      (a.met, met_unfailing a.fin a.mid e a.met mid.held.status a.may (here ∙ sym (fin_failures first.state e first.held a.fin a.finish)) on, subst (λ (s : State). EventStep version_1 first.state e a.met reply s) (sym run.1.next) a.step),
+      (a.met, met_unfailing a.fin a.mid e a.met mid.held.status a.may (here ∙ sym (fin_failures first.state e first.held a.fin a.finish)) on, subst (λ (s : State). EventStep limits_written first.state e a.met reply s) (sym run.1.next) a.step),
       run_unfailing mid last events replies run.2 there goes_on,
     )

@@ -1,7 +1,7 @@
 -- What points leave of a run, and of their steps.
 use Rattle.std.proofs.Common.{◌≡◌, inl, inr, ℕ, ◌+◌, Bool, false, List, [], ◌∷◌, Option, None, Some, Result, Ok, Err, refl, sym, ap, subst, ◌∙◌, arith}
 use Rattle.sn_device.specs.Disk.{Always}
-use Rattle.sn_limits.specs.Versions.{version_1}
+use Rattle.sn_limits.specs.Versions.{limits_written}
 use Rattle.sn_model.specs.declared.call.Call.{Call}
 use Rattle.sn_model.specs.declared.call.Event.{Event}
 use Rattle.sn_model.specs.declared.call.Event.TheVariants as event
@@ -31,7 +31,7 @@ use Rattle.sn_run.specs.Runs.{Goes, Standing}
 done_is_refused : (errno : Errno) → answer.Done ≡ refused errno → ⊥
 done_is_refused errno e = cc
 
-done_so : (w : World) (session : ℕ) (d : Result Outcome Refusal) (next : World) → Becomes version_1 w session d answer.Done next → (o : Outcome) × (d ≡ Ok o)
+done_so : (w : World) (session : ℕ) (d : Result Outcome Refusal) (next : World) → Becomes limits_written w session d answer.Done next → (o : Outcome) × (d ≡ Ok o)
 done_so w session (Ok o) next b = (o, refl)
 done_so w session (Err r) next b = let never : answer.Done ≡ answer.Refused r = b.0 in absurd cc
 
@@ -44,12 +44,12 @@ module _ (old new : Held) (had has : Bool) (session : ℕ) (c : Call) (asks : As
   world_there w fin (inl same) r = ap (λ (h : Held). h.world) same ∙ (runs_with old w old.point r).is
   world_there w fin (inr f) r = f.2.world ∙ (runs_with old w old.point r).is
 
-  leaves_all : (s : State) (met : Option Mishap) (state : State) (fin mid : Held) → IsBehindFinish s e old fin → EventStep version_1 s e met answer.Done state → Means old had s → Means new has state → Leaves s e met answer.Done state fin mid new → Always new.disk (IsInItsRoot new.world.live (settle new.world))
+  leaves_all : (s : State) (met : Option Mishap) (state : State) (fin mid : Held) → IsBehindFinish s e old fin → EventStep limits_written s e met answer.Done state → Means old had s → Means new has state → Leaves s e met answer.Done state fin mid new → Always new.disk (IsInItsRoot new.world.live (settle new.world))
   leaves_all (Stopped before after) None state fin mid f step m n l = absurd (done_is_refused Estopped step.0)
   leaves_all (Stopped before after) (Some met) state fin mid f step m n l = absurd step
   leaves_all (Running w) None state fin mid f step m n l =
-      let d = done_so w session (decision version_1 w session c) step.next step.becomes in
-      let asked : AsksFirst fin session c = record { asks = asks; outcome = d.0; decided = subst (λ (x : World). decision version_1 x session c ≡ Ok d.0) (sym (world_there w fin f m.1)) d.1 } in
+      let d = done_so w session (decision limits_written w session c) step.next step.becomes in
+      let asked : AsksFirst fin session c = record { asks = asks; outcome = d.0; decided = subst (λ (x : World). decision limits_written x session c ≡ Ok d.0) (sym (world_there w fin f m.1)) d.1 } in
       let made : HasMadePoint e fin mid × (new ≡ mid) = l.0 asked in
       let fresh : IsFresh new = subst IsFresh (sym made.1) made.0.fresh in
       let runs : Means new has (Running step.next) = subst (Means new has) step.runs n in

@@ -7,7 +7,7 @@ use Rattle.sn_device.specs.declared.status.Status.{Status}
 use Rattle.sn_device.proofs.CrashLemmas.{LeavesOnly-now, LeavesOnly-start, LeavesOnly-weaker, Touches-start}
 use Rattle.sn_mount.specs.Costs.{CostsMount}
 use Rattle.sn_block.specs.Effects.{Nowhere}
-use Rattle.sn_limits.specs.Versions.{version_1}
+use Rattle.sn_limits.specs.Versions.{limits_written}
 use Rattle.sn_model.specs.declared.call.Event.{Event}
 use Rattle.sn_model.specs.declared.end.End.{End}
 use Rattle.sn_model.specs.declared.end.End.TheVariants as ending
@@ -152,7 +152,7 @@ module _ (events : List Event) (replies : List Reply) (disk last_disk : Disk) (s
   never_served end s = let t = s.touched in lacks_none f status.sectors (reads disk) t.blocks t.slot t.root t.formatted t.newest lacks
 
   -- the mount has told why, or has failed
-  pub is_unfit : (end : End) → RunsTo end events replies disk status last_disk last_status → WholeRun Anything version_1 (Lacks f) events replies end
+  pub is_unfit : (end : End) → RunsTo end events replies disk status last_disk last_status → WholeRun Anything limits_written (Lacks f) events replies end
   is_unfit ending.Clean h = absurd (never_served ending.Clean h)
   is_unfit ending.Stopped h = absurd (never_served ending.Stopped h)
   is_unfit ending.Memory (inr s) = absurd (never_served ending.Memory s)
@@ -161,10 +161,10 @@ module _ (events : List Event) (replies : List Reply) (disk last_disk : Disk) (s
 
 -- ---- lives
 
-pub lives : (c last : Contents) (runs : List (List Event × List Reply)) (first : World) → IsImage c first → LivesOn c runs last → (world : World) × IsImage last world × Life Anything version_1 first runs world
+pub lives : (c last : Contents) (runs : List (List Event × List Reply)) (first : World) → IsImage c first → LivesOn c runs last → (world : World) × IsImage last world × Life Anything limits_written first runs world
 lives c last [] first image life = (first, subst (λ (x : Contents). IsImage x first) (sym life) image, refl)
 lives c last (r ∷ rs) first image life =
     let cut = life.1 in
     let same = images_one c cut.world first cut.image image in
     let rest = lives life.0 last rs cut.cut.0 cut.cut.1 life.2 in
-    (rest.0, rest.1, (cut.cut.0, subst (λ (w : World). CutRun Anything version_1 (Running w) r.0 r.1 cut.cut.0) same cut.cut.2, rest.2))
+    (rest.0, rest.1, (cut.cut.0, subst (λ (w : World). CutRun Anything limits_written (Running w) r.0 r.1 cut.cut.0) same cut.cut.2, rest.2))

@@ -3,7 +3,7 @@ use Rattle.std.proofs.Common.{◌≡◌, ◌⊎◌, inl, inr, ℕ, List, [], ref
 use Rattle.sn_device.specs.Sectors.{Contents}
 use Rattle.sn_layout.specs.declared.geometry.Slot.{Slot}
 use Rattle.sn_layout.specs.declared.root.RootBody.{RootBody}
-use Rattle.sn_limits.specs.Versions.{version_1}
+use Rattle.sn_limits.specs.Versions.{limits_written}
 use Rattle.sn_model.specs.declared.call.Event.{Event}
 use Rattle.sn_model.specs.declared.fault.Damage.{Damage}
 use Rattle.sn_model.specs.declared.end.End.TheVariants as ending
@@ -56,7 +56,7 @@ no_fault f damage sectors c block faulty lacks = told faulty.why
 
 -- The mount tells the same of it, or lacks memory, or the device has failed.
 pub unfit_fault : (f g : MountFault) (sectors : ℕ) (c : Contents) (events : List Event) (replies : List Reply) → replies ≡ [] → LacksRoot sectors c f → IsCause sectors c g
-    → HasNoMount Anything replies (ending.Mount g) ⊎ Serves Anything version_1 (Lacks f) events replies (ending.Mount g)
+    → HasNoMount Anything replies (ending.Mount g) ⊎ Serves Anything limits_written (Lacks f) events replies (ending.Mount g)
 unfit_fault f fault.Memory sectors c events replies none lacks cause = inl (record { met = Memory; may = tt; fault = fault.Memory; is = refl; none = none; ends = refl })
 unfit_fault f fault.Device sectors c events replies none lacks cause = inl (record { met = Read; may = tt; fault = fault.Device; is = refl; none = none; ends = refl })
 unfit_fault f (fault.Damaged damage block) sectors c events replies none lacks cause = absurd (no_fault f damage sectors c block cause lacks)

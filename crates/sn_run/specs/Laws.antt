@@ -2,7 +2,7 @@
 use Rattle.std.specs.Prelude.{◌≡◌, false, Option, None, Some, List, [], ◌∷◌, ℕ, ◌+◌, ◌<◌, ◌≤◌}
 use Rattle.sn_device.specs.Sectors.{Contents}
 use Rattle.sn_device.specs.Status.{has_ended}
-use Rattle.sn_limits.specs.Versions.{version_1}
+use Rattle.sn_limits.specs.Versions.{limits_written}
 use Rattle.sn_model.specs.declared.call.Event.{Event}
 use Rattle.sn_model.specs.declared.call.Event.TheVariants as event
 use Rattle.sn_model.specs.declared.reply.Progress.TheVariants as progress
@@ -39,7 +39,7 @@ LivesOn c (r ∷ rs) last = (next : Contents) × Cuts c r.0 r.1 next × LivesOn 
 -- They are a life of the machine, whose last world the last contents are an image of.
 abbrev pub LivesAreLives : Type 0
 LivesAreLives = (c last : Contents) (runs : List (List Event × List Reply)) (first : World) → IsImage c first → LivesOn c runs last
-    → (world : World) × IsImage last world × Life Anything version_1 first runs world
+    → (world : World) × IsImage last world × Life Anything limits_written first runs world
 
 -- no read, no write and no sync of a device failed
 abbrev pub Unfailing : Option Mishap → Type 0
@@ -54,7 +54,7 @@ Unfailing (Some Age) = Unit {0}
 abbrev pub NoFailureIsInvented : Type 0
 NoFailureIsInvented = (first last : Standing) (events : List Event) (replies : List Reply) → RunBy Goes first events replies last
     → last.held.status.failures ≡ first.held.status.failures → has_ended last.held.status ≡ false
-    → Run Unfailing version_1 first.state events replies last.state
+    → Run Unfailing limits_written first.state events replies last.state
 
 -- ---- points
 
@@ -65,7 +65,7 @@ SyncsLeaveAll = (old new : Standing) (session : ℕ) (c : Call) → AsksForPoint
 
 -- A call that needs no point makes at most the 131 writes and the two syncs of the longest record, however it is answered.
 abbrev pub CallsAreSmall : Type 0
-CallsAreSmall = (old new : Standing) (session : ℕ) (c : Call) (reply : Reply) → IsWorld version_1 old.held.world → (NeedsPoint old.held (event.Call session c) → ⊥) → Goes old (event.Call session c) reply new → CostsAtMost 131 2 old.held.status new.held.status
+CallsAreSmall = (old new : Standing) (session : ℕ) (c : Call) (reply : Reply) → IsWorld limits_written old.held.world → (NeedsPoint old.held (event.Call session c) → ⊥) → Goes old (event.Call session c) reply new → CostsAtMost 131 2 old.held.status new.held.status
 
 -- A step makes at most eight writes and a sync, however it is answered.
 abbrev pub StepsAreSmall : Type 0

@@ -6,7 +6,7 @@ use Rattle.sn_device.specs.Crash.{LeavesOnly, Touches}
 use Rattle.sn_device.specs.declared.status.Status.{Status}
 use Rattle.sn_block.specs.Counts.{IsLater}
 use Rattle.sn_block.specs.Effects.{Nowhere}
-use Rattle.sn_limits.specs.Versions.{version_1}
+use Rattle.sn_limits.specs.Versions.{limits_written}
 use Rattle.sn_model.specs.declared.call.Event.{Event}
 use Rattle.sn_model.specs.declared.end.End.{End}
 use Rattle.sn_model.specs.declared.end.End.TheVariants as ending
@@ -98,7 +98,7 @@ RunsTo (ending.Mount fault) events replies disk status last_disk last_status = N
 
 -- the contents are an image of a world that the machine's run, cut short after these replies, leaves
 abbrev pub ShowsCut : State → List Event → List Reply → Contents → Type 0
-ShowsCut s events said c = (world : World) × IsImage c world × CutRun Anything version_1 s events said world
+ShowsCut s events said c = (world : World) × IsImage c world × CutRun Anything limits_written s events said world
 
 -- From a disk on the events that are left get these replies, behind those that were given: in the course of each a crash leaves a run that was cut short in it or behind it, and once all are answered one that was cut short behind the last, in the course of the last unmount too.
 abbrev pub LeavesFrom : State → List Event → List Reply → List Reply → Disk → Disk → Type 0
@@ -118,7 +118,7 @@ pub record LeavesAll (replies : List Reply) (old new : Disk) : Type 0 where
 
 -- Where the disk is an image of a world, this is a run of the machine from that world, and it is all that a crash leaves.
 pub record IsRunOf (world : World) (events : List Event) (replies : List Reply) (end : End) (old new : Disk) : Type 0 where
-  pub run : WholeRun Anything version_1 (Holds world) events replies end
+  pub run : WholeRun Anything limits_written (Holds world) events replies end
   pub crash : LeavesAll replies old new ⊎ LeavesItsRun world events replies old new
 
 -- There is no root that a mount could begin from: the disk isn't formatted, or neither slot is open, or a root is of a version that isn't known.

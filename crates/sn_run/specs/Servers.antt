@@ -4,7 +4,7 @@ use Rattle.sn_device.specs.declared.device.Device.{Ghosts}
 use Rattle.sn_model.specs.World.{new_world}
 use Rattle.sn_log.specs.Positions.{first_of}
 use Rattle.sn_layout.specs.declared.geometry.Slot.TheVariants.{A}
-use Rattle.sn_limits.specs.Versions.{version_1}
+use Rattle.sn_limits.specs.Versions.{limits_written}
 use Rattle.sn_overlay.specs.Overlays.{no_changes}
 use Rattle.sn_held.specs.Held.{Held, Kept}
 use Rattle.sn_room.specs.Rooms.{fresh}
@@ -14,7 +14,7 @@ use Rattle.sn_run.specs.declared.server.Server.TheVariants.{Mounted, Unmounted}
 
 -- what is kept for a point where none can be made
 abbrev pub no_base : Kept
-no_base = record { slot = A; root = record { limits = version_1; generation = 1; epoch = 1; inode_file = record { size = 0; pointers = replicate 16 0 }; snapshots = [] }; words = []; changed = no_changes }
+no_base = record { slot = A; root = record { limits = limits_written; generation = 1; epoch = 1; inode_file = record { size = 0; pointers = replicate 16 0 }; snapshots = [] }; words = []; changed = no_changes }
 
 module _ {D : Type 0} {g : Ghosts D} where
   -- One that isn't mounted has its device alone: its world, its room, its place in the log and what is kept for a point say nothing.

@@ -1,7 +1,7 @@
 //! Whole runs.
 ghost use Rattle.std.specs.Prelude.{◌≡◌, ◌⊎◌, ◌≤◌, [], IsTrue, IfOk, length, vec_capacity};
 ghost use Rattle.sn_device.specs.Disk.{reads};
-ghost use Rattle.sn_limits.specs.Versions.{version_1};
+ghost use Rattle.sn_limits.specs.Versions.{limits_written};
 ghost use Rattle.sn_model.specs.Machine.{Anything, Lacks, WholeRun};
 ghost use Rattle.sn_model.specs.World.{World};
 ghost use Rattle.sn_model.specs.declared.end.End.TheVariants as ending;
@@ -78,7 +78,7 @@ pub fn run<D: Device, W: Watch>(alloc: Global, device: D, events: &[Event], watc
     ensures machine { IsTrue D.tells_bytes → (world : World) → IsImage (reads (D.disk device)) world
         → IsRunOf world events.now result.replies.items result.end (D.disk device) (D.disk result.device) }
     ensures unfit { IsTrue D.tells_bytes → (fault : MountFault) → LacksRoot (D.status device).sectors (reads (D.disk device)) fault
-        → WholeRun Anything version_1 (Lacks fault) events.now result.replies.items result.end }
+        → WholeRun Anything limits_written (Lacks fault) events.now result.replies.items result.end }
 
     // Over any device: each event has its reply where there was a mount.
     ensures counted { (result.end ≡ ending.Clean) ⊎ (result.end ≡ ending.Stopped) → length result.replies.items ≡ length events.now }

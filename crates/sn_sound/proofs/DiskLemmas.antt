@@ -103,7 +103,7 @@ log_clean n c root free disk log _ (age first second middle tree has_first has_s
     let two = replayed_once c root.limits log.middle n (root.epoch + 1) second log.newer tree log.tree (half_lies n (root.epoch + 1) c disk)
     (subst (λ (t : Tree). AreReplayed c root.limits t n (root.epoch + 1) second tree) one.trees has_second) log.has_newer in
     let both : first ++ second ≡ log.older ++ log.newer = λ i. one.lists i ++ two.lists i in
-    wrong (log.age (subst (λ (t : Tree). IsToRecover (log.older ++ log.newer) t) two.trees (subst (λ (cs : List Change). IsToRecover cs tree) both recovers)))
+    wrong (log.age (subst (λ (t : Tree). IsToRecover root (log.older ++ log.newer) t) two.trees (subst (λ (cs : List Change). IsToRecover root cs tree) both recovers)))
 
 -- ---- the whole disk
 

@@ -13,14 +13,12 @@ use Rattle.std.proofs.lemmas.List.{length-map}
 use Rattle.std.proofs.lemmas.Slice.Eq.{bytes_eq-Decides}
 use Rattle.sn_device.specs.Sectors.{Contents}
 use Rattle.sn_limits.specs.SnapshotName.{is_snapshot_name}
-use Rattle.sn_limits.specs.Versions.{version_1}
 use Rattle.sn_limits.specs.declared.limits.Limits.{Limits}
 use Rattle.sn_walk.specs.declared.object.Home.TheVariants.{Live}
 use Rattle.sn_layout.specs.declared.geometry.Slot.{Slot}
 use Rattle.sn_layout.specs.declared.root.RootBody.{RootBody}
 use Rattle.sn_layout.specs.declared.snapshot.Snapshot.{Snapshot}
 use Rattle.sn_layout.specs.Snapshot.{IsSnapshot, are_distinct, are_rising, are_within}
-use Rattle.sn_layout.proofs.Roots.{known}
 use Rattle.sn_model.specs.NameTree.{IsTree}
 use Rattle.sn_model.specs.Tree.{Tree, names_for}
 use Rattle.sn_model.specs.World.{Descriptor, World, descriptor_cmp, new_world}
@@ -123,25 +121,28 @@ module _ (sectors : ℕ) (c : Contents) (n : ℕ) (slot : Slot) (root : RootBody
   abbrev beside : World
   beside = record new_world { frozen = frozen_of (store_of c) root.snapshots }
 
-  beside_is : root.limits ≡ version_1 → IsWorld root.limits beside
-  beside_is version = record {
-    live = subst (λ (l : Limits). IsTree l new_world.live) (sym version) new_is_world.live;
+  new : IsWorld root.limits new_world
+  new = new_is_world root.limits.version root.limits sound.newest.body.fits.version
+
+  beside_is : IsWorld root.limits beside
+  beside_is = record {
+    live = new.live;
     frozen = λ name tree e. let w = frozen_from name tree e in
         subst (IsTree root.limits) w.is (root_tree (frozen_root w.snapshot) (more_among (record { bit = 0; inodes = root.inode_file }) (map frozen_root root.snapshots) (frozen_root w.snapshot) (rooted_among root.snapshots w.snapshot w.named.among)));
     snapshot_names = λ name tree e. let w = frozen_from name tree e in
         subst (λ (m : List ℕ). IsTrue (is_snapshot_name m)) (sym w.named.same) (each_is root.snapshots w.snapshot sound.newest.body.fits.snapshots.each w.named.among).name;
     few_snapshots = few;
-    count = new_is_world.count;
-    callers = new_is_world.callers;
+    count = new.count;
+    callers = new.callers;
     open_files = λ i fd d e. let never : None ≡ Some d = sym (fin.get-empty descriptor_cmp (i, fd)) ∙ e in cc;
-    held = new_is_world.held;
+    held = new.held;
   }
 
   abbrev its_world : World
   its_world = world_of sectors c n slot root sound
 
   whole : IsWorld root.limits its_world
-  whole = settle_tree root.limits beside sound.log.tree (beside_is (known root.limits.version root.limits sound.newest.body.fits.version).1) live_tree
+  whole = settle_tree root.limits beside sound.log.tree beside_is live_tree
 
   is_found : IsFound root.limits its_world
   is_found = record {

@@ -2,6 +2,7 @@
 use Rattle.std.specs.Prelude.{◌≡◌, ◌≢◌, ◌⊎◌, ℕ, ◌+◌, ◌/◌, ◌^◌, ◌≤◌, List, [], ◌++◌, Some, None}
 use Rattle.sn_device.specs.Sectors.{Contents}
 use Rattle.sn_limits.specs.declared.limits.Limits.{Limits}
+use Rattle.sn_limits.specs.Versions.{limits_written}
 use Rattle.sn_layout.specs.declared.geometry.Area.TheVariants.{Log}
 use Rattle.sn_layout.specs.declared.root.RootBody.{RootBody}
 use Rattle.sn_layout.specs.Geometry.{start_of, half_of_epoch}
@@ -24,9 +25,9 @@ pub record AreReplayed (c : Contents) (limits : Limits) (from : Tree) (n epoch :
   pub records : Replays c (base_of n epoch) epoch (payloads_of changes)
   pub applied : apply_all limits changes from ≡ Some tree
 
--- a mount of this ends in a consistency point: a record is replayed, or a file without names is dropped
-abbrev pub IsToRecover : List Change → Tree → Type 0
-IsToRecover changes tree = (changes ≢ []) ⊎ (nameless_in tree ≢ 0)
+-- a mount of this ends in a consistency point: the root isn't of the written version, a record is replayed, or a file without names is dropped
+abbrev pub IsToRecover : RootBody → List Change → Tree → Type 0
+IsToRecover root changes tree = (root.limits.version ≢ limits_written.version) ⊎ (changes ≢ []) ⊎ (nameless_in tree ≢ 0)
 
 -- and that point has a root to write
 pub record HasAgeLeft (root : RootBody) : Type 0 where
@@ -43,7 +44,7 @@ pub record HasSoundLog (n : ℕ) (c : Contents) (root : RootBody) (free : ℕ) :
   pub has_newer : AreReplayed c root.limits middle n (root.epoch + 1) newer tree
   pub none_later : (epoch : ℕ) → HasNoLater c (base_of n epoch) (root.epoch + 1)
   pub fits : Fits root.limits (older ++ newer) (image (store_of c) root.inode_file) free
-  pub age : IsToRecover (older ++ newer) tree → HasAgeLeft root
+  pub age : IsToRecover root (older ++ newer) tree → HasAgeLeft root
 
 -- ---- its faults
 
@@ -80,4 +81,4 @@ pub data IsLogFault (n : ℕ) (c : Contents) (root : RootBody) (free : ℕ) : �
   charges : (older newer : List Change) (middle tree : Tree) → AreReplayed c root.limits (image (store_of c) root.inode_file) n root.epoch older middle → AreReplayed c root.limits middle n (root.epoch + 1) newer tree
       → (Fits root.limits (older ++ newer) (image (store_of c) root.inode_file) free → ⊥) → IsLogFault n c root free (half_block n root.epoch)
   age : (older newer : List Change) (middle tree : Tree) → AreReplayed c root.limits (image (store_of c) root.inode_file) n root.epoch older middle → AreReplayed c root.limits middle n (root.epoch + 1) newer tree
-      → IsToRecover (older ++ newer) tree → (HasAgeLeft root → ⊥) → IsLogFault n c root free (half_block n root.epoch)
+      → IsToRecover root (older ++ newer) tree → (HasAgeLeft root → ⊥) → IsLogFault n c root free (half_block n root.epoch)

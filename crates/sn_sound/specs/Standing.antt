@@ -33,4 +33,4 @@ pub record LogStands (n : ℕ) (d : Disk) (s : Store) (root : RootBody) (older n
   pub newer_made : apply_all root.limits newer middle ≡ Some tree
   pub none_later : (epoch : ℕ) → Always d (λ c. HasNoLater c (base_of n epoch) (root.epoch + 1))
   pub fits : Fits root.limits (older ++ newer) (image s root.inode_file) (free_blocks n s root)
-  pub age : IsToRecover (older ++ newer) tree → HasAgeLeft root
+  pub age : IsToRecover root (older ++ newer) tree → HasAgeLeft root

@@ -52,7 +52,7 @@ fn root_of(file: &BlockTree) -> Result<RootBody>
     ensures { IfOk result IsRootBody }
 {
     let root = RootBody {
-        limits: Limits::VERSION_1,
+        limits: Limits::WRITTEN,
         generation: 1,
         epoch: 1,
         inode_file: *file,

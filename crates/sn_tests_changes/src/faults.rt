@@ -165,7 +165,7 @@ fn has_bytes(alloc: Global, blocks: &mut Blocks<MemDevice>) -> Result<bool, Tree
 }
 
 fn has_inode(blocks: &mut Blocks<MemDevice>) -> Result<bool, TreeFault> {
-    match get(blocks, &Limits::VERSION_1, &file(RECORDS), NUMBER)? {
+    match get(blocks, &Limits::WRITTEN, &file(RECORDS), NUMBER)? {
         Some(inode) => Ok(inode.acl_block == ACLS),
         None => Ok(false),
     }
@@ -179,7 +179,7 @@ fn has_acls(blocks: &mut Blocks<MemDevice>) -> Result<bool, TreeFault> {
 }
 
 fn inode_and_acls(blocks: &mut Blocks<MemDevice>) -> Result<Option<(Inode, AclBlock)>, TreeFault> {
-    let Some(inode) = get(blocks, &Limits::VERSION_1, &file(RECORDS), NUMBER)? else {
+    let Some(inode) = get(blocks, &Limits::WRITTEN, &file(RECORDS), NUMBER)? else {
         return Ok(None);
     };
     let acls = acls(blocks, &inode)?;
@@ -239,7 +239,7 @@ fn with_changes(
     left: u32,
     changes: &[InodeChange],
 ) -> Result<Result<bool, PlanFault>> {
-    let (limits, file) = (Limits::VERSION_1, file(RECORDS));
+    let (limits, file) = (Limits::WRITTEN, file(RECORDS));
     let is_file = is_inode_file(&limits, &file);
     let are_changes = are_changes(&limits, changes);
     ensure!(is_file && are_changes, "no inode file, or no changes");

@@ -28,7 +28,7 @@ pub fn tree_of(generation: u64) -> BlockTree {
 /// The root of a generation: its epoch is the same number.
 pub fn root_of(generation: u64) -> RootBody {
     RootBody {
-        limits: Limits::VERSION_1,
+        limits: Limits::WRITTEN,
         generation,
         epoch: generation,
         inode_file: tree_of(generation),

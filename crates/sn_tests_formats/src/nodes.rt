@@ -14,11 +14,11 @@ use std::str;
 pub fn record(alloc: Global, case: Case<'_>) -> Result<String> {
     let mut bytes = [0; INODE_SIZE];
     fill(alloc, &mut bytes, case.text())?;
-    let Some(record) = InodeRecord::decode(&Limits::VERSION_1, &bytes) else {
+    let Some(record) = InodeRecord::decode(&Limits::WRITTEN, &bytes) else {
         return Ok(String::from_str(alloc, "refused")?);
     };
     let mut again = [0xa5; INODE_SIZE];
-    record.encode(&Limits::VERSION_1, &mut again);
+    record.encode(&Limits::WRITTEN, &mut again);
     ensure_same(again == bytes, case)?;
     match record {
         InodeRecord::Unused => Ok(String::from_str(alloc, "unused")?),

@@ -149,7 +149,7 @@ fn seek(
     offset: u64,
     text: &mut String,
 ) -> Result<()> {
-    match sessions.seek(&Limits::VERSION_1, session, fd, offset) {
+    match sessions.seek(&Limits::WRITTEN, session, fd, offset) {
         Ok(()) => say(text, "ok"),
         Err(refusal) => refused(&refusal, text),
     }

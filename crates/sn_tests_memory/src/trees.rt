@@ -45,7 +45,7 @@ impl Trees {
             overlay: &self.top,
             below: &mut frozen,
         };
-        of_change(self.alloc, &Limits::VERSION_1, &mut shown, change).ok()
+        of_change(self.alloc, &Limits::WRITTEN, &mut shown, change).ok()
     }
 
     fn lay_over(&mut self, newer: Overlay) -> Result<()> {

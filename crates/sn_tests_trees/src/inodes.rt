@@ -82,7 +82,7 @@ fn answer_of(
     file: &BlockTree,
     number: u16,
 ) -> Result<String> {
-    match told(get(blocks, &Limits::VERSION_1, file, number))? {
+    match told(get(blocks, &Limits::WRITTEN, file, number))? {
         Some(Some(inode)) => inode_text(alloc, blocks, &inode),
         Some(None) => Ok(String::from_str(alloc, "none")?),
         None => Ok(String::from_str(alloc, "damaged")?),

@@ -24,16 +24,16 @@ pub returns-in-Err-test_charges-clause-fault : goal.returns-in-Err-test_charges-
 returns-in-Err-test_charges-clause-fault g c told =
     let l = c.in-Ok-replay_log.logged in
     let log = subst (λ (d : Disk). HasLogged c.args.geometry (reads d) c.args.root.now l.charges l.dropped l.recovers) (c.in-Ok.ensures.same told) (c.in-Ok-replay_log.ensures.logged told) in
-    over_tells c.args.geometry (reads (g.D.Device.disk (device_of c.args.blocks.now))) c.args.root.now l.charges l.dropped l.recovers c.requires.fits log c.in-Err-test_charges.fault c.args.free c.in-Err-test_charges.ensures.over
+    over_tells c.args.geometry (reads (g.D.Device.disk (device_of c.args.blocks.now))) c.args.root.now l.charges l.dropped l.recovers log c.in-Err-test_charges.fault c.args.free c.in-Err-test_charges.ensures.over
 
 pub returns-in-Err-test_age-clause-fault : goal.returns-in-Err-test_age-clause-fault
 returns-in-Err-test_age-clause-fault g c told =
     let l = c.in-Ok-replay_log.logged in
     let log = subst (λ (d : Disk). HasLogged c.args.geometry (reads d) c.args.root.now l.charges l.dropped l.recovers) (c.in-Ok.ensures.same told) (c.in-Ok-replay_log.ensures.logged told) in
-    aged_tells c.args.geometry (reads (g.D.Device.disk (device_of c.args.blocks.now))) c.args.root.now l.charges l.dropped l.recovers c.requires.fits log c.in-Err-test_age.fault c.args.free c.in-Err-test_age.ensures.aged
+    aged_tells c.args.geometry (reads (g.D.Device.disk (device_of c.args.blocks.now))) c.args.root.now l.charges l.dropped l.recovers log c.in-Err-test_age.fault c.args.free c.in-Err-test_age.ensures.aged
 
 pub returns-in-Ok-test_age-clause-sound : goal.returns-in-Ok-test_age-clause-sound
 returns-in-Ok-test_age-clause-sound g c told =
     let l = c.in-Ok-replay_log.logged in
     let log = subst (λ (d : Disk). HasLogged c.args.geometry (reads d) c.args.root.now l.charges l.dropped l.recovers) (c.in-Ok.ensures.same told) (c.in-Ok-replay_log.ensures.logged told) in
-    log_sound c.args.geometry (reads (g.D.Device.disk (device_of c.args.blocks.now))) c.args.root.now l.charges l.dropped l.recovers c.requires.fits log c.args.free (c.in-Ok.ensures.none told) c.in-Ok-test_charges.ensures.covered c.in-Ok-test_age.ensures.left
+    log_sound c.args.geometry (reads (g.D.Device.disk (device_of c.args.blocks.now))) c.args.root.now l.charges l.dropped l.recovers log c.args.free (c.in-Ok.ensures.none told) c.in-Ok-test_charges.ensures.covered c.in-Ok-test_age.ensures.left

@@ -13,9 +13,10 @@ use Rattle.sn_check_log.proofs.replaying.try_epoch.Goals as goal
 pub loop-more-init : goal.loop-more-init
 loop-more-init g c =
     let first = c.new-replay.ensures in
+    let limits = c.args.it.now.root.now.limits in
     let from = tree_of c.args.live (tree_on c.args.blocks.now c.args.it.now.root.now.inode_file) in
     record {
-      replayed = λ told. subst (λ (p : LogPosition). HasReplayed (reads (g.D.Device.disk (device_of c.args.blocks.now))) from p from 0) (sym first) (starts (reads (g.D.Device.disk (device_of c.args.blocks.now))) from c.args.it.now.geometry c.args.epoch);
+      replayed = λ told. subst (λ (p : LogPosition). HasReplayed limits (reads (g.D.Device.disk (device_of c.args.blocks.now))) from p from 0) (sym first) (starts limits (reads (g.D.Device.disk (device_of c.args.blocks.now))) from c.args.it.now.geometry c.args.epoch);
       changed = λ told root before has. has;
       tried = c.requires.tried;
       point = c.requires.point;
@@ -41,10 +42,10 @@ loop-more-preserved g c = record {
   status = search rules;
 }
   where
-    step : IsTrue g.D.Device.tells_bytes → LeadsOn (changes_if c.loop-more.live) (tree_of c.loop-more.live (tree_on c.args.blocks.now c.args.it.now.root.now.inode_file)) c.loop-more.charges
+    step : IsTrue g.D.Device.tells_bytes → LeadsOn c.args.it.now.root.now.limits (changes_if c.loop-more.live) (tree_of c.loop-more.live (tree_on c.args.blocks.now c.args.it.now.root.now.inode_file)) c.loop-more.charges
         (changes_if c.try_next.new.live) (tree_of c.try_next.new.live (tree_on c.args.blocks.now c.args.it.now.root.now.inode_file)) c.try_next.new.charges
     step told =
-        subst (λ (d : Disk). LeadsOn (changes_if c.loop-more.live) (tree_of c.loop-more.live (image (store_of (reads d)) c.args.it.now.root.now.inode_file)) c.loop-more.charges (changes_if c.try_next.new.live) (tree_of c.try_next.new.live (image (store_of (reads d)) c.args.it.now.root.now.inode_file)) c.try_next.new.charges)
+        subst (λ (d : Disk). LeadsOn c.args.it.now.root.now.limits (changes_if c.loop-more.live) (tree_of c.loop-more.live (image (store_of (reads d)) c.args.it.now.root.now.inode_file)) c.loop-more.charges (changes_if c.try_next.new.live) (tree_of c.try_next.new.live (image (store_of (reads d)) c.args.it.now.root.now.inode_file)) c.try_next.new.charges)
         (c.loop-more.invariant.same told) (c.in_ok-more.ensures.changed told)
 
 smaller : (old new : ℕ) (more : Bool) → old ≤ 255 → old ≤ new → (more ≡ true → old < new) → 256 - new + (if more then 1 else 0) < 256 - old + 1

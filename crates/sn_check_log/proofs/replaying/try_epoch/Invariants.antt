@@ -10,8 +10,8 @@ use Rattle.sn_check_log.proofs.replaying.try_epoch.Given as goal
 -- the records so far were tried, and where no more stands, all
 abbrev pub invariant-loop-more : goal.invariant-loop-more
 invariant-loop-more g l = record {
-  replayed : IsTrue g.D.Device.tells_bytes → ReplaysSo l.more (reads (g.D.Device.disk (device_of l.fn.blocks))) (tree_of l.fn.live (tree_on l.fn.blocks l.fn.it.root.now.inode_file)) l.replay (tree_of l.live (tree_on l.fn.blocks l.fn.it.root.now.inode_file)) l.charges;
-  changed : IsTrue g.D.Device.tells_bytes → LeadsOn (changes_if l.fn.live) (tree_of l.fn.live (tree_on l.fn.blocks l.fn.it.root.now.inode_file)) 0 (changes_if l.live) (tree_of l.live (tree_on l.fn.blocks l.fn.it.root.now.inode_file)) l.charges;
+  replayed : IsTrue g.D.Device.tells_bytes → ReplaysSo l.fn.it.root.now.limits l.more (reads (g.D.Device.disk (device_of l.fn.blocks))) (tree_of l.fn.live (tree_on l.fn.blocks l.fn.it.root.now.inode_file)) l.replay (tree_of l.live (tree_on l.fn.blocks l.fn.it.root.now.inode_file)) l.charges;
+  changed : IsTrue g.D.Device.tells_bytes → LeadsOn l.fn.it.root.now.limits (changes_if l.fn.live) (tree_of l.fn.live (tree_on l.fn.blocks l.fn.it.root.now.inode_file)) 0 (changes_if l.live) (tree_of l.live (tree_on l.fn.blocks l.fn.it.root.now.inode_file)) l.charges;
   tried : IsTrue g.D.Device.tells_bytes → IsTried l.live (tree_on l.fn.blocks l.fn.it.root.now.inode_file);
   point : HasNoPointIf l.live;
   keeps : IsTrue g.D.Device.tells_bytes → KeepsNoneIf l.live;

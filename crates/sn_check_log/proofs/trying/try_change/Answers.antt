@@ -20,7 +20,8 @@ pub returns-in-Ok-Some-clause-live : goal.returns-in-Ok-Some-clause-live
 returns-in-Ok-Some-clause-live g c told =
     let tree = image (store_of (reads (g.D.Device.disk (device_of c.args.blocks.now)))) c.args.it.now.root.now.inode_file in
     let change = c.args.change.now in
+    let limits = c.args.it.now.root.now.limits in
     let alike = c.prepare-prepared.ensures.alike in
-    let before = subst (λ (o : Option PreparedLive). IsPrepared o (shown_of c.args.live.now tree) change) c.in-Ok-Some.field-0-is (c.in-Ok-Some.ensures.prepared told) in
-    let can = subst (λ (t : Tree). CanBeMade c.in-Ok-Some.prepared t change) (sym (alike.shows tree)) before in
-    c.make_change.ensures.live tree change (alike.live tree (c.requires.live told)) can
+    let before = subst (λ (o : Option PreparedLive). IsPrepared limits o (shown_of c.args.live.now tree) change) c.in-Ok-Some.field-0-is (c.in-Ok-Some.ensures.prepared told) in
+    let can = subst (λ (t : Tree). CanBeMade limits c.in-Ok-Some.prepared t change) (sym (alike.shows tree)) before in
+    c.make_change.ensures.live limits tree change c.requires.version (alike.live tree (c.requires.live told)) can

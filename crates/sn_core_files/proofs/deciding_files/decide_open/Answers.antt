@@ -1,7 +1,7 @@
 use Rattle.std.proofs.Common.{true, Err, refl, subst}
 use Rattle.std.proofs.lemmas.Result.{err_from_is_err_and}
 use Rattle.sn_model.specs.declared.call.Call.TheVariants as call
-use Rattle.sn_limits.specs.Versions.{version_1}
+use Rattle.sn_limits.specs.Versions.{limits_written}
 use Rattle.sn_walk.specs.Gives.{Gives}
 use Rattle.sn_model.specs.declared.outcome.Outcome.{Outcome}
 use Rattle.sn_model.specs.FileCalls.{open_as, open_outcome}
@@ -79,7 +79,7 @@ returns-clause-same g c told = c.open.ensures.same told
 pub returns-clause-decided : goal.returns-clause-decided
 unfolding open_outcome
 returns-clause-decided g c told world shows =
-    let given = subst (λ (s : Seen). Gives (λ (o : Outcome). o) c.open.result (open_as version_1 s c.in_ok-caller.caller.now c.in_ok-fd.fd c.in_ok-path.path c.in_ok-flags.flags c.in_ok-mode.mode)) (shown_seen shows) (c.open.ensures.exact told) in
+    let given = subst (λ (s : Seen). Gives (λ (o : Outcome). o) c.open.result (open_as limits_written s c.in_ok-caller.caller.now c.in_ok-fd.fd c.in_ok-path.path c.in_ok-flags.flags c.in_ok-mode.mode)) (shown_seen shows) (c.open.ensures.exact told) in
     rw c.decided.ensures (gives_decided (in_world (in_use_of c.args.sessions.now) world) c.args.session (call.Open c.args.path.now c.args.flags c.args.mode) (tt, rw (c.in_ok-caller.ensures, c.in_ok-path.ensures, ← c.in_ok-flags.ensures, ← c.in_ok-mode.ensures) (refl {a = true})) c.open.result (rw (c.in_ok-caller.ensures, c.in_ok-path.ensures, ← c.in_ok-flags.ensures, ← c.in_ok-mode.ensures, ← c.in_ok-fd.ensures.next) given))
 
 pub returns-clause-cause : goal.returns-clause-cause

@@ -12,18 +12,18 @@ returns-clause-shown g c told =
     let below = g.B.Below.shows c.args.below.now in
     let older = layer_of c.args.overlay.now in
     let same = c.prepare_change.ensures.layer in
-    let can = subst (λ (o : Option PreparedChange). IsPrepared o (through older below) c.args.change.now) c.in-Some.is (c.in_ok-prepared.ensures.prepared told) in
-    c.commit_change.ensures.shown below c.args.change.now
+    let can = subst (λ (o : Option PreparedChange). IsPrepared c.args.limits.now o (through older below) c.args.change.now) c.in-Some.is (c.in_ok-prepared.ensures.prepared told) in
+    c.commit_change.ensures.shown c.args.limits.now below c.args.change.now c.requires.version
     (subst (λ (l : Layer). IsShown l below c.args.directories.now) (sym same) (c.requires.shown told))
-    (subst (λ (l : Layer). CanBeLaid c.in-Some.prepared (through l below) c.args.change.now) (sym same) can)
+    (subst (λ (l : Layer). CanBeLaid c.args.limits.now c.in-Some.prepared (through l below) c.args.change.now) (sym same) can)
 
 pub returns-clause-laid : goal.returns-clause-laid
 returns-clause-laid g c told =
     let below = g.B.Below.shows c.args.below.now in
     let older = layer_of c.args.overlay.now in
     let same = c.prepare_change.ensures.layer in
-    let can = subst (λ (o : Option PreparedChange). IsPrepared o (through older below) c.args.change.now) c.in-Some.is (c.in_ok-prepared.ensures.prepared told) in
-    laid_of older (layer_of c.prepare_change.new.overlay) below c.args.change.now c.in-Some.prepared c.charge-charge.result c.charge-charge.ensures (through (layer_of c.commit_change.new.overlay) below) same can
-    (c.commit_change.ensures.laid below c.args.change.now
+    let can = subst (λ (o : Option PreparedChange). IsPrepared c.args.limits.now o (through older below) c.args.change.now) c.in-Some.is (c.in_ok-prepared.ensures.prepared told) in
+    laid_of c.args.limits.now older (layer_of c.prepare_change.new.overlay) below c.args.change.now c.in-Some.prepared c.charge-charge.result c.charge-charge.ensures (through (layer_of c.commit_change.new.overlay) below) same can
+    (c.commit_change.ensures.laid c.args.limits.now below c.args.change.now c.requires.version
     (subst (λ (l : Layer). IsShown l below c.args.directories.now) (sym same) (c.requires.shown told))
-    (subst (λ (l : Layer). CanBeLaid c.in-Some.prepared (through l below) c.args.change.now) (sym same) can))
+    (subst (λ (l : Layer). CanBeLaid c.args.limits.now c.in-Some.prepared (through l below) c.args.change.now) (sym same) can))

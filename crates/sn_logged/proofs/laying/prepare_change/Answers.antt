@@ -7,5 +7,5 @@ use Rattle.sn_logged.proofs.laying.prepare_change.Goals as goal
 
 pub returns-clause-prepared : goal.returns-clause-prepared
 returns-clause-prepared g c told =
-    subst (λ (o : Option PreparedChange). IsPrepared o (through (layer_of c.args.overlay.now) (g.B.Below.shows c.args.below.now)) c.args.change.now) c.in-Some.is
+    subst (λ (o : Option PreparedChange). IsPrepared c.args.limits.now o (through (layer_of c.args.overlay.now) (g.B.Below.shows c.args.below.now)) c.args.change.now) c.in-Some.is
     (c.in_ok-prepared.ensures.found told)

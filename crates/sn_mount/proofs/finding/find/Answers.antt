@@ -58,7 +58,7 @@ returns-in-Err-try_both-clause-refuses g c told =
     let f = c.in-Err-try_both.fault in
     let same = c.in-Ok-count_nameless.ensures.same told ∙ c.in-Ok.ensures.same told in
     both_refuses (g.D.Device.status device).sectors (reads (g.D.Device.disk device)) found.geometry found.slot found.root (g.met.D.Device.count device told) f has.formatted has.newest
-    (subst (λ (d : Disk). BothBreak f (reads d) (image (store_of (reads d)) found.root.inode_file) found.geometry found.root.epoch) same (c.in-Err-try_both.ensures.replayed told))
+    (subst (λ (d : Disk). BothBreak found.root.limits f (reads d) (image (store_of (reads d)) found.root.inode_file) found.geometry found.root.epoch) same (c.in-Err-try_both.ensures.replayed told))
 
 pub returns-in-Err-find_room-clause-refuses : goal.returns-in-Err-find_room-clause-refuses
 returns-in-Err-find_room-clause-refuses g c told =
@@ -70,7 +70,7 @@ returns-in-Err-find_room-clause-refuses g c told =
     let disk = reads (g.D.Device.disk device) in
     let img = image (store_of disk) found.root.inode_file in
     let same = c.in-Ok-count_nameless.ensures.same told ∙ c.in-Ok.ensures.same told in
-    let both = subst (λ (d : Disk). HasBoth (reads d) (image (store_of (reads d)) found.root.inode_file) found.geometry found.root.epoch r.at (tree_of r.live (image (store_of (reads d)) found.root.inode_file)) r.charges) same (c.in-Ok-try_both.ensures.replayed told) in
+    let both = subst (λ (d : Disk). HasBoth found.root.limits (reads d) (image (store_of (reads d)) found.root.inode_file) found.geometry found.root.epoch r.at (tree_of r.live (image (store_of (reads d)) found.root.inode_file)) r.charges) same (c.in-Ok-try_both.ensures.replayed told) in
     let count = c.in-Ok-count_nameless.ensures.count told ∙ ap (λ (d : Disk). nameless_in (image (store_of (reads d)) found.root.inode_file)) (c.in-Ok.ensures.same told) in
     let over = subst (λ (d : Disk). IsUncovered f found.geometry (reads d) found.slot found.root r.charges c.in-Ok-count_nameless.count) (c.in-Ok-live_of.ensures.same told ∙ c.in-Ok-try_both.ensures.same told ∙ same) (c.in-Err-find_room.ensures.uncovered told) in
     uncovered_refuses (g.D.Device.status device).sectors disk found.geometry found.slot found.root (g.met.D.Device.count device told) f r.at (tree_of r.live img) r.charges has.formatted has.newest both
@@ -85,13 +85,11 @@ returns-in-Err-test_age-clause-refuses g c told =
     let disk = reads (g.D.Device.disk device) in
     let img = image (store_of disk) found.root.inode_file in
     let same = c.in-Ok-count_nameless.ensures.same told ∙ c.in-Ok.ensures.same told in
-    let both = subst (λ (d : Disk). HasBoth (reads d) (image (store_of (reads d)) found.root.inode_file) found.geometry found.root.epoch r.at (tree_of r.live (image (store_of (reads d)) found.root.inode_file)) r.charges) same (c.in-Ok-try_both.ensures.replayed told) in
+    let both = subst (λ (d : Disk). HasBoth found.root.limits (reads d) (image (store_of (reads d)) found.root.inode_file) found.geometry found.root.epoch r.at (tree_of r.live (image (store_of (reads d)) found.root.inode_file)) r.charges) same (c.in-Ok-try_both.ensures.replayed told) in
     let count = c.in-Ok-count_nameless.ensures.count told ∙ ap (λ (d : Disk). nameless_in (image (store_of (reads d)) found.root.inode_file)) (c.in-Ok.ensures.same told) in
     let dropped = c.in-Ok-count_nameless.count in
     aged_refuses (g.D.Device.status device).sectors disk found.geometry found.slot found.root (g.met.D.Device.count device told) c.in-Err-test_age.fault r.at (tree_of r.live img) r.charges both c.is_to_recover-recovers.result has.formatted has.newest
-    (tells_recovery disk img found.geometry found.root.epoch r.at (tree_of r.live img) r.charges both c.is_to_recover-recovers.result dropped count
-    (λ e. subst (λ (n : ℕ). (0 < n) ⊎ (0 < dropped)) c.count.ensures (c.is_to_recover-recovers.ensures.some e))
-    (λ e. let none = c.is_to_recover-recovers.ensures.none e in (sym c.count.ensures ∙ none.0, none.1)))
+    (tells_recovery found.root.limits disk img found.geometry found.root.epoch r.at (tree_of r.live img) r.charges both c.is_to_recover-recovers.result found.root c.count.result dropped c.count.ensures count c.is_to_recover-recovers.ensures)
     c.in-Err-test_age.ensures.aged
 
 pub returns-clause-found : goal.returns-clause-found
@@ -107,19 +105,17 @@ returns-clause-found g c told =
     let tried = c.in-Ok-try_both.ensures.same told ∙ same in
     let all = c.in-Ok-live_of.ensures.same told ∙ tried in
     let shown = subst (λ (d : Disk). shown_of live (image (store_of (reads d)) found.root.inode_file) ≡ tree_of r.live (image (store_of (reads d)) found.root.inode_file)) tried (c.in-Ok-live_of.ensures.shown told) in
-    let both = subst (λ (t : Tree). HasBoth disk img found.geometry found.root.epoch r.at t r.charges) (sym shown)
-    (subst (λ (d : Disk). HasBoth (reads d) (image (store_of (reads d)) found.root.inode_file) found.geometry found.root.epoch r.at (tree_of r.live (image (store_of (reads d)) found.root.inode_file)) r.charges) same (c.in-Ok-try_both.ensures.replayed told)) in
-    let leads = subst (λ (t : Tree). LeadsOn no_changes img 0 (changes_of live) t r.charges) (sym shown)
-    (subst (λ (l : Layer). LeadsOn no_changes img 0 l (tree_of r.live img) r.charges) (sym c.in-Ok-live_of.ensures.changes)
-    (subst (λ (d : Disk). LeadsOn no_changes (image (store_of (reads d)) found.root.inode_file) 0 (changes_if r.live) (tree_of r.live (image (store_of (reads d)) found.root.inode_file)) r.charges) same (c.in-Ok-try_both.ensures.changed told))) in
+    let both = subst (λ (t : Tree). HasBoth found.root.limits disk img found.geometry found.root.epoch r.at t r.charges) (sym shown)
+    (subst (λ (d : Disk). HasBoth found.root.limits (reads d) (image (store_of (reads d)) found.root.inode_file) found.geometry found.root.epoch r.at (tree_of r.live (image (store_of (reads d)) found.root.inode_file)) r.charges) same (c.in-Ok-try_both.ensures.replayed told)) in
+    let leads = subst (λ (t : Tree). LeadsOn found.root.limits no_changes img 0 (changes_of live) t r.charges) (sym shown)
+    (subst (λ (l : Layer). LeadsOn found.root.limits no_changes img 0 l (tree_of r.live img) r.charges) (sym c.in-Ok-live_of.ensures.changes)
+    (subst (λ (d : Disk). LeadsOn found.root.limits no_changes (image (store_of (reads d)) found.root.inode_file) 0 (changes_if r.live) (tree_of r.live (image (store_of (reads d)) found.root.inode_file)) r.charges) same (c.in-Ok-try_both.ensures.changed told))) in
     let dropped = c.in-Ok-count_nameless.count in
     let count = c.in-Ok-count_nameless.ensures.count told ∙ ap (λ (d : Disk). nameless_in (image (store_of (reads d)) found.root.inode_file)) (c.in-Ok.ensures.same told) in
     let k : Kept = record { slot = found.slot; root = found.root; words = c.in-Ok-find_room.found.0; changed = changes_of live } in
-    has_found (g.D.Device.status device).sectors disk found.geometry k r.at (shown_of live img) c.in-Ok-find_room.found.1 c.is_to_recover-recovers.result r.charges dropped c.in-Ok-try_both.ensures.blocks has
+    has_found (g.D.Device.status device).sectors disk found.geometry k r.at (shown_of live img) c.in-Ok-find_room.found.1 c.is_to_recover-recovers.result r.charges c.count.result dropped c.in-Ok-try_both.ensures.blocks has
     (λ words h. c.in-Ok-find_room.ensures.words told words (subst (λ (d : Disk). HasMap found.geometry (reads d) found.slot words) (sym all) h))
     both leads
     (subst (λ (d : Disk). FindsRoom found.geometry (reads d) found.slot found.root r.charges dropped c.in-Ok-find_room.found.1) all (c.in-Ok-find_room.ensures.room told))
-    count
-    (λ e. subst (λ (n : ℕ). (0 < n) ⊎ (0 < dropped)) c.count.ensures (c.is_to_recover-recovers.ensures.some e))
-    (λ e. let none = c.is_to_recover-recovers.ensures.none e in (sym c.count.ensures ∙ none.0, none.1))
+    c.count.ensures count c.is_to_recover-recovers.ensures
     c.in-Ok-test_age.ensures.left

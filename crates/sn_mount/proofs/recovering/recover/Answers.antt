@@ -34,6 +34,7 @@ use Rattle.sn_examine.specs.Laws.{IsSomeClean}
 use Rattle.sn_check.specs.Verdicts.{IsCause}
 use Rattle.sn_mount.specs.Costs.{CostsFound, CostsMount}
 use Rattle.sn_mount.specs.FoundDisk.{kept_of}
+use Rattle.sn_mount.specs.Rooting.{BecomesRoot}
 use Rattle.sn_mount.specs.Recovering.{WritesAtFault}
 use Rattle.sn_mount.specs.Settling.{IsNoRoot, MakesRoot}
 use Rattle.sn_mount.specs.declared.found.FoundDisk.{FoundDisk}
@@ -41,6 +42,7 @@ use Rattle.sn_mount.proofs.CauseLemmas.{read_cause, writes_none}
 use Rattle.sn_mount.proofs.CostLemmas.{few_costs, mount_costs, some_cost}
 use Rattle.sn_mount.proofs.RecoverLemmas.{read_writes}
 use Rattle.sn_mount.proofs.RootingLemmas.{becomes_found, mounts_root}
+use Rattle.std.specs.Prelude.{IfOk}
 use Rattle.sn_mount.proofs.MountLemmas.{HasCleared, HasRooted, below_is, cleared_keeps, image_synced, is_world, leaves_at_end, leaves_at_root, no_root_cause, no_root_touches, recovered, runs_shown}
 use Rattle.sn_mount.proofs.recovering.recover.Given.{Over}
 use Rattle.sn_mount.proofs.recovering.recover.Goals.{After-clear, After-make_root, After-new-in-Ok-clear}
@@ -118,6 +120,7 @@ module _ (g : Over) (c : After-make_root g) where
           tree = live_below.shown.whole;
           makes = at_its (λ n d l. MakesRoot c.make_root.result n (kept_in settled_base l) on_disk.recovers d rooted) (c.make_root.ensures.makes told);
           touched = subst (λ (s : Slot). Touches (IsApart on_disk.at.blocks s) mid rooted) settles.slot (at_its (λ n d l. Touches (IsApart n settled_base.slot) d rooted) (c.make_root.ensures.touched told));
+          becomes = at_its (λ n d l. IfOk c.make_root.result (λ next. BecomesRoot on_disk.recovers (kept_in settled_base l) (kept_in next no_changes))) c.make_root.ensures.root;
         }
 
 -- ---- the clearing

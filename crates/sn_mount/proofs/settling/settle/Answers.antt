@@ -5,7 +5,6 @@ use Rattle.std.proofs.lemmas.List.{nil_from_length}
 use Rattle.sn_changed.specs.Changed.{HasChanged}
 use Rattle.sn_desc.specs.Holders.{is_live}
 use Rattle.sn_desc.specs.InUse.{live_in}
-use Rattle.sn_limits.specs.Versions.{version_1}
 use Rattle.sn_live.specs.Live.{shown_of}
 use Rattle.sn_live_world.specs.World.{descriptors_of}
 use Rattle.sn_model.specs.Descriptors.{Descriptors}
@@ -13,11 +12,7 @@ use Rattle.sn_model.specs.Settling.{settled}
 use Rattle.sn_model.specs.Tree.{Tree}
 use Rattle.sn_model.specs.World.{Descriptor, new_world}
 use Rattle.sn_overlay.specs.Layers.{Layer}
-use Rattle.sn_overlay.specs.Needs.{AreCharged}
 use Rattle.sn_mount.proofs.settling.settle.Goals as goal
-
-version_charged : AreCharged version_1
-version_charged = record { inodes = omega arith; blocks = refl }
 
 pub returns-in-Ok-over-clause-changed : goal.returns-in-Ok-over-clause-changed
 returns-in-Ok-over-clause-changed c below live =
@@ -27,9 +22,9 @@ returns-in-Ok-over-clause-changed c below live =
       slot = refl;
       root = refl;
       words = refl;
-      changed = λ root charged has.
-          subst (λ (layer : Layer). HasChanged version_1 layer root (settled shown) charged) (sym c.in-Ok-over.ensures.changes)
-          (drops.leads version_1 root shown charged (λ _. false) version_charged live.shown.whole.hierarchy has drops.gone);
+      changed = λ limits root charged paid has.
+          subst (λ (layer : Layer). HasChanged limits layer root (settled shown) charged) (sym c.in-Ok-over.ensures.changes)
+          (drops.leads limits root shown charged (λ _. false) paid live.shown.whole.hierarchy has drops.gone);
     }
 
 pub returns-in-Ok-over-clause-over : goal.returns-in-Ok-over-clause-over

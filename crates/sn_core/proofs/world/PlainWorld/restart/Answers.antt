@@ -1,4 +1,4 @@
-use Rattle.sn_limits.specs.Versions.{version_1}
+use Rattle.sn_limits.specs.Versions.{limits_written}
 use Rattle.sn_model.specs.declared.call.Event.TheVariants.{Restart}
 use Rattle.sn_model.specs.declared.reply.Reply.TheVariants.{Done}
 use Rattle.sn_model.specs.Machine.{Running}
@@ -15,4 +15,4 @@ pub returns-clause-step : goal.returns-clause-step
 returns-clause-step c = restarted c
 
 pub returns-clause-whole : goal.returns-clause-whole
-returns-clause-whole c = let s = (restarted c).step in events_keep version_1 (Running (world_of c.args.self.now)) (Running _) Restart s.0 Done tt c.requires s.2
+returns-clause-whole c = let s = (restarted c).step in events_keep limits_written (Running (world_of c.args.self.now)) (Running _) Restart s.0 Done tt c.requires s.2

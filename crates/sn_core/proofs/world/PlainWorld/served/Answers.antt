@@ -1,6 +1,6 @@
 use Rattle.std.proofs.Common.{◌≡◌, ◌||◌, ℕ, Ok, refl, sym, ap, subst, ◌∙◌}
 use Rattle.std.proofs.lemmas.Result.{err_from_is_err_and}
-use Rattle.sn_limits.specs.Versions.{version_1}
+use Rattle.sn_limits.specs.Versions.{limits_written}
 use Rattle.sn_model.specs.NameTree.{IsTree}
 use Rattle.sn_model.specs.Settling.{OnlyLost, dropped}
 use Rattle.sn_model.specs.Steps.{with_caller, with_live}
@@ -61,7 +61,7 @@ chosen c = choosing (world_of c.prepare.new.self) (world_of c.args.self.now) (ke
 pub set_caller-requires-clause-whole : goal.set_caller-requires-clause-whole
 set_caller-requires-clause-whole c =
     let m = made c in
-    subst (λ (w : World). IsTree version_1 w.live) (sym m.world)
+    subst (λ (w : World). IsTree limits_written w.live) (sym m.world)
     (chosen_whole (world_of c.args.self.now) (kept_of c.args.self.now) c.args.session c.args.call.now c.in_ok-change.field-0 c.choose-change.result m.tree c.in_ok-change.ensures.numbers c.requires c.in_ok-change.ensures.decided (chosen c) m.done)
 
 pub set_caller-requires-clause-opens : goal.set_caller-requires-clause-opens

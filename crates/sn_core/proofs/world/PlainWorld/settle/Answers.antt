@@ -1,6 +1,6 @@
 use Rattle.std.proofs.Common.{false, sym, subst}
 use Rattle.std.proofs.Math.Logic.{∥∥₁_elim, ∥∥₁_prop}
-use Rattle.sn_limits.specs.Versions.{version_1}
+use Rattle.sn_limits.specs.Versions.{limits_written}
 use Rattle.sn_model.specs.NameTree.{IsTree}
 use Rattle.sn_model.proofs.DropLemmas.{dropping_tree}
 use Rattle.sn_numbers.specs.Live.{live_of}
@@ -13,4 +13,4 @@ returns-clause-world c = λ i. record { live = c.settle.ensures.tree i; frozen =
 pub invariant_of-self : goal.invariant_of-self
 invariant_of-self c =
     let old = c.args.self.now in
-    record { whole = ∥∥₁_elim old.whole ∥∥₁_prop (λ w. ∣ subst (IsTree version_1) (sym c.settle.ensures.tree) (dropping_tree version_1 (live_of old.tree) (λ _. false) w) ∣₁) }
+    record { whole = ∥∥₁_elim old.whole ∥∥₁_prop (λ w. ∣ subst (IsTree limits_written) (sym c.settle.ensures.tree) (dropping_tree limits_written (live_of old.tree) (λ _. false) w) ∣₁) }

@@ -9,7 +9,7 @@ use Rattle.sn_desc.specs.InUse.{InUse, live_in}
 use Rattle.sn_device.specs.Crash.{LeavesOnly}
 use Rattle.sn_held.specs.Held.{Going, Held, RunsReady}
 use Rattle.sn_held.specs.Images.{IsImage}
-use Rattle.sn_limits.specs.Versions.{version_1}
+use Rattle.sn_limits.specs.Versions.{limits_written}
 use Rattle.sn_live_world.specs.World.{HasDrops, IsOver, changes_of, world_in}
 use Rattle.sn_log.specs.Positions.{LogPosition}
 use Rattle.sn_model.specs.declared.outcome.AskedPoint.TheVariants.{Plain}
@@ -105,7 +105,7 @@ returns-in-Ok-clause-sound g c =
           let trees = trees_logged (held fs) m.runs (g.met.D.Device.whole (device_of fs.blocks) told) (fs.log.epoch + 1) d1 (g.met.D.Device.whole (device_of c.begin_point.new.blocks) told) (e.wrote told) in
           record {
             over = subst (λ (t : Trees). IsOver c.begin_point-in-Ok.new.self t.live) (sym trees) (next.over (tree_of fs) m.over);
-            whole = subst (IsWorld version_1) (sym (world_begun d0 d1 s0 s1 fs.log c.begin_point.new.log fs.world c.begin_point-in-Ok.new.self fs.room c.begin_point-in-Ok-2.new.self fs.base fs.going c.requires.between point begins trees next.world next.changes room)) m.whole;
+            whole = subst (IsWorld limits_written) (sym (world_begun d0 d1 s0 s1 fs.log c.begin_point.new.log fs.world c.begin_point-in-Ok.new.self fs.room c.begin_point-in-Ok-2.new.self fs.base fs.going c.requires.between point begins trees next.world next.changes room)) m.whole;
             runs = runs_begun d0 d1 s0 s1 fs.log c.begin_point.new.log fs.world c.begin_point-in-Ok.new.self fs.room c.begin_point-in-Ok-2.new.self fs.base fs.going c.requires.between point begins trees next.world next.changes room m.runs;
             stands = e.stands told;
           };

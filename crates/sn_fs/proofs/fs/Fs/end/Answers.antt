@@ -13,7 +13,7 @@ use Rattle.sn_device.proofs.CrashLemmas.{LeavesOnly-weaker, Touches-start}
 use Rattle.sn_device.specs.Crash.{LeavesOnly}
 use Rattle.sn_held.specs.Held.{Held, RunsReady}
 use Rattle.sn_held.specs.Images.{IsImage}
-use Rattle.sn_limits.specs.Versions.{version_1}
+use Rattle.sn_limits.specs.Versions.{limits_written}
 use Rattle.sn_live_world.specs.World.{HasDrops, changes_of}
 use Rattle.sn_model.specs.Settling.{settle}
 use Rattle.sn_model.specs.World.{Trees, World}
@@ -123,7 +123,7 @@ returns-clause-sound g c =
           let changed = changed_ended d0 d1 s0 s1 fs.log fs.world c.end_point-2.new.self fs.room c.end_point.new.self fs.base c.finish.new.base point fs.going c.requires.alone whole finish next.world next.changes room m.runs in
           record {
             over = next.over (tree_of fs) (tree_at d1 c.finish.new.base.root) changed.lies changed.shows m.over;
-            whole = subst (IsWorld version_1) (sym (world_ended d0 d1 s0 s1 fs.log fs.world c.end_point-2.new.self fs.room c.end_point.new.self fs.base c.finish.new.base point fs.going c.requires.alone whole finish next.world next.changes room m.runs)) m.whole;
+            whole = subst (IsWorld limits_written) (sym (world_ended d0 d1 s0 s1 fs.log fs.world c.end_point-2.new.self fs.room c.end_point.new.self fs.base c.finish.new.base point fs.going c.requires.alone whole finish next.world next.changes room m.runs)) m.whole;
             runs = runs_ended d0 d1 s0 s1 fs.log fs.world c.end_point-2.new.self fs.room c.end_point.new.self fs.base c.finish.new.base point fs.going c.requires.alone whole finish next.world next.changes room m.runs;
             stands = stands_none fs.going _ c.requires.alone;
           };

@@ -12,7 +12,7 @@ use Rattle.sn_device.specs.Crash.{LeavesOnly}
 use Rattle.sn_device.specs.declared.status.Status.{Status}
 use Rattle.sn_held.specs.Held.{Held}
 use Rattle.sn_held.specs.Images.{IsImage}
-use Rattle.sn_limits.specs.Versions.{version_1}
+use Rattle.sn_limits.specs.Versions.{limits_written}
 use Rattle.sn_live_world.specs.World.{IsOver}
 use Rattle.sn_model.specs.Settling.{settle}
 use Rattle.sn_model.specs.World.{Trees, World}
@@ -98,7 +98,7 @@ returns-in-Ok-clause-sound g c =
           e.goes_on told in
           record {
             over = subst (IsOver fs.world) (sym (tree_gone d0 d1 s0 status fs.log fs.world fs.room fs.base c.args.going after whole goes (e.tree told) m.runs)) m.over;
-            whole = subst (IsWorld version_1) (sym (world_gone d0 d1 s0 status fs.log fs.world fs.room fs.base c.args.going after whole goes (e.tree told) m.runs)) m.whole;
+            whole = subst (IsWorld limits_written) (sym (world_gone d0 d1 s0 status fs.log fs.world fs.room fs.base c.args.going after whole goes (e.tree told) m.runs)) m.whole;
             runs = runs_gone d0 d1 s0 status fs.log fs.world fs.room fs.base c.args.going after whole goes (e.tree told) m.runs;
             stands = e.stands told;
           };

@@ -2,6 +2,7 @@ use Rattle.std.proofs.Common.{◌≡◌, ◌+◌, Option, None, Some, sym, subst
 use Rattle.std.specs.Prelude.{IfSome}
 use Rattle.sn_block.specs.Lending.{device_of}
 use Rattle.sn_desc.specs.InUse.{live_in}
+use Rattle.sn_limits.specs.Versions.{limits_written}
 use Rattle.sn_live.specs.Prepared.{IsPrepared}
 use Rattle.sn_live.specs.declared.preparing.PreparedLive.{PreparedLive}
 use Rattle.sn_live_world.specs.World.{HasRoomFor, descriptors_of}
@@ -30,7 +31,7 @@ pub returns-in-Ok-None-clause-made : goal.returns-in-Ok-None-clause-made
 returns-in-Ok-None-clause-made g c told =
     let fs = c.args.self.now in
     let can = c.requires.can told in
-    let none = subst (λ (p : Option PreparedLive). IsPrepared p (held fs).world.live c.args.payload.now) c.in-Ok-None.field-0-is (subst (λ (x : Change). IsPrepared c.in-Ok-None.field-0 (held fs).world.live x) c.change.ensures.same (c.in-Ok-None.ensures.prepared told)) in
+    let none = subst (λ (p : Option PreparedLive). IsPrepared limits_written p (held fs).world.live c.args.payload.now) c.in-Ok-None.field-0-is (subst (λ (x : Change). IsPrepared limits_written c.in-Ok-None.field-0 (held fs).world.live x) c.change.ensures.same (c.in-Ok-None.ensures.prepared told)) in
     let never : None ≡ Some can.0 = sym none ∙ can.1 in absurd cc
 
 pub returns-in-Ok-None-clause-kept : goal.returns-in-Ok-None-clause-kept
@@ -71,7 +72,7 @@ returns-in-Ok-clause-made g c told =
     let commits : Commits c.in-Ok-Some.prepared c.prepare_change.new.self c.commit.new.self c.commit.result = record { over = e.over; made = e.made; merged = e.merged; lost = e.lost; kept = e.kept; since = e.since } in
     let appends = c.in-Ok.ensures.disk told in
     is_logged _ _ _ _ _ _ fs.log fs.world c.prepare_change.new.self c.commit.new.self fs.room fs.base fs.going c.args.payload.now c.args.charge c.in-Ok-Some.prepared c.commit.result (c.requires.sound.meant c.requires.running told)
-    (g.met.D.Device.whole (device_of fs.blocks) told) (g.met.D.Device.whole (device_of c.append.new.blocks) told) (looked.same told) looked.counts looked.alike (subst (λ (p : Option PreparedLive). IsPrepared p (held fs).world.live c.args.payload.now) c.in-Ok-Some.field-0-is (subst (λ (x : Change). IsPrepared c.in-Ok-Some.field-0 (held fs).world.live x) c.change.ensures.same (looked.prepared told))) commits appends.touched
+    (g.met.D.Device.whole (device_of fs.blocks) told) (g.met.D.Device.whole (device_of c.append.new.blocks) told) (looked.same told) looked.counts looked.alike (subst (λ (p : Option PreparedLive). IsPrepared limits_written p (held fs).world.live c.args.payload.now) c.in-Ok-Some.field-0-is (subst (λ (x : Change). IsPrepared limits_written c.in-Ok-Some.field-0 (held fs).world.live x) c.change.ensures.same (looked.prepared told))) commits appends.touched
     c.in-Ok.field-0 c.append.new.self c.log.new.self appends c.in-Ok.ensures.moves c.log.ensures c.in-Ok.ensures.counts.done
 
 pub returns-in-Ok-clause-over : goal.returns-in-Ok-clause-over
@@ -81,7 +82,7 @@ returns-in-Ok-clause-over g c told =
     let e = c.commit.ensures in
     let commits : Commits c.in-Ok-Some.prepared c.prepare_change.new.self c.commit.new.self c.commit.result = record { over = e.over; made = e.made; merged = e.merged; lost = e.lost; kept = e.kept; since = e.since } in
     over_logged _ _ _ _ _ (g.D.Device.status (device_of c.append.new.blocks)) fs.log fs.world c.prepare_change.new.self c.commit.new.self fs.room fs.base fs.going c.args.payload.now c.args.charge c.in-Ok-Some.prepared c.commit.result (c.requires.sound.meant c.requires.running told)
-    (g.met.D.Device.whole (device_of fs.blocks) told) (g.met.D.Device.whole (device_of c.append.new.blocks) told) (looked.same told) looked.counts looked.alike (subst (λ (p : Option PreparedLive). IsPrepared p (held fs).world.live c.args.payload.now) c.in-Ok-Some.field-0-is (subst (λ (x : Change). IsPrepared c.in-Ok-Some.field-0 (held fs).world.live x) c.change.ensures.same (looked.prepared told))) commits (c.in-Ok.ensures.disk told).touched
+    (g.met.D.Device.whole (device_of fs.blocks) told) (g.met.D.Device.whole (device_of c.append.new.blocks) told) (looked.same told) looked.counts looked.alike (subst (λ (p : Option PreparedLive). IsPrepared limits_written p (held fs).world.live c.args.payload.now) c.in-Ok-Some.field-0-is (subst (λ (x : Change). IsPrepared limits_written c.in-Ok-Some.field-0 (held fs).world.live x) c.change.ensures.same (looked.prepared told))) commits (c.in-Ok.ensures.disk told).touched
 
 pub returns-in-Ok-clause-lost : goal.returns-in-Ok-clause-lost
 returns-in-Ok-clause-lost g c told =
@@ -90,7 +91,7 @@ returns-in-Ok-clause-lost g c told =
     let e = c.commit.ensures in
     let commits : Commits c.in-Ok-Some.prepared c.prepare_change.new.self c.commit.new.self c.commit.result = record { over = e.over; made = e.made; merged = e.merged; lost = e.lost; kept = e.kept; since = e.since } in
     lost_logged _ _ _ _ _ (g.D.Device.status (device_of c.append.new.blocks)) fs.log fs.world c.prepare_change.new.self c.commit.new.self fs.room fs.base fs.going c.args.payload.now c.args.charge c.in-Ok-Some.prepared c.commit.result (c.requires.sound.meant c.requires.running told)
-    (g.met.D.Device.whole (device_of fs.blocks) told) (g.met.D.Device.whole (device_of c.append.new.blocks) told) (looked.same told) looked.counts looked.alike (subst (λ (p : Option PreparedLive). IsPrepared p (held fs).world.live c.args.payload.now) c.in-Ok-Some.field-0-is (subst (λ (x : Change). IsPrepared c.in-Ok-Some.field-0 (held fs).world.live x) c.change.ensures.same (looked.prepared told))) commits (c.in-Ok.ensures.disk told).touched
+    (g.met.D.Device.whole (device_of fs.blocks) told) (g.met.D.Device.whole (device_of c.append.new.blocks) told) (looked.same told) looked.counts looked.alike (subst (λ (p : Option PreparedLive). IsPrepared limits_written p (held fs).world.live c.args.payload.now) c.in-Ok-Some.field-0-is (subst (λ (x : Change). IsPrepared limits_written c.in-Ok-Some.field-0 (held fs).world.live x) c.change.ensures.same (looked.prepared told))) commits (c.in-Ok.ensures.disk told).touched
 
 pub returns-in-Ok-clause-drops : goal.returns-in-Ok-clause-drops
 returns-in-Ok-clause-drops g c =

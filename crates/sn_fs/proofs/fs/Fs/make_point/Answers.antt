@@ -7,7 +7,7 @@ use Rattle.sn_cp_whole.specs.declared.base.PointBase.{PointBase}
 use Rattle.sn_desc.specs.InUse.{InUse, live_in}
 use Rattle.sn_device.specs.Crash.{LeavesOnly}
 use Rattle.sn_held.specs.Held.{Going, Held, RunsReady}
-use Rattle.sn_limits.specs.Versions.{version_1}
+use Rattle.sn_limits.specs.Versions.{limits_written}
 use Rattle.sn_live_world.specs.World.{HasDrops, changes_of, world_in}
 use Rattle.sn_log.specs.Positions.{LogPosition}
 use Rattle.sn_model.specs.Steps.{pointed}
@@ -95,7 +95,7 @@ returns-in-Ok-clause-sound g c =
           let s1 = g.D.Device.status (device_of c.make_point.new.blocks) in
           record {
             over = next.over (tree_of fs) (tree_at d1 c.make_point.new.base.root) (tree_made d0 d1 s0 s1 fs.log c.make_point.new.log fs.world c.replace_root.new.self fs.room c.make_point.new.room fs.base c.make_point.new.base fs.going c.requires.between whole asked can point next.world next.changes m.runs) m.over;
-            whole = subst (IsWorld version_1) (sym (world_made d0 d1 s0 s1 fs.log c.make_point.new.log fs.world c.replace_root.new.self fs.room c.make_point.new.room fs.base c.make_point.new.base fs.going c.requires.between whole asked can point next.world next.changes m.runs)) (c.requires.asked told).whole;
+            whole = subst (IsWorld limits_written) (sym (world_made d0 d1 s0 s1 fs.log c.make_point.new.log fs.world c.replace_root.new.self fs.room c.make_point.new.room fs.base c.make_point.new.base fs.going c.requires.between whole asked can point next.world next.changes m.runs)) (c.requires.asked told).whole;
             runs = runs_made d0 d1 s0 s1 fs.log c.make_point.new.log fs.world c.replace_root.new.self fs.room c.make_point.new.room fs.base c.make_point.new.base fs.going c.requires.between whole asked can point next.world next.changes m.runs;
             stands = stands_none fs.going _ c.requires.between;
           };

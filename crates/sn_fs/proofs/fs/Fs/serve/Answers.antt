@@ -4,7 +4,7 @@ use Rattle.sn_block.specs.Lending.{device_of}
 use Rattle.sn_core.specs.Called.{HasRoom}
 use Rattle.sn_cp_whole.specs.declared.base.PointBase.{PointBase}
 use Rattle.sn_held.specs.Held.{Held}
-use Rattle.sn_limits.specs.Versions.{version_1}
+use Rattle.sn_limits.specs.Versions.{limits_written}
 use Rattle.sn_live_world.specs.Turned.{Turns as CanTurnOver}
 use Rattle.sn_live_world.specs.World.{IsOver, room_of}
 use Rattle.sn_model.specs.Machine.{refused}
@@ -219,7 +219,7 @@ returns-in-None-clause-served g c told =
     let picked = c.in-Some.field-0 in
     let picks = c.in-Some.ensures.picked (tree_of p) m.over in
     let turns = turns_now h (held p) c.args.session c.args.call.now o c.in-Ok.ensures.numbers whole decided same picked picks c.in-None.is (room_of p.world) c.in-Ok-prepare.ensures.room in
-    let turned = c.turn-in-None.ensures.turned (record { over = m.over; can = turns; only = no_loss version_1 (held p).world m.whole }) in
+    let turned = c.turn-in-None.ensures.turned (record { over = m.over; can = turns; only = no_loss limits_written (held p).world m.whole }) in
     let a = serves_told h (held p) c.args.session c.args.call.now o c.in-Ok.ensures.numbers whole decided same picked picks c.in-None.is c.requires.alone (held new) c.nameless-parked.result (c.nameless-parked.ensures.tells (tree_of p) m.over) turned in
     subst (Serves (Some o.told) h c.args.session c.args.call.now (held new)) (sym (ap has_stopped c.turn-in-None.ensures.rest ∙ running)) a
 
@@ -252,7 +252,7 @@ returns-in-None-clause-sound g c =
           let picked = c.in-Some.field-0 in
           let picks = c.in-Some.ensures.picked (tree_of p) m.over in
           let turns = turns_now h (held p) c.args.session c.args.call.now o c.in-Ok.ensures.numbers whole decided same picked picks c.in-None.is (room_of p.world) c.in-Ok-prepare.ensures.room in
-          let can : CanTurnOver p.world (tree_of p) c.args.session picked.caller None = record { over = m.over; can = turns; only = no_loss version_1 (held p).world m.whole } in
+          let can : CanTurnOver p.world (tree_of p) c.args.session picked.caller None = record { over = m.over; can = turns; only = no_loss limits_written (held p).world m.whole } in
           let turned = subst (λ (x : Fs _ _). Turns c.args.session picked.caller c.nameless-parked.result (held p) (held x)) c.turn-in-None.ensures.rest (c.turn-in-None.ensures.turned can) in
           let count = c.nameless-parked.ensures.tells (tree_of p) m.over in
           record {
