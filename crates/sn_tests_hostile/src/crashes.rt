@@ -87,25 +87,32 @@ fn is_right(alloc: Global, row: &Row, cut: Cut) -> Result<bool> {
     Ok(is_told && row.may_be_found(answered, found.as_str()))
 }
 
-/// Cuts a row short behind each of its writes, with so many kinds of crashes at each, another one first at the next.
-pub fn sweep(report: &Report<'_>, row: &Row, kinds: u32, tally: &mut Tally) -> Result<()> {
+/// Where a row is cut short: behind each so-manieth of its writes, with so many kinds of crashes at each, another one first at the
+/// next.
+pub fn cuts_of(alloc: Global, row: &Row, spacing: u32, kinds: u32) -> Result<Vec<Cut>> {
+    let mut cuts = Vec::new(alloc);
     for stop in 0..row.writes().saturating_add(1) {
-        sweep_at(report, row, stop, kinds, tally)?;
+        if stop.checked_rem(spacing) == Some(0) {
+            push_cuts(row, stop, kinds, &mut cuts)?;
+        }
+    }
+    Ok(cuts)
+}
+
+fn push_cuts(row: &Row, stop: u32, kinds: u32, cuts: &mut Vec<Cut>) -> Result<()> {
+    for each in 0..kinds {
+        let kind = stop.saturating_add(row.number()).saturating_add(each) % KINDS;
+        cuts.push(Cut { stop, kind })?;
     }
     Ok(())
 }
 
-fn sweep_at(
-    report: &Report<'_>,
-    row: &Row,
-    stop: u32,
-    kinds: u32,
-    tally: &mut Tally,
-) -> Result<()> {
-    for each in 0..kinds {
-        let kind = stop.saturating_add(row.number()).saturating_add(each) % KINDS;
-        let is_right = is_right(report.alloc(), row, Cut { stop, kind })?;
-        let case = [row.number(), stop, kind];
+/// Cuts a row short behind each of its writes, with so many kinds of crashes at each.
+pub fn sweep(report: &Report<'_>, row: &Row, kinds: u32, tally: &mut Tally) -> Result<()> {
+    let cuts = cuts_of(report.alloc(), row, 1, kinds)?;
+    for cut in cuts.iter() {
+        let is_right = is_right(report.alloc(), row, *cut)?;
+        let case = [row.number(), cut.stop, cut.kind];
         tally.check(report.runtime(), is_right, &case)?;
     }
     Ok(())

@@ -2,7 +2,7 @@
 //!
 //! What is wanted is that the disk is then found as behind the first crash.
 
-use crate::crashes::{Cut, KINDS, cut_on};
+use crate::crashes::{Cut, KINDS, cut_on, cuts_of};
 use crate::rows::{Row, Told, bytes_of};
 use anyhow::{Result, bail};
 use rand_core::Rng;
@@ -54,7 +54,7 @@ fn left_on(row: &Row, image: Vec<u8>, device: MemDevice) -> Result<Left> {
 }
 
 /// Where each of three runs is cut short: the later ones behind as many writes as the first, or behind a number that is drawn.
-fn cuts_of(cut: Cut, stop: u32) -> [Cut; 3] {
+fn later_cuts(cut: Cut, stop: u32) -> [Cut; 3] {
     let mut random = Pcg32::new(u64::from(cut.stop), u64::from(stop));
     let first = drawn(&mut random, stop, stop);
     let second = random.next_u32() % DRAWN;
@@ -124,7 +124,7 @@ fn sweep_behind(
     let left = left_by(report.alloc(), row, cut)?;
     for each in 0..MOST_WRITES {
         let stop = each.saturating_mul(spacing);
-        let outcome = outcome_of(report.alloc(), row, &left, cuts_of(cut, stop))?;
+        let outcome = outcome_of(report.alloc(), row, &left, later_cuts(cut, stop))?;
         let case = [row.number(), cut.stop, cut.kind, stop];
         tally.check(report.runtime(), outcome.is_right, &case)?;
         if !outcome.was_cut {
@@ -142,25 +142,9 @@ pub fn sweep(
     spacing: Spacing,
     tally: &mut Tally,
 ) -> Result<()> {
-    for stop in 0..row.writes().saturating_add(1) {
-        if stop.checked_rem(spacing.row) == Some(0) {
-            sweep_at(report, row, stop, kinds, spacing.mount, tally)?;
-        }
-    }
-    Ok(())
-}
-
-fn sweep_at(
-    report: &Report<'_>,
-    row: &Row,
-    stop: u32,
-    kinds: u32,
-    spacing: u32,
-    tally: &mut Tally,
-) -> Result<()> {
-    for each in 0..kinds {
-        let kind = stop.saturating_add(row.number()).saturating_add(each) % KINDS;
-        sweep_behind(report, row, Cut { stop, kind }, spacing, tally)?;
+    let cuts = cuts_of(report.alloc(), row, spacing.row, kinds)?;
+    for cut in cuts.iter() {
+        sweep_behind(report, row, *cut, spacing.mount, tally)?;
     }
     Ok(())
 }
