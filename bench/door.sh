@@ -49,6 +49,15 @@ on_terminal() {
     return "$status"
 }
 
+# The same, without the line that tells that the release isn't of the sources here, which a commit between two releases brings.
+to_a_person() {
+    local lines status
+    lines=$(on_terminal "$@")
+    status=$?
+    printf '%s\n' "$lines" | grep -v '^snapfs: this is release .*, of other sources'
+    return "$status"
+}
+
 NEEDS_RT="snapfs: the program has to be built, and the command rt of the Rattle toolchain isn't on the PATH"
 NO_RELEASE="snapfs: no program was built here, and there is no release: ./snapfs --build proves and builds it"
 OTHER_SUM="snapfs: release/snapfs isn't the program of release/RELEASE: fetch the release again, or ./snapfs --build"
@@ -77,7 +86,7 @@ if [ -f "$release/snapfs" ]; then
         bare bash -c "ulimit -f 200; ./snapfs run $image $work/x.snap"
     if command -v script >/dev/null; then
         case_of "a person is shown the commands" 2 "$(printf '%s\n' "$USAGE" && cat "$top/crates/sn_tests_program/data/help")" \
-            on_terminal ./snapfs --help
+            to_a_person ./snapfs --help
     fi
     # Sources changed by one byte: it runs all the same, and says so to a person alone.
     printf '\n' >>crates/sn_limits/src/lib.rt
