@@ -5,7 +5,8 @@
     bench/hostile.py device [--rows N..]                   makes the whole of the sweeps of which the gate makes a part
     bench/hostile.py bodies [NAME..]                       makes that part with each of the wrong bodies in bench/wrong_sweeps
 
-Run by hand. The rows are the eight in crates/sn_tests_restarts/data/hostile. `memory` wants gcc, since the refusals come from a small
+Run by hand. The rows are the eight in crates/sn_tests_restarts/data/hostile, and for `device` also the six in version_1 beside it, which
+begin on disks of version 1. `memory` wants gcc, since the refusals come from a small
 library that stands before the C library's malloc, and builds the program where it isn't up to date, or takes the one of PATH. Each
 row is run on a new image in a file, and by `stop-at` on a device in memory that never stops; and so with each allocation refused
 in turn, until none is left. What is wanted:
@@ -41,6 +42,8 @@ from wrong_bodies import RT  # noqa: E402
 TOP = Path(__file__).resolve().parent.parent
 TESTS = TOP / "crates/sn_tests_restarts"
 NAMES = ("inherited", "two_names", "sizes", "no_name", "frozen", "refused", "stepped", "frozen_in_steps")
+# Those that begin on disks of version 1, behind the others in the test program: the device alone refuses them.
+OLD_NAMES = ("fresh", "twenty", "snapshots", "halves", "held", "large")
 SECONDS = 120
 PROCESSES = 3
 NEVER = "1000000"
@@ -274,7 +277,7 @@ def sweep_row(number):
     """What the test program tells of the whole sweeps over a row."""
     program = TESTS / "out/sn_tests_restarts"
     run = subprocess.run([program, ".", str(number), "1"], cwd=TESTS / "data", capture_output=True, text=True)
-    return NAMES[number], run.stdout, run.returncode
+    return (NAMES + OLD_NAMES)[number], run.stdout, run.returncode
 
 
 def sweep_device(words, _):
@@ -283,7 +286,7 @@ def sweep_device(words, _):
         subprocess.run([TOP / ".ci/rt", "run", "--", "."], cwd=TESTS, stdout=subprocess.DEVNULL, check=True)
     is_right = True
     with Pool(PROCESSES) as pool:
-        for name, told, status in pool.imap(sweep_row, [NAMES.index(name) for name in words.rows], chunksize=1):
+        for name, told, status in pool.imap(sweep_row, [(NAMES + OLD_NAMES).index(name) for name in words.rows], chunksize=1):
             is_right = is_right and status == 0
             print(f"{name}:\n{told}", end="", flush=True)
     return is_right
@@ -344,8 +347,10 @@ def main():
     words.add_argument("what", choices=("memory", "device", "bodies"))
     words.add_argument("names", nargs="*")
     words.add_argument("--snapfs", type=Path)
-    words.add_argument("--rows", nargs="+", choices=NAMES, default=NAMES)
+    words.add_argument("--rows", nargs="+", choices=NAMES + OLD_NAMES)
     words = words.parse_args()
+    if words.rows is None:
+        words.rows = NAMES + OLD_NAMES if words.what == "device" else NAMES
     with tempfile.TemporaryDirectory() as folder:
         is_right = {"memory": refuse_memory, "device": sweep_device, "bodies": try_bodies}[words.what](words, folder)
     sys.exit(0 if is_right else 1)

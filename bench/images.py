@@ -108,7 +108,7 @@ class Fields:
             self.add("heads", at, 28)
             self.add("heads", at, 1)
             self.add("links", at + 4, 2)
-            found = inode(record.data)
+            found = inode(root.limits, record.data)
             if found.acl_block != 0:
                 self.data_blocks.add(found.acl_block)
                 entries = self.disk.block(found.acl_block)[0] + self.disk.block(found.acl_block)[1]

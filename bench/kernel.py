@@ -27,7 +27,7 @@ What isn't compared, since it is this project's own rule:
   order that they have here, and it has to refuse the call too where one of them does. To unlink a directory is `EPERM`
   here and `EISDIR` there, to cut a file that isn't open for writing `EBADF` here and `EINVAL` there;
 - a directory is never opened here, and is there for reading;
-- a file has at most 67,108,864 bytes here, a session 64 descriptors, and a read or a write 65,536 bytes;
+- a file has at most 68,719,476,736 bytes here, a session 64 descriptors, and a read or a write 65,536 bytes;
 - user 0 may execute any file here, and there only one that somebody may execute. A default ACL of a file is `EINVAL`;
 - to move a directory takes write to itself there, for its `..`, and hard links and files in directories with S_ISVTX
   may be guarded (`fs.protected_hardlinks`, `fs.protected_regular`). Such a move or link is made by user 0 then, and what
@@ -54,7 +54,7 @@ VERSION, NOBODY = 2, 0xFFFFFFFF
 USER_OBJ, USER, GROUP_OBJ, GROUP, MASK, OTHER = 0x01, 0x02, 0x04, 0x08, 0x10, 0x20
 LETTERS = {USER_OBJ: "u", USER: "u", GROUP_OBJ: "g", GROUP: "g", MASK: "m", OTHER: "o"}
 S_ISGID = 0o2000
-LARGEST_FILE, MOST_BYTES, DESCRIPTORS = 67_108_864, 65_536, 64
+LARGEST_FILE, MOST_BYTES, DESCRIPTORS = 68_719_476_736, 65_536, 64
 WITHOUT_PATH = ("umask", "close", "read", "write", "seek", "ftruncate")
 # The most bytes of a line or a reply: twice the most of a write, and some words.
 MESSAGE = 1 << 18
@@ -564,7 +564,7 @@ class Drawn:
     USERS, GROUPS, NAMES = (1000, 1001, 1002), (100, 101, 102), ("a", "b", "c")
     FILES = ("f", "g")
     FLAGS = ("r", "r", "rw", "w", "rwa", "wt", "rwc", "rwc", "wc", "wac", "rwct", "wcx", "rwcx", "rc", "ra", "x")
-    OFFSETS = (0, 0, 1, 3, 9, 63, 64, 65, 4095, 4096, 65536, 67108863, 67108864, 67108865)
+    OFFSETS = (0, 0, 1, 3, 9, 63, 64, 65, 4095, 4096, 65536, 67108863, 67108864, 67108865, 68719476735, 68719476736, 68719476737)
 
     def __init__(self, seed):
         self.random = random.Random(seed)

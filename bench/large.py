@@ -31,6 +31,7 @@ TOP = Path(__file__).resolve().parent.parent
 BLOCKS, LARGEST = 65_536, 1_048_576
 ROUNDS, SECONDS, MOST = 7, 60, 24
 MEBIBYTE = 1 << 20
+GIBIBYTE = 1 << 30
 INODES_AT = 128
 
 
@@ -101,6 +102,29 @@ def with_directory(tree_of):
 def hole():
     """A directory that claims 64 MiB, of which one block is there."""
     return with_directory(lambda image: record(2, 64 * MEBIBYTE, [image.take(struct.pack("<I", image.take(b""))), *[0] * 15]))
+
+
+def far_hole():
+    """A directory that claims 64 GiB, of which one block is there, by two levels of indirect blocks."""
+    return with_directory(lambda image: record(2, 64 * GIBIBYTE, [below(image, below(image, image.take(b""), 0), 0), *[0] * 15]))
+
+
+def below(image, pointer, place):
+    """A block of pointers that are 0 but for one at a place."""
+    pointers = [0] * POINTERS
+    pointers[place] = pointer
+    return image.take(struct.pack(f"<{POINTERS}I", *pointers))
+
+
+def far():
+    """A file of 64 GiB, of which the last byte's block is there."""
+    tree = Tree()
+    tree.add_file(2, "f", b"")
+    image = Sparse.of(tree)
+    last = POINTERS - 1
+    image.set_inode(3, record(1, 64 * GIBIBYTE, [*[0] * 15, below(image, below(image, image.take(bytes(BLOCK - 1) + b"z"), last), last)]))
+    image.mark()
+    return image
 
 
 def deep_hole():
@@ -212,6 +236,8 @@ IMAGES = {
     "5,000 files of one block": (ordinary, "clean"),
     "a directory that claims 64 MiB, of one block": (hole, "fault C5 197"),
     "one that has 16,383 of its 16,384 blocks": (deep_hole, "fault C5 197"),
+    "a directory that claims 64 GiB, of one block": (far_hole, "fault C5 197"),
+    "a file of 64 GiB, of one block": (far, "clean"),
     "a file in 10,000 names": (names, "clean"),
     "a tree 1,000 directories deep": (deep, "clean"),
     "all 65,534 numbers in use": (numbers, "clean"),

@@ -10,6 +10,8 @@ BLOCK = 4096
 DIRECT = 16
 POINTERS = 1024
 INLINE = 64
+# The version of the root.
+VERSION = 2
 
 
 class Tree:
@@ -104,7 +106,7 @@ def image_of(tree, blocks):
     image = Image(blocks)
     root = inode_file(image, tree)
     image.put(0, b"SNAPFSYS" + struct.pack("<I", blocks))
-    image.put(1, (struct.pack("<I4xQQI4x", 1, 1, 1, 0) + root))
+    image.put(1, (struct.pack("<I4xQQI4x", VERSION, 1, 1, 0) + root))
     image.put(3, b"\1")
     first = 68 + 2 * image.map_blocks
     words = b"".join(struct.pack("<I", first <= block < image.next) for block in range(image.next))

@@ -14,19 +14,18 @@ from pathlib import Path
 
 sys.dont_write_bytecode = True
 
-from made_image import BLOCK, POINTERS, Tree, image_of  # noqa: E402
+from made_image import BLOCK, POINTERS, VERSION, Tree, image_of  # noqa: E402
 from plain_format import (  # noqa: E402
-    DIRECTORY, FILE, LARGEST_FILE, MOST_AGE, MOST_LINKS, RECORD, SECTOR, Link, Make, Remove, Rename, SetAttributes, SetSize, Write,
+    DIRECTORY, FILE, MOST_AGE, MOST_LINKS, RECORD, SECTOR, VERSIONS, Link, Make, Remove, Rename, SetAttributes, SetSize, Write,
     acl_block, are_zeros, inode, log_body, names_in, number, pointers_in, root_body, superblock,
 )
 
 SECTORS_PER_BLOCK, RECORDS_PER_BLOCK = BLOCK // SECTOR, BLOCK // RECORD
-VERSION, FIRST_GATE = 1, 24
+FIRST_GATE = 24
 HALF_BLOCKS, LAST_PLACE, LAST_GATE = 32, 253, 255
 ROOT, HIDDEN_NAME = 2, b".snapshot"
 LARGEST_NUMBER, MOST_NAMES, MOST_INODE_BLOCKS = 65_535, 65_535, 2_048
-# What changes are charged: so many inodes and so many blocks. A remove of a file, and a write, are charged more.
-INODE_CHARGE, BLOCK_CHARGE = 8, 2
+# What changes are charged for: so many inodes and so many blocks. A remove of a file, and a write, are charged more.
 CHARGES = {Make: (2, 1), Link: (2, 1), Remove: (2, 1), Rename: (5, 2), Write: (1, 0), SetSize: (1, 1), SetAttributes: (1, 0)}
 
 
@@ -68,8 +67,9 @@ class Disk:
         return 4 + 2 * self.map_blocks + HALF_BLOCKS * (epoch % 2)
 
 
-# The inode file of the live root or of a snapshot, with its bit in the map and the block of the root body that has it.
-Root = namedtuple("Root", "bit tree body")
+# The inode file of the live root or of a snapshot, with its bit in the map, the block of the root body that has it, and the limits of
+# that one's version.
+Root = namedtuple("Root", "bit tree body limits")
 
 
 def newest(disk):
@@ -77,7 +77,7 @@ def newest(disk):
     slots = [slot for slot in (0, 1) if disk.is_open(FIRST_GATE + slot)]
     if not slots:
         raise Told("snapfs: M3")
-    if any(number(disk.block(1 + slot), 0, 4) != VERSION for slot in slots):
+    if any(number(disk.block(1 + slot), 0, 4) not in VERSIONS for slot in slots):
         raise Told("snapfs: M2")
     roots = {slot: root_body(disk.block(1 + slot)) for slot in slots}
     for slot in slots:
@@ -90,8 +90,9 @@ def newest(disk):
 
 def roots_of(slot, root):
     """The live root and then those of the snapshots, by their bits."""
-    live = Root(0, root.inode_file, 1 + slot)
-    return [live] + [Root(each.bit, each.tree, 1 + slot) for each in root.snapshots]
+    limits = VERSIONS[root.version]
+    live = Root(0, root.inode_file, 1 + slot, limits)
+    return [live] + [Root(each.bit, each.tree, 1 + slot, limits) for each in root.snapshots]
 
 
 # ---- block trees
@@ -182,7 +183,7 @@ def check_root(marks, root):
 
 def check_inode(marks, root, record):
     """Looks at all that stands under one number."""
-    found = inode(record.data)
+    found = inode(root.limits, record.data)
     if found is None:
         raise Told(f"fault C5 {record.block}")
     if found.acl_block != 0:
@@ -212,7 +213,7 @@ def check_directory(disk, tree, record_block):
 
 def check_root_directory(disk, root, record):
     """Looks at what is asked of inode 2 alone, which is told of the root body where its record is in a hole."""
-    found = inode(record.data) if record is not None else None
+    found = inode(root.limits, record.data) if record is not None else None
     if found is None or found.kind != DIRECTORY or HIDDEN_NAME in [name for _, _, name in names_of(disk, found.tree)]:
         raise Told(f"fault C5 {pointer_to(disk, root.tree, 0) or root.body}")
 
@@ -240,7 +241,7 @@ def check_map(marks, slot):
 def check_links(disk, root):
     """Looks for C6: names too many, numbers with a name too few, and directories that aren't reached."""
     records = records_of(disk, root)
-    inodes = {inode_number: inode(record.data) for inode_number, record in records.items()}
+    inodes = {inode_number: inode(root.limits, record.data) for inode_number, record in records.items()}
     directories = [inode_number for inode_number, found in inodes.items() if found.kind == DIRECTORY]
     # How many names each number still lacks, and a directory that has one. The root directory is to have none.
     lacks = {inode_number: found.links for inode_number, found in inodes.items()} | {ROOT: 0}
@@ -275,9 +276,9 @@ class NameTree:
     """What changes are made of: the kind of each number, and the number under each directory and name."""
 
     def __init__(self, disk, root):
-        self.kinds, self.links = {}, {}
+        self.kinds, self.links, self.limits = {}, {}, root.limits
         for inode_number, record in records_of(disk, root).items():
-            found = inode(record.data)
+            found = inode(root.limits, record.data)
             self.kinds[inode_number] = found.kind
             if found.kind == DIRECTORY:
                 self.links.update({(inode_number, name): child for _, child, name in names_of(disk, found.tree)})
@@ -360,11 +361,11 @@ def rename(tree, change):
 
 
 def write(tree, change):
-    return tree.is_file(change.number) and change.offset + change.count <= LARGEST_FILE
+    return tree.is_file(change.number) and change.offset + change.count <= tree.limits.largest_file
 
 
 def set_size(tree, change):
-    return tree.is_file(change.number) and change.size <= LARGEST_FILE
+    return tree.is_file(change.number) and change.size <= tree.limits.largest_file
 
 
 def set_attributes(tree, change):
@@ -381,7 +382,7 @@ def charge(tree, change):
         inodes = 3
     if isinstance(change, Write):
         blocks = (change.offset + change.count - 1) // BLOCK - change.offset // BLOCK + 1
-    return INODE_CHARGE * inodes + BLOCK_CHARGE * blocks
+    return tree.limits.inode_charge * inodes + tree.limits.block_charge * blocks
 
 
 def epoch_behind(disk, place):
@@ -403,16 +404,17 @@ def replay(disk, tree, epoch):
 
 
 def check_log(disk, slot, root, free):
-    """Looks for C7: later epochs, records, what they are charged, and the age that a recovery needs."""
+    """Looks for C7: later epochs, records, what they are charged, and the age that a recovery needs, as a root of an old version does."""
     for half in range(2):
         if (epoch_behind(disk, SECTORS_PER_BLOCK * disk.half(half)) or 0) > root.epoch + 1:
             raise Told(f"fault C7 {disk.half(half)}")
     tree = NameTree(disk, roots_of(slot, root)[0])
     nameless = tree.nameless()
     charges = replay(disk, tree, root.epoch) + replay(disk, tree, root.epoch + 1)
-    is_covered = sum(charges) + INODE_CHARGE * nameless <= free
+    is_covered = sum(charges) + tree.limits.inode_charge * nameless <= free
     has_age = root.generation + 1 <= MOST_AGE and root.epoch + 2 <= MOST_AGE
-    if not is_covered or ((charges or nameless) and not has_age):
+    recovers = charges or nameless or root.version != VERSION
+    if not is_covered or (recovers and not has_age):
         raise Told(f"fault C7 {disk.half(root.epoch)}")
 
 

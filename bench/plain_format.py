@@ -18,11 +18,15 @@ USER_OBJ, USER, GROUP_OBJ, GROUP, MASK, OTHER = range(1, 7)
 
 FEWEST_BLOCKS, MOST_BLOCKS = 256, 1_048_576
 MOST_AGE = 2**62
-MOST_SNAPSHOTS = 20
 MOST_LINKS = 32_767
-LARGEST_FILE = 67_108_864
 MOST_NAMED_ENTRIES = 32
 MOST_WRITTEN, MOST_PAYLOAD = 65_536, 65_547
+
+
+# What each version has: the bytes of its largest file, its snapshots, the largest bit of which is the same number, and the blocks
+# that a change is charged for each inode and for each block.
+Limits = namedtuple("Limits", "largest_file snapshots inode_charge block_charge")
+VERSIONS = {1: Limits(67_108_864, 20, 8, 2), 2: Limits(68_719_476_736, 31, 10, 3)}
 
 
 def number(data, at, width):
@@ -70,33 +74,34 @@ def block_tree(data, at):
 
 
 Snapshot = namedtuple("Snapshot", "bit name tree")
-RootBody = namedtuple("RootBody", "generation epoch inode_file snapshots")
+RootBody = namedtuple("RootBody", "version generation epoch inode_file snapshots")
 
 
-def snapshot(data):
+def snapshot(data, largest_bit):
     """The 112 bytes of a snapshot in a root body."""
     name, behind = data[2 : 2 + data[1]], data[2 + data[1] : 40]
     is_name_of_one = re.fullmatch(rb"[A-Za-z0-9._-]{1,31}", name) is not None and name not in DOTS
-    if not 1 <= data[0] <= MOST_SNAPSHOTS or not is_name_of_one or not are_zeros(behind):
+    if not 1 <= data[0] <= largest_bit or not is_name_of_one or not are_zeros(behind):
         return None
     return Snapshot(data[0], name, block_tree(data, 40))
 
 
 def root_body(block):
-    """A root body of version 1."""
-    generation, epoch, count = number(block, 8, 8), number(block, 16, 8), number(block, 24, 4)
-    if number(block, 0, 4) != 1 or not are_zeros(block[4:8] + block[28:32] + block[104:624]):
+    """A root body of any version."""
+    version, generation, epoch, count = number(block, 0, 4), number(block, 8, 8), number(block, 16, 8), number(block, 24, 4)
+    if version not in VERSIONS or not are_zeros(block[4:8] + block[28:32] + block[104:624]):
         return None
-    if not 1 <= generation <= MOST_AGE or not 1 <= epoch <= MOST_AGE or count > MOST_SNAPSHOTS:
+    most = VERSIONS[version].snapshots
+    if not 1 <= generation <= MOST_AGE or not 1 <= epoch <= MOST_AGE or count > most:
         return None
     end = 624 + 112 * count
-    snapshots = [snapshot(block[at : at + 112]) for at in range(624, end, 112)]
+    snapshots = [snapshot(block[at : at + 112], most) for at in range(624, end, 112)]
     if None in snapshots or not are_zeros(block[end:]):
         return None
     bits, names = [each.bit for each in snapshots], {each.name for each in snapshots}
     if bits != sorted(set(bits)) or len(names) < count:
         return None
-    return RootBody(generation, epoch, block_tree(block, 32), snapshots)
+    return RootBody(version, generation, epoch, block_tree(block, 32), snapshots)
 
 
 # ---- inodes and what they name
@@ -110,15 +115,15 @@ Entry = namedtuple("Entry", "tag qualifier")
 Acls = namedtuple("Acls", "access default")
 
 
-def is_tree_of(kind, tree):
+def is_tree_of(limits, kind, tree):
     """Whether a file with more bytes than its record holds, or a directory, can have this tree: no pointer stands past its size."""
     is_size = tree.size > INLINE if kind == FILE else tree.size % BLOCK == 0
     ends = all(pointer == 0 or place * tree.span(0) < tree.size for place, pointer in enumerate(tree.pointers))
-    return is_size and tree.size <= LARGEST_FILE and ends
+    return is_size and tree.size <= limits.largest_file and ends
 
 
-def inode(record):
-    """A record that is in use. One of zeros is unused, and no inode."""
+def inode(limits, record):
+    """A record that is in use, by the limits of its root. One of zeros is unused, and no inode."""
     kind, bits, rights, links = record[0], record[1], number(record, 2, 2), number(record, 4, 2)
     size, acl_block = number(record, 16, 8), number(record, 24, 4)
     if kind not in (FILE, DIRECTORY) or bits > 3 or rights > 0o777 or not are_zeros(record[6:8] + record[28:64]):
@@ -128,7 +133,7 @@ def inode(record):
     if kind == FILE and size <= INLINE:
         return Inode(kind, links, acl_block, None) if are_zeros(record[64 + size :]) else None
     tree = BlockTree(size, struct.unpack_from(f"<{DIRECT}I", record, 64))
-    return Inode(kind, links, acl_block, tree) if is_tree_of(kind, tree) else None
+    return Inode(kind, links, acl_block, tree) if is_tree_of(limits, kind, tree) else None
 
 
 def acl_entries(data):

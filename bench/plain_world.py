@@ -4,7 +4,7 @@ It knows no device: no call finds the disk full, and a point, which each step en
 arguments that no call takes and sessions of other users aren't there, since its callers draw none.
 """
 
-LARGEST_FILE, DESCRIPTORS = 67_108_864, 64
+LARGEST_FILE, DESCRIPTORS = 68_719_476_736, 64
 SET_GROUP = 0o2000
 
 

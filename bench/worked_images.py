@@ -221,7 +221,7 @@ def put_records(data, half, epoch, payloads):
 def epochs():
     """Records of the root's epoch and of the next one, on top of a tree. An older root stands in the other slot, which needs no tree."""
     # All that is free is charged.
-    data = whole(image_of(some_tree(), 257))
+    data = whole(image_of(some_tree(), 306))
     data[2 * BLOCK : 2 * BLOCK + 24] = data[BLOCK : BLOCK + 24]
     data[BLOCK + 8] = 2
     data[3 * BLOCK + SECTOR] = 1

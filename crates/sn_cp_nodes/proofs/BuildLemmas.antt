@@ -62,10 +62,13 @@ size_within limits Directory (Tree tree) version fits = leb-true tree.size limit
 
 -- a version counts each level of indirect blocks that its files have
 pub levels_counted : (limits : Limits) (size : ℕ) → limits_of limits.version ≡ Some limits → size ≤ limits.largest_file → levels_of size + 1 ≤ levels limits
-levels_counted limits size version = each_version (λ l. size ≤ l.largest_file → levels_of size + 1 ≤ levels l) one limits.version limits version
+levels_counted limits size version = each_version (λ l. size ≤ l.largest_file → levels_of size + 1 ≤ levels l) one two limits.version limits version
   where
     one : size ≤ 67108864 → levels_of size + 1 ≤ 2
     one most = ⊎_elim (λ (more : 1 < levels_of size). absurd (omega (arith, most, levels_least size 1 more))) (λ (few : levels_of size ≤ 1). omega (arith, few)) (cases_lt 1 (levels_of size))
+
+    two : size ≤ 68719476736 → levels_of size + 1 ≤ 3
+    two most = ⊎_elim (λ (more : 2 < levels_of size). absurd (omega (arith, most, levels_least size 2 more))) (λ (few : levels_of size ≤ 2). omega (arith, few)) (cases_lt 2 (levels_of size))
 
 pub paths_counted : (few many less more : ℕ) → few ≤ many → less ≤ more → few * (less + 1) ≤ many * (more + 1)
 paths_counted few many less more a b =

@@ -2,31 +2,34 @@
 use Rattle.std.proofs.Common.{◌≡◌, ℕ, ◌^◌, ◌<◌, ◌≤◌, Bool, true, false, cond, ◌==◌, Option, Some, None, refl, sym, subst, arith}
 use Rattle.std.proofs.lemmas.Bool.{eqb-true}
 use Rattle.sn_limits.specs.declared.limits.Limits.{Limits}
-use Rattle.sn_limits.specs.Versions.{Allows, limits_of, limits_written, version_1}
+use Rattle.sn_limits.specs.Versions.{Allows, limits_of, limits_written, version_1, version_2}
 
 same_some : {A : Type 0} (x y : A) → Some x ≡ Some y → x ≡ y
 same_some x y e = cc
 
 -- what is so of each version is so of the limits of any version that is read
-pub each_version : (P : Limits → Type 0) → P version_1 → (version : ℕ) (limits : Limits) → limits_of version ≡ Some limits → P limits
-each_version P one version limits e = told (version == 1) e
+pub each_version : (P : Limits → Type 0) → P version_1 → P version_2 → (version : ℕ) (limits : Limits) → limits_of version ≡ Some limits → P limits
+each_version P one two version limits e = told (version == 1) (version == 2) e
   where
-    told : (a : Bool) → cond a (Some version_1) None ≡ Some limits → P limits
-    told true is = subst P (same_some version_1 limits is) one
-    told false is = absurd cc
+    told : (a b : Bool) → cond a (Some version_1) (cond b (Some version_2) None) ≡ Some limits → P limits
+    told true b is = subst P (same_some version_1 limits is) one
+    told false true is = subst P (same_some version_2 limits is) two
+    told false false is = absurd cc
 
 pub written_allows : (version : ℕ) (limits : Limits) → limits_of version ≡ Some limits → Allows limits limits_written
 written_allows = each_version (λ l. Allows l limits_written)
+    (record { numbers = omega arith; names = omega arith; links = omega arith; files = omega arith; snapshots = omega arith; bits = omega arith })
     (record { numbers = omega arith; names = omega arith; links = omega arith; files = omega arith; snapshots = omega arith; bits = omega arith })
 
 -- the first version allows no more than each other
 pub first_allowed : (version : ℕ) (limits : Limits) → limits_of version ≡ Some limits → Allows version_1 limits
 first_allowed = each_version (λ l. Allows version_1 l)
     (record { numbers = omega arith; names = omega arith; links = omega arith; files = omega arith; snapshots = omega arith; bits = omega arith })
+    (record { numbers = omega arith; names = omega arith; links = omega arith; files = omega arith; snapshots = omega arith; bits = omega arith })
 
 -- the written version has its own limits
 pub written_known : (limits : Limits) → limits_of limits.version ≡ Some limits → limits.version ≡ limits_written.version → limits ≡ limits_written
-written_known limits = each_version (λ l. l.version ≡ limits_written.version → l ≡ limits_written) (λ _. refl) limits.version limits
+written_known limits = each_version (λ l. l.version ≡ limits_written.version → l ≡ limits_written) (λ (never : 1 ≡ 2). absurd (omega (arith, never))) (λ _. refl) limits.version limits
 
 -- What no version changes, and how far each may go: no file is larger than what 16 pointers to three levels of blocks lead to, and no root body has
 -- room for more than 31 snapshots, nor a map word for more than 31 bits beside that of the live file system.
@@ -58,11 +61,25 @@ fixed = each_version AreFixed
       block_charge = omega arith;
       reserve = refl;
     })
+    (record {
+      number = refl;
+      names = refl;
+      links = refl;
+      files = omega arith;
+      least = omega arith;
+      snapshots = omega arith;
+      bits = omega arith;
+      version = omega arith;
+      inode_charge = omega arith;
+      block_charge = omega arith;
+      reserve = refl;
+    })
 
 -- the limits of a version are those of their own version
 pub own_version : (version : ℕ) (limits : Limits) → limits_of version ≡ Some limits → limits.version ≡ version
-own_version version limits e = told (version == 1) refl e
+own_version version limits e = told (version == 1) (version == 2) refl refl e
   where
-    told : (a : Bool) → (version == 1) ≡ a → cond a (Some version_1) None ≡ Some limits → limits.version ≡ version
-    told true one is = subst (λ (l : Limits). l.version ≡ version) (same_some version_1 limits is) (sym (eqb-true version 1 one))
-    told false one is = absurd cc
+    told : (a b : Bool) → (version == 1) ≡ a → (version == 2) ≡ b → cond a (Some version_1) (cond b (Some version_2) None) ≡ Some limits → limits.version ≡ version
+    told true b one two is = subst (λ (l : Limits). l.version ≡ version) (same_some version_1 limits is) (sym (eqb-true version 1 one))
+    told false true one two is = subst (λ (l : Limits). l.version ≡ version) (same_some version_2 limits is) (sym (eqb-true version 2 two))
+    told false false one two is = absurd cc

@@ -8,7 +8,7 @@
 //! What the sources leave open is decided in `docs/DECISIONS.md`, under "Limits".
 //!
 //! ```text
-//! let limits = Limits::of_version(1)?;
+//! let limits = Limits::of_version(2)?;
 //! let name = SnapshotName::parse(b"nightly")?;
 //! ```
 #![tactic(auto)]

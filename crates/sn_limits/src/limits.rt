@@ -43,15 +43,30 @@ impl Limits {
         reserve: 64,
     };
 
-    /// The limits that calls run under, and with which each new root is written.
-    pub const WRITTEN: Limits = Limits::VERSION_1;
+    pub const VERSION_2: Limits = Limits {
+        version: 2,
+        largest_number: 65_535,
+        names: 65_535,
+        links: 32_767,
+        largest_file: 68_719_476_736,
+        snapshots: 31,
+        largest_bit: 31,
+        indirect_levels: 2,
+        inode_charge: 10,
+        block_charge: 3,
+        reserve: 64,
+    };
 
-    /// The limits of a version that is read. Today that is version 1 alone.
+    /// The limits that calls run under, and with which each new root is written.
+    pub const WRITTEN: Limits = Limits::VERSION_2;
+
+    /// The limits of a version that is read.
     pub fn of_version(version: u32) -> Option<Limits>
         ensures { result ≡ limits_of version }
     {
         match version {
             1 => Some(Limits::VERSION_1),
+            2 => Some(Limits::VERSION_2),
             _ => None,
         }
     }

@@ -1,6 +1,5 @@
 -- A world stays one under limits that allow more.
-use Rattle.std.proofs.Common.{◌≡◌, ℕ, ◌≤◌, arith}
-use Rattle.std.specs.FinMap as map
+use Rattle.std.proofs.Common.{arith}
 use Rattle.sn_limits.specs.declared.limits.Limits.{Limits}
 use Rattle.sn_limits.specs.Versions.{Allows}
 use Rattle.sn_model.specs.World.{World}

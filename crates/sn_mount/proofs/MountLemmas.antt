@@ -11,7 +11,6 @@ use Rattle.sn_block.specs.Effects.{Nowhere}
 use Rattle.sn_layout.specs.declared.geometry.Area.TheVariants.{Data}
 use Rattle.sn_layout.specs.declared.root.RootBody.{RootBody}
 use Rattle.sn_layout.specs.Geometry.{start_of}
-use Rattle.sn_limits.specs.declared.limits.Limits.{Limits}
 use Rattle.sn_limits.specs.Versions.{limits_written}
 use Rattle.sn_limits.proofs.VersionLemmas.{written_allows}
 use Rattle.sn_log.specs.Clearing.{Clears}

@@ -1,5 +1,5 @@
 -- What a mount makes of what it has found: it is the disk's world, and where a root can't be made of it, the map is no sound root's.
-use Rattle.std.proofs.Common.{◌≡◌, ◌≢◌, inl, inr, ℕ, zero, suc, ◌+◌, ◌*◌, ◌≤◌, ◌==◌, Bool, true, false, List, [], ◌∷◌, ◌++◌, length, map as map_list, slice_index, Option, Some, None, Result, Err, refl, sym, ap, subst, ◌∙◌, arith, eq-eqb, eqb-true, leb-true, true≢false}
+use Rattle.std.proofs.Common.{◌≡◌, ◌≢◌, inl, inr, ℕ, zero, suc, ◌+◌, ◌*◌, ◌≤◌, ◌==◌, Bool, true, false, List, [], ◌∷◌, ◌++◌, length, map as map_list, slice_index, Some, None, Result, Err, refl, sym, ap, subst, ◌∙◌, arith, eq-eqb, eqb-true, leb-true, true≢false}
 use Rattle.std.specs.Prelude.{IfOk}
 use Rattle.std.specs.FinMap as map
 use Rattle.std.specs.Cmp.{nat_cmp_total}
@@ -91,7 +91,7 @@ within_all m free all few is = omega (arith, few, is)
 
 -- the charges of each version pay for what its changes need
 versions_charged : (version : ℕ) (limits : Limits) → limits_of version ≡ Some limits → AreCharged limits
-versions_charged = each_version AreCharged (record { inodes = omega arith; blocks = refl })
+versions_charged = each_version AreCharged (record { inodes = omega arith; blocks = refl }) (record { inodes = omega arith; blocks = refl })
 
 is_zero : (m : ℕ) → (m ≢ 0 → ⊥) → m ≡ 0
 is_zero zero never = refl

@@ -11,6 +11,7 @@ use Rattle.sn_limits.specs.declared.kind.Kind.TheVariants.{Directory}
 use Rattle.sn_limits.specs.Names.{is_name}
 use Rattle.sn_walk.specs.Views.{is_directory, is_hidden_name}
 use Rattle.sn_limits.specs.Versions.{limits_written}
+use Rattle.sn_limits.proofs.VersionLemmas.{fixed}
 use Rattle.sn_model.specs.declared.change.Change.{Change}
 use Rattle.sn_model.specs.declared.change.Change.TheVariants.{Make, AddLink, Remove, Rename, Write, SetSize, SetAttributes}
 use Rattle.sn_model.specs.declared.link.Link.{Link}
@@ -110,8 +111,8 @@ parent_fits tree d node whole e = fits_two d (whole.nodes.nodes d node (director
 file_fits : (tree : Tree) (number : ℕ) (node : Node) → IsTree limits_written tree → file_at tree number ≡ Some node → number < 256 ^ 2
 file_fits tree number node whole e = fits_two number (whole.nodes.nodes number node (file_is tree number node e).0).within
 
-fits_eight : (n : ℕ) → n ≤ 67108864 → n < 256 ^ 8
-fits_eight n h = omega arith
+fits_eight : (n : ℕ) → n ≤ limits_written.largest_file → n < 256 ^ 8
+fits_eight n h = omega (arith, h, (fixed limits_written.version limits_written refl).files)
 
 one_number : (number : ℕ) (o : Option ℕ) → same_number number o ≡ true → (m : ℕ) × (o ≡ Some m)
 one_number number None e = cc
@@ -147,11 +148,11 @@ old_spelled tree after (Rename old_directory old_name new_directory new_name) wh
     ((directory_fits tree from p.number whole p.named, t.0), (whole.nodes.names from p.number p.named, t.1))
 old_spelled tree after (Write number offset bytes) whole old e =
     let p = written_is limits_written tree number offset bytes after e in
-    let front = and_left (nat_lt 0 (length bytes) && nat_le (offset + length bytes) 67108864) (list_all (λ b. nat_lt b 256) bytes) p.fits in
-    let some = ltb-true 0 (length bytes) (and_left (nat_lt 0 (length bytes)) (nat_le (offset + length bytes) 67108864) front) in
-    let few = leb-true (offset + length bytes) 67108864 (and_right (nat_lt 0 (length bytes)) (nat_le (offset + length bytes) 67108864) front) in
+    let front = and_left (nat_lt 0 (length bytes) && nat_le (offset + length bytes) limits_written.largest_file) (list_all (λ b. nat_lt b 256) bytes) p.fits in
+    let some = ltb-true 0 (length bytes) (and_left (nat_lt 0 (length bytes)) (nat_le (offset + length bytes) limits_written.largest_file) front) in
+    let few = leb-true (offset + length bytes) limits_written.largest_file (and_right (nat_lt 0 (length bytes)) (nat_le (offset + length bytes) limits_written.largest_file) front) in
     ((file_fits tree number p.node whole p.file, fits_eight offset (omega (arith, few))), (omega (arith, some), old))
 old_spelled tree after (SetSize number size) whole old e =
     let p = cut_is limits_written tree number size after e in
-    ((file_fits tree number p.node whole p.file, fits_eight size (leb-true size 67108864 p.fits)), tt)
+    ((file_fits tree number p.node whole p.file, fits_eight size (leb-true size limits_written.largest_file p.fits)), tt)
 old_spelled tree after (SetAttributes number o) whole old e = set_spelled tree after number o whole e

@@ -13,7 +13,7 @@ use Rattle.sn_limits.specs.declared.kind.Kind.{Kind}
 use Rattle.sn_limits.specs.declared.kind.Kind.TheVariants.{File, Directory}
 use Rattle.sn_limits.specs.declared.limits.Limits.{Limits}
 use Rattle.sn_limits.specs.Versions.{limits_written}
-use Rattle.sn_limits.proofs.VersionLemmas.{written_allows}
+use Rattle.sn_limits.proofs.VersionLemmas.{fixed, written_allows}
 use Rattle.sn_live_files.specs.Known.{attributes_of}
 use Rattle.sn_model.specs.FileCalls.{bytes_of}
 use Rattle.sn_model.specs.NameTree.{IsTree}
@@ -90,13 +90,15 @@ numbered s file end is whole number node e =
     let used = image_node s file number node e in
     omega (arith, is, most, (in_numbers file number (used_in s file number used.0 used.1)).1)
 
--- no file is longer than the largest
-pub file_short : (tree : Tree) (number : ℕ) → IsTree limits_written tree → length (shown_bytes (fin.get tree.nodes number)) ≤ 67108864
+-- no file is longer than the largest of any version
+pub file_short : (tree : Tree) (number : ℕ) → IsTree limits_written tree → length (shown_bytes (fin.get tree.nodes number)) ≤ 68719476736
 file_short tree number whole = told (fin.get tree.nodes number) refl
   where
-    told : (o : Option Node) → fin.get tree.nodes number ≡ o → length (shown_bytes o) ≤ 67108864
+    told : (o : Option Node) → fin.get tree.nodes number ≡ o → length (shown_bytes o) ≤ 68719476736
     told None e = omega arith
-    told (Some node) e = let most : length node.bytes ≤ 67108864 = (whole.nodes.nodes number node e).size in most
+    told (Some node) e =
+        let most : length node.bytes ≤ limits_written.largest_file = (whole.nodes.nodes number node e).size in
+        omega (arith, most, (fixed limits_written.version limits_written refl).files)
 
 -- ---- blocks
 
@@ -105,7 +107,7 @@ same_bytes None = refl
 same_bytes (Some node) = refl
 
 -- a place past the largest number is behind the end of any file
-pub past_alike : (all : List ℕ) (index k at : ℕ) → length all ≤ 67108864 → k ≡ min (index * 4096) (2 ^ 64 - 1) → get_or all (k + at) 0 ≡ get_or all (index * 4096 + at) 0
+pub past_alike : (all : List ℕ) (index k at : ℕ) → length all ≤ 68719476736 → k ≡ min (index * 4096) (2 ^ 64 - 1) → get_or all (k + at) 0 ≡ get_or all (index * 4096 + at) 0
 past_alike all index k at short is = told (cases_lt (index * 4096) (2 ^ 64 - 1))
   where
     told : (index * 4096 < 2 ^ 64 - 1) ⊎ (2 ^ 64 - 1 ≤ index * 4096) → get_or all (k + at) 0 ≡ get_or all (index * 4096 + at) 0

@@ -3,7 +3,7 @@
 use crate::bytes::{part, put, put_number, start_of};
 
 /// The bits of a root's snapshots, the first one first.
-pub const SNAPSHOT_BITS: [u32; 2] = [1, 20];
+pub const SNAPSHOT_BITS: [u32; 2] = [1, 31];
 
 /// What stands in a root body beside its trees.
 #[derive(Clone, Copy)]
@@ -12,9 +12,9 @@ pub struct Ages {
     pub epoch: u64,
 }
 
-/// Lays the front of a root body of version 1.
+/// Lays the front of a root body of version 2.
 pub fn lay_ages(disk: &mut [u8], body: usize, ages: Ages) {
-    put_number(disk, body, 4, 1);
+    put_number(disk, body, 4, 2);
     put_number(disk, body.saturating_add(8), 8, ages.generation);
     put_number(disk, body.saturating_add(16), 8, ages.epoch);
 }

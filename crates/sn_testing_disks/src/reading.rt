@@ -11,7 +11,7 @@ const HALF: usize = 131_072;
 const LARGEST_AGE: u64 = 1 << 62;
 
 /// The most snapshots, and the largest bit of one.
-const SNAPSHOTS: u64 = 20;
+const SNAPSHOTS: u64 = 31;
 
 /// A root with all that it reaches, and the records on top of it.
 #[derive(Clone, Copy)]
@@ -80,7 +80,7 @@ fn is_age(age: u64) -> bool {
 /// Whether a block spells a root body. That no two of its snapshots have one name isn't looked at.
 fn is_root_body(body: &[u8]) -> bool {
     let count = number_at(body, 24, 4);
-    number_at(body, 0, 4) == 1
+    number_at(body, 0, 4) == 2
         && are_zeros(part(body, 4, 4))
         && is_age(number_at(body, 8, 8))
         && is_age(number_at(body, 16, 8))

@@ -8,6 +8,9 @@ use std::alloc::Global;
 /// The bytes of the largest file without an indirect block.
 const DIRECT: u64 = 65_536;
 
+/// The most levels of blocks with pointers between an inode and the data of its file.
+const LEVELS: u32 = 2;
+
 /// A data block of a tree: its place, and its number on the disk.
 #[derive(Clone, Copy)]
 struct DataBlock {
@@ -87,12 +90,16 @@ impl Reader<'_> {
 
     /// The data blocks of a tree.
     fn data_blocks(&mut self, size: u64, pointers: &[u8]) -> Result<Vec<DataBlock>> {
-        let mut tops = Vec::new(self.alloc);
-        self.push_pointers(&mut tops, pointers, 0)?;
-        if size <= DIRECT {
-            return Ok(tops);
+        let mut found = Vec::new(self.alloc);
+        self.push_pointers(&mut found, pointers, 0)?;
+        let mut most = DIRECT;
+        for _ in 0..LEVELS {
+            if size > most {
+                found = self.below(found.as_slice())?;
+                most = most.saturating_mul(1024);
+            }
         }
-        self.below(tops.as_slice())
+        Ok(found)
     }
 
     fn below(&mut self, tops: &[DataBlock]) -> Result<Vec<DataBlock>> {

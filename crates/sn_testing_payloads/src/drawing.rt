@@ -67,7 +67,7 @@ pub fn directory(random: &mut Pcg32) -> u16 {
 pub fn offset(random: &mut Pcg32) -> u64 {
     match below(random, 16) {
         0 => u64::MAX - u64::from(below(random, 3)),
-        1 => 67_108_860 + u64::from(below(random, 8)),
+        1 => 68_719_476_732 + u64::from(below(random, 8)),
         _ => u64::from(below(random, 20_000)),
     }
 }

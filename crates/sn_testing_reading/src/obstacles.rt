@@ -7,7 +7,7 @@ use crate::payload::Change;
 use crate::tree::{Kind, Link, Node, Tree};
 
 /// The bytes of the largest file.
-const LARGEST_FILE: u64 = 67_108_864;
+const LARGEST_FILE: u64 = 68_719_476_736;
 
 /// The greatest number that no new node gets: that of the root directory.
 const RESERVED: u16 = 2;

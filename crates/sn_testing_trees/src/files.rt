@@ -7,12 +7,12 @@ use sn_testing_payloads::below;
 use std::alloc::{AllocError, Global};
 
 /// The most bytes of a file.
-const LARGEST: u64 = 67_108_864;
+const LARGEST: u64 = 68_719_476_736;
 
-/// Sizes at which something begins or ends: the bytes in the inode, a block, and the sixteen blocks without an
-/// indirect one.
+/// Sizes at which something begins or ends: the bytes in the inode, a block, the sixteen blocks without an indirect one, and
+/// those below sixteen indirect ones.
 const SIZES: [u64; 14] = [
-    0, 1, 63, 64, 65, 4095, 4096, 4097, 9000, 65_535, 65_536, 65_537, 300_000, LARGEST,
+    0, 1, 63, 64, 65, 4095, 4096, 4097, 65_535, 65_536, 65_537, 67_108_864, 67_108_865, LARGEST,
 ];
 
 /// Makes a file shorter or longer.

@@ -132,10 +132,10 @@ impl Layer {
         }
     }
 
-    /// How many blocks a build takes for it at most: five for a node, two for a name or a block, and two more.
+    /// How many blocks a build takes for it at most: six for a node, three for a name or a block, and two more.
     pub fn need(&self) -> u64 {
-        let each = self.names.saturating_add(self.blocks).saturating_mul(2);
-        let nodes = self.nodes.saturating_mul(5);
+        let each = self.names.saturating_add(self.blocks).saturating_mul(3);
+        let nodes = self.nodes.saturating_mul(6);
         nodes
             .saturating_add(each)
             .saturating_add(if self.nodes == 0 { 0 } else { 2 })

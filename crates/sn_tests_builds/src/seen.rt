@@ -10,6 +10,8 @@ struct Files {
     inline: u64,
     holes: u64,
     indirect: u64,
+    /// Those whose data are two levels below their inodes.
+    deep: u64,
 }
 
 /// What came up of directories whose names take more than a block.
@@ -65,6 +67,7 @@ impl Files {
         add(&mut self.inline, node.size > 0 && node.size <= 64);
         add(&mut self.holes, node.size > blocks.saturating_mul(4096));
         add(&mut self.indirect, node.size > 65_536 && blocks > 0);
+        add(&mut self.deep, node.size > 67_108_864 && blocks > 0);
     }
 
     fn report(&self, report: &Report<'_>) -> Result<()> {
@@ -72,9 +75,10 @@ impl Files {
             inline,
             holes,
             indirect,
+            deep,
         } = *self;
         let text = format!(in report.alloc();
-            "files: {inline} in their inodes, {holes} with holes, {indirect} with indirect blocks\n"
+            "files: {inline} in their inodes, {holes} with holes, {indirect} with indirect blocks, {deep} of them with two levels\n"
         )?;
         report.print(text.as_str())
     }
@@ -144,6 +148,7 @@ impl Seen {
                 inline: 0,
                 holes: 0,
                 indirect: 0,
+                deep: 0,
             },
             wide: Wide {
                 times: 0,

@@ -61,7 +61,7 @@ const FILE: FileStatus = FileStatus {
     links: 32_767,
     owner: 4_294_967_295,
     group: 500,
-    size: 67_108_864,
+    size: 68_719_476_736,
     number: 9,
 };
 

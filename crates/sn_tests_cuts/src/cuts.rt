@@ -2,7 +2,7 @@
 //!
 //! What is wanted is that all is there that was acknowledged, and beside it at most what was in flight;
 //! that a mount that is cut short and crashes leaves that as it is; and that the calls go on behind it.
-//! Each record takes two sectors, so that a crash may leave one of them without the other. The last call of the list
+//! Each record takes two sectors, so that a crash may leave one of them without the other. The sixth call of the list
 //! doesn't fit, and makes a root first; so do the mounts, of what they find in the log.
 
 use crate::directories::{ALL, make, present};
@@ -20,11 +20,11 @@ use std::ops::Range;
 /// that closes the gate of the slot, eight of the body, and the gate's.
 const WRITES: u64 = 1 + 4 * ALL as u64 + 19;
 
-/// The blocks that the root can't do without: of inodes, of the names in four directories, and of the ACLs of six.
-const LEAST_BLOCKS: u64 = 11;
+/// The blocks that the root can't do without: of inodes, of the names in three directories, and of the ACLs of five.
+const LEAST_BLOCKS: u64 = 9;
 
 /// And the most that was charged for them.
-const MOST_BLOCKS: u64 = 18 * 6;
+const MOST_BLOCKS: u64 = 23 * 5;
 
 /// More calls than a list or a mount makes of its device.
 const MOST_CALLS: u32 = 1_000;

@@ -19,9 +19,9 @@ const MADE: u32 = 4 * 127 + 3;
 const FIRST_BEHIND: u32 = 125;
 
 /// How many directories the least disk takes, every second of them in the one before it. 186 blocks are for data. To make one
-/// takes 18 and a reserve of 64, so that at most 104 may be in use: those of 193 directories, 7 of inodes, 1 of the
-/// names in the root directory, and 96 of the names in others. The next of them takes one more.
-const FULL: u32 = 194;
+/// takes 23 and a reserve of 64, so that at most 99 may be in use: those of 185 directories, 6 of inodes, 1 of the
+/// names in the root directory, and 92 of the names in others. The next of them takes one more.
+const FULL: u32 = 186;
 
 /// Compares what mounts of disks of several sizes say, and what is on disks that are filled.
 pub fn run(report: &mut Report<'_>) -> Result<()> {
@@ -188,11 +188,11 @@ fn is_taken_right(alloc: Global, disk: &mut Disk, number: u32) -> Result<bool> {
 /// The last two go, and are made again; and no more are.
 fn is_replaced(disk: &mut Disk) -> Result<bool> {
     let script = [
-        ("0 rmdir /96/d", "ok\n"),
-        ("0 rmdir /96", "ok\n"),
-        ("0 mkdir /96 0755", "ok\n"),
-        ("0 mkdir /96/d 0755", "ok\n"),
-        ("0 mkdir /97 0755", "err ENOSPC\n"),
+        ("0 rmdir /92/d", "ok\n"),
+        ("0 rmdir /92", "ok\n"),
+        ("0 mkdir /92 0755", "ok\n"),
+        ("0 mkdir /92/d 0755", "ok\n"),
+        ("0 mkdir /93 0755", "err ENOSPC\n"),
     ];
     for (line, wanted) in script {
         if !disk.is_told(line, wanted)? {

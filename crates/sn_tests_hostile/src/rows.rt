@@ -1,5 +1,6 @@
-//! A row: events with their replies, on the least disk, and what each front of them leaves.
+//! A row: events with their replies, on the least disk or on one of version 1, and what each front of them leaves.
 
+use crate::disks::{DISK, first_disk};
 use anyhow::{Context, Result, ensure};
 use sn_device::{Device, Fill, MemDevice};
 use sn_model::{End, Reply};
@@ -83,16 +84,18 @@ impl Row {
     /// The row of a file. One that isn't answered as the file says is an error, and so is one that isn't spelled as a row.
     pub fn read(rt: &HostRuntime, number: u32, file: &str) -> Result<Row> {
         let text = fs::read_to_string(rt, file)?;
-        Row::answered_as(rt.alloc(), number, text.as_str())
+        let image = first_disk(rt, text.as_str())?;
+        Row::answered_on(rt.alloc(), number, image, text.as_str())
     }
 
-    fn answered_as(alloc: Global, number: u32, text: &str) -> Result<Row> {
-        let mut row = Row::spelled(alloc, number, text)?;
+    fn answered_on(alloc: Global, number: u32, image: Vec<u8>, text: &str) -> Result<Row> {
+        let mut row = Row::on(alloc, number, image);
+        row.take(text)?;
         row.run_fronts()?;
         Ok(row)
     }
 
-    /// The row of a text, which isn't run.
+    /// The row of a text, on the least disk, which isn't run.
     pub fn spelled(alloc: Global, number: u32, text: &str) -> Result<Row> {
         let mut row = Row::on(alloc, number, bytes_of(alloc, &least_device(alloc)?)?);
         row.take(text)?;
@@ -115,7 +118,7 @@ impl Row {
     fn take(&mut self, text: &str) -> Result<()> {
         self.asked.push_str(ASKED)?;
         for line in text.lines() {
-            if !line.starts_with('#') {
+            if !line.starts_with('#') && !line.starts_with(DISK) {
                 self.take_line(line)?;
             }
         }

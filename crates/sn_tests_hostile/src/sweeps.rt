@@ -8,8 +8,8 @@ use anyhow::Result;
 use sn_testing_tables::{Report, Tally};
 use std::ops::Range;
 
-/// The files of the rows.
-const ROWS: [&str; 8] = [
+/// The files of the rows. The last six begin on disks of version 1.
+const ROWS: [&str; 14] = [
     "hostile/inherited.row",
     "hostile/two_names.row",
     "hostile/sizes.row",
@@ -18,6 +18,12 @@ const ROWS: [&str; 8] = [
     "hostile/refused.row",
     "hostile/stepped.row",
     "hostile/frozen_in_steps.row",
+    "version_1/fresh.row",
+    "version_1/twenty.row",
+    "version_1/snapshots.row",
+    "version_1/halves.row",
+    "version_1/held.row",
+    "version_1/large.row",
 ];
 
 /// How much of each sweep is made: each so-manieth call of the device, how many kinds of crashes at each write, how many at those
