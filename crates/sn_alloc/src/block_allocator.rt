@@ -1,4 +1,4 @@
-ghost use Rattle.std.specs.Prelude.{◌≡◌, ◌+◌, ◌<◌, ◌≤◌, ◌↔◌, length, All, IsOk, IfOk, OnOk, OnErr};
+ghost use Rattle.std.specs.Prelude.{◌≡◌, ◌+◌, ◌^◌, ◌<◌, ◌≤◌, ◌↔◌, length, All, IsOk, IfOk, OnOk, OnErr};
 ghost use Rattle.std.specs.List.Sorted.{IsStrictlyIncreasing};
 ghost use Rattle.std.specs.Result.{result_ok};
 ghost use Rattle.sn_map.specs.Free.{next_free};
@@ -101,6 +101,15 @@ impl BlockAllocator {
         ensures { length self.now.taken + result ≡ free_data self.now.words self.now.first }
     {
         self.map.count_free_from(self.next)
+    }
+
+    /// Says how many blocks there are at most, and counts none: `left` goes through the map.
+    pub fn bound(&self)
+        ensures taken { length self.now.taken ≤ free_data self.now.words self.now.first }
+        ensures free { free_data self.now.words self.now.first < length self.now.taken + 2 ^ 32 }
+    {
+        // A map has a number of 32 bits for each block.
+        let _blocks = self.map.len();
     }
 
     /// How many words the searches of all takes looked at: for each, those from where it began to the

@@ -43,7 +43,7 @@ pub fn release_all<D: Device>(
         Content::Inline(_) => Ok(()),
         Content::Tree(tree) => {
             // No more blocks were added than are free.
-            build.left();
+            build.bound();
             let mut pointers = [0; POINTERS];
             pointers.copy_from_slice(tree.pointers.as_slice());
             release_pointers(

@@ -132,7 +132,7 @@ fn with_names<D: Device>(
     ensures counts { CountsPlan result (D.status (device_of blocks.old)) (D.status (device_of blocks.new)) }
 {
     // There are fewer blocks than that, so none of them would be enough.
-    build.left();
+    build.bound();
     if changes.len() > u32::MAX as usize {
         return Err(PlanFault::Full);
     }

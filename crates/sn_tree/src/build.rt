@@ -1,5 +1,5 @@
 //! The new blocks of a tree to come, and the blocks that it no longer reaches.
-ghost use Rattle.std.specs.Prelude.{◌≡◌, ◌≢◌, ◌+◌, ◌<◌, ◌≤◌, [], ◌∷◌, length, replicate, All, Err, IfOk, OnOk, OnErr};
+ghost use Rattle.std.specs.Prelude.{◌≡◌, ◌≢◌, ◌+◌, ◌^◌, ◌<◌, ◌≤◌, [], ◌∷◌, length, replicate, All, Err, IfOk, OnOk, OnErr};
 ghost use Rattle.std.specs.List.Sorted.{IsStrictlyIncreasing};
 ghost use Rattle.sn_alloc.specs.Taking.{IsFreeData, free_data};
 ghost use Rattle.sn_image.specs.Reach.{block_reach};
@@ -102,6 +102,14 @@ impl Build {
         ensures { length self.now.added + result ≡ free_data self.now.words self.now.first }
     {
         self.allocator.left()
+    }
+
+    /// Says how many blocks can be added at most, and counts none: `left` goes through the map.
+    pub fn bound(&self)
+        ensures added { length self.now.added ≤ free_data self.now.words self.now.first }
+        ensures free { free_data self.now.words self.now.first < length self.now.added + 2 ^ 32 }
+    {
+        self.allocator.bound();
     }
 
     /// The allocator, which took the new blocks, with those and the released ones.

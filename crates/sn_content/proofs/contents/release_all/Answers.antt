@@ -34,4 +34,4 @@ returns-in-Tree-clause-damaged g c told block is =
     (subst (λ (ps : List ℕ). LeadsOutsideAt sectors (all_pointers s c.levels_of.result ps) block) pointers (c.release_pointers.ensures.damaged told block is))))
 
 pub returns-in-Tree-clause-full : goal.returns-in-Tree-clause-full
-returns-in-Tree-clause-full g c = λ is. omega (arith, c.release_pointers.ensures.full is, c.left.ensures)
+returns-in-Tree-clause-full g c = λ is. omega (arith, c.release_pointers.ensures.full is, c.bound.ensures.added)
