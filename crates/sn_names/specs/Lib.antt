@@ -1,0 +1,10 @@
+pub mod Prints
+pub mod Ordered
+pub mod Search
+pub mod Rooms
+pub mod Place
+pub mod Share
+pub mod Told
+pub mod Index
+pub mod Laws
+pub mod Indexes
