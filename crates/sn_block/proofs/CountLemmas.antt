@@ -1,11 +1,9 @@
 -- Counts of calls one after another.
-use Rattle.std.proofs.Common.{◌≡◌, ◌⊎◌, inl, inr, ℕ, ◌+◌, ◌-◌, ◌^◌, ◌≤◌, ◌||◌, nat_le, Bool, true, false, IsTrue, MatchBool, Result, Ok, Err, refl, sym, subst, ◌∙◌, ap, arith}
+use Rattle.std.proofs.Common.{◌≡◌, ◌⊎◌, inl, inr, ℕ, ◌+◌, ◌-◌, ◌^◌, ◌≤◌, ◌||◌, nat_le, true, IsTrue, Result, refl, sym, subst, ◌∙◌, ap, arith}
 use Rattle.std.proofs.lemmas.Bool.{le-leb, leb-true, or_cases, or_left, or_right}
 use Rattle.sn_device.specs.Status.{has_ended, one_failure}
 use Rattle.sn_device.specs.declared.status.Status.{Status}
-use Rattle.sn_block.specs.declared.fault.ReadFault.{ReadFault}
-use Rattle.sn_block.specs.declared.fault.ReadFault.TheVariants.{Device, Memory}
-use Rattle.sn_block.specs.Counts.{called, CountsCalls, CountsRead, IsLater}
+use Rattle.sn_block.specs.Counts.{called, CountsCalls, IsLater}
 
 pub called-none : (s : Status) → s ≡ called 0 0 s
 called-none s =

@@ -3,3 +3,4 @@ pub mod CacheLemmas
 pub mod CountLemmas
 pub mod EffectLemmas
 pub mod StretchLemmas
+pub mod TellLemmas

@@ -3,34 +3,46 @@ ghost use Rattle.std.specs.Prelude.{◌≡◌, ◌+◌, ◌*◌, ◌/◌, ◌%�
 ghost use Rattle.std.specs.Borrow.{sem};
 ghost use Rattle.sn_device.specs.Disk.{reads};
 ghost use Rattle.sn_ondisk.specs.Blocks.{block_at};
+ghost use Rattle.sn_ondisk.specs.Trees.{store_of};
+ghost use Rattle.sn_names.specs.Indexes.{AllTell};
 ghost use Rattle.sn_block.specs.Cache.{entries_of, Coheres};
 ghost use Rattle.sn_block.specs.Counts.{CountsCalls, CountsRead, FailsRead};
+ghost use Rattle.sn_names.specs.Props.{told-prop};
 ghost use Rattle.sn_block.specs.Effects.{WritesSector, WritesStretch, WritesSynced, SyncsAll};
 
 use crate::cache::Cache;
 use crate::{Block, ReadFault};
 use sn_device::{Device, Fault, SECTOR_SIZE, Sector, Status};
+use sn_names::NameIndexes;
 use std::alloc::{AllocFailed, Global};
 
-/// A device with a cache of its blocks. Block b is the sectors from 8 b to 8 b + 7.
+/// A device with a cache of its blocks, and indexes of the names of directories. Block b is the sectors
+/// from 8 b to 8 b + 7.
 #[derive(Drop)]
 pub struct Blocks<D: Device> {
-    device: D,
-    cache: Cache,
+    pub(crate) device: D,
+    pub(crate) cache: Cache,
+    pub(crate) names: NameIndexes,
     ghost coheres: { IsTrue D.Device.tells_bytes → Coheres (reads (D.Device.disk device)) (entries_of cache) },
+    ghost told: { IsTrue D.Device.tells_bytes → AllTell (D.Device.status device).sectors
+        (store_of (reads (D.Device.disk device))) names } by { told-prop _ _ names },
 }
 
 impl<D: Device> Blocks<D> {
     ghost use Rattle.sn_block.specs.Lending.{device_of, keeps, fetched_number, fetched_bytes, ends_as_read};
 
-    /// Takes the memory for the cache, which keeps no block yet, and calls nothing of the device. Where
-    /// memory is refused, the device comes back as it was.
+    /// Takes the memory for the cache, which keeps no block yet, and calls nothing of the device. No
+    /// directory has an index. Where memory is refused, the device comes back as it was.
     pub fn new(alloc: Global, device: D) -> Result<Self, AllocFailed<D>>
         ensures device { IfOk result (λ blocks. device_of blocks ≡ device) }
         ensures value_returned { IfErr result (λ refused. refused.value ≡ device) }
     {
         match Cache::new(alloc) {
-            Ok(cache) => Ok(Blocks { device, cache }),
+            Ok(cache) => Ok(Blocks {
+                device,
+                cache,
+                names: NameIndexes::new(alloc),
+            }),
             Err(_) => Err(AllocFailed { value: device }),
         }
     }
@@ -39,8 +51,13 @@ impl<D: Device> Blocks<D> {
     pub fn into_device(self) -> D
         ensures { result ≡ device_of self }
     {
-        let Blocks { device, cache } = self;
+        let Blocks {
+            device,
+            cache,
+            names,
+        } = self;
         drop(cache);
+        drop(names);
         device
     }
 
@@ -100,7 +117,7 @@ impl<D: Device> Blocks<D> {
         Ok(self.fetched())
     }
 
-    /// Writes a sector. Its block is kept no longer, also after a fault.
+    /// Writes a sector. Its block is kept no longer, also after a fault, and no index that rests on it.
     pub fn write_sector(&mut self, at: u64, sector: &Sector) -> Result<(), Fault>
         requires room { at < (D.status (device_of self.old)).sectors }
         ensures disk { IsTrue D.tells_bytes → WritesSector at sector.now result
@@ -108,6 +125,7 @@ impl<D: Device> Blocks<D> {
         ensures counts { CountsCalls 1 0 result (D.status (device_of self.old)) (D.status (device_of self.new)) }
     {
         self.cache.forget(at / 8);
+        self.names.forget(at / 8);
         self.device.write(at, sector)
     }
 
@@ -185,6 +203,7 @@ fn read_sectors<D: Device>(device: &mut D, number: u32, block: &mut Block) -> Re
         → OnOk result (block.new ≡ block_at (reads (D.disk device.old)) number) }
     ensures same { IsTrue D.tells_bytes → D.disk device.new ≡ D.disk device.old }
     ensures done { OnOk result (D.status device.new ≡ D.status device.old) }
+    ensures sectors { (D.status device.new).sectors ≡ (D.status device.old).sectors }
     ensures failed { OnErr result (FailsRead (D.status device.old) (D.status device.new)) }
 {
     for i in 0..8 {

@@ -65,6 +65,15 @@ impl Cache {
         self.blocks.pop(&number);
     }
 
+    // The number of the block that was used last.
+    pub(crate) fn first_number(&self) -> u64
+        requires { 0 < length (entries_of self.now) }
+        ensures { Some result ≡ first_number (entries_of self.now) }
+    {
+        let (number, _) = self.blocks.peek_mru().unwrap();
+        *number
+    }
+
     // The block that was used last.
     pub(crate) fn first(&self) -> &Block
         requires { 0 < length (entries_of self.now) }

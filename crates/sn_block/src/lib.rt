@@ -1,4 +1,5 @@
-//! Blocks of a device: eight sectors each, lent from a cache, and written sector by sector.
+//! Blocks of a device: eight sectors each, lent from a cache, and written sector by sector. Beside them
+//! indexes say which blocks of a directory may have a name.
 //!
 //! The model. `Blocks` owns a device, and its meaning is that device's: the `Disk` of `sn_device`
 //! where the device tells its bytes, and its `Status` always. The cache shows in no clause on
@@ -17,16 +18,25 @@
 //! - Each call has one clause on counts, a record of `specs/Counts.antt`, also over a device that
 //!   doesn't tell its bytes: at `Ok` so many writes and syncs, at a fault at most as many, and a cause.
 //!
-//! Memory is taken by `new` and for a block that isn't kept, never for a write. At most 256 blocks are
-//! kept, and a full cache reads a block into the room of the one that wasn't used for longest. No
-//! clause says which blocks are kept; one that is kept is fetched without memory and without the
+//! Memory is taken by `new`, for a block that isn't kept and for indexes, never for a write. At most 256
+//! blocks are kept, and a full cache reads a block into the room of the one that wasn't used for longest.
+//! No clause says which blocks are kept; one that is kept is fetched without memory and without the
 //! device.
+//!
+//! The indexes of names, `NameIndexes` of `sn_names`, are kept here since they rest on bytes of the device
+//! as the cache does: each write passes `write_sector`, which lets those go that may rest on its block. So
+//! it is an invariant of `Blocks` that what they say is true of the blocks that reads give (`AllTell`), and
+//! the calls of other layers needn't speak of them. `has_index`, `new_index` and `keep_index` begin one,
+//! `note_names` tells it the names of the block that is lent, and by `next_block` and `next_wanted` a caller
+//! passes over blocks which lack what it looks for (`IsSeen`). These calls leave the device and the block
+//! that is lent as they are. An index is never on the disk, and no clause says which ones are kept.
 //!
 //! The way through the crate:
 //! - `specs/Effects.antt`, `Counts.antt` and `Lending.antt` have the words of the
 //!   clauses, `specs/Cache.antt` those of the invariant.
 //! - `blocks.rt` has the calls. `cache.rt` alone knows of `lru`: its contracts say what may still be
 //!   kept after each of its calls, which is all that the invariant needs.
+//! - `names.rt` has the calls on indexes of names.
 //! - `examples.rt` has three layers over any device, proved from these contracts alone. The first
 //!   lends two blocks in turn and has no proof file:
 //!
@@ -46,6 +56,7 @@ mod blocks;
 mod cache;
 pub mod examples;
 mod fault;
+mod names;
 
 pub use blocks::Blocks;
 pub use fault::ReadFault;

@@ -8,3 +8,4 @@ pub mod Told
 pub mod Index
 pub mod Laws
 pub mod Indexes
+pub mod Props
