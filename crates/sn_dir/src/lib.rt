@@ -10,11 +10,18 @@
 //! turn, up to where the answer is known (`IsDamaged`). By `directory_laws` it never comes on a sound image
 //! whose blocks lie on the device. Nothing is written.
 //!
-//! The format has no index, so a name is looked for in all blocks. `lookup`, `count` and `is_empty` take no
-//! memory of their own; blocks that aren't kept do.
+//! The format has no index, so a name may be in any block. A directory of three blocks or more gets one in
+//! memory, which `Blocks` keeps beside its blocks: `begin_index` begins it, and `lookup` goes on to tell it
+//! the names of each block that it reads. The first look-up that finds nothing reads all blocks. Each later
+//! one reads only those that may have the name, mostly one or none, and goes over the index in the time that
+//! a binary search takes. The answers are those of going through all blocks. The first
+//! look-up in a directory of more than sixteen blocks reads up to sixteen indirect blocks besides.
 //!
-//! The way through: `blocks` fetches and decodes one block, `lookups` goes over them, `listings` copies the
-//! names and sorts them. A block by itself, by `fetch_block` and `decoded`, is for those who change names.
+//! `lookup` takes memory for the index, and goes through all blocks where that is refused. `count` and
+//! `is_empty` take none of their own. Blocks that aren't kept do.
+//!
+//! The way through: `blocks` fetches and decodes one block, `indexes` begins an index, `lookups` goes over
+//! blocks, `listings` copies the names and sorts them. A block by itself, by `fetch_block` and `decoded`, is for those who change names.
 //!
 //! What the sources leave open is decided in `docs/DECISIONS.md`, under "Images and their readers".
 //!
@@ -25,11 +32,13 @@
 #![tactic(auto)]
 
 mod blocks;
+mod indexes;
 mod laws;
 mod listings;
 mod lookups;
 
 pub use blocks::{block_count, decoded, fetch_block};
+pub use indexes::begin_index;
 pub use laws::directory_laws;
 pub use listings::{ListedName, names};
 pub use lookups::{count, is_empty, lookup};

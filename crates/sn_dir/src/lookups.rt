@@ -11,12 +11,13 @@ ghost use Rattle.sn_tree_read.specs.declared.fault.TreeFault.TheVariants.{Damage
 ghost use Rattle.sn_dir.specs.Blocks.{CanRead, IsUnread, IsDamaged, IsDamagedAt};
 
 use crate::blocks::{block_count, decoded, fetch_block};
+use crate::indexes::begin_index;
 use sn_block::Blocks;
 use sn_device::Device;
 use sn_layout::BlockTree;
 use sn_tree_read::TreeFault;
 
-// The number under a name in one block of a directory.
+// The number under a name in one block of a directory, whose names become known to the directory's index.
 fn find_in<D: Device>(
     blocks: &mut Blocks<D>,
     tree: &BlockTree,
@@ -34,6 +35,7 @@ fn find_in<D: Device>(
     ensures counts { CountsTree result (D.status (device_of blocks.old)) (D.status (device_of blocks.new)) }
 {
     let number = fetch_block(blocks, tree, i)?;
+    blocks.note_names(tree, i);
     let names = decoded(blocks.fetched(), number)?;
     Ok(names.find(name))
 }
@@ -58,7 +60,8 @@ fn count_in<D: Device>(blocks: &mut Blocks<D>, tree: &BlockTree, i: u64) -> Resu
 
 /// The number under a name of a directory. The blocks are read in turn, up to the one that has the name,
 /// and `Damaged` comes exactly where one that is read so isn't on the device, is a hole, or doesn't spell
-/// names. Where a name stands twice, the first one counts.
+/// names. Where a name stands twice, the first one counts. Blocks that the directory's index knows to lack the
+/// name aren't read again; where the directory has no index it begins one, with the faults of `begin_index`.
 pub fn lookup<D: Device>(
     blocks: &mut Blocks<D>,
     tree: &BlockTree,
@@ -75,11 +78,15 @@ pub fn lookup<D: Device>(
     ensures same { IsTrue D.tells_bytes → D.disk (device_of blocks.new) ≡ D.disk (device_of blocks.old) }
     ensures counts { CountsTree result (D.status (device_of blocks.old)) (D.status (device_of blocks.new)) }
 {
-    for i in 0..block_count(tree) {
+    begin_index(blocks, tree)?;
+    let count = block_count(tree);
+    let mut i = blocks.next_block(tree, name, 0);
+    while i < count {
         let found = find_in(blocks, tree, i, name)?;
         if found.is_some() {
             return Ok(found);
         }
+        i = blocks.next_block(tree, name, i + 1);
     }
     Ok(None)
 }

@@ -1,14 +1,13 @@
-use Rattle.std.proofs.Common.{◌≡◌, None, IsTrue}
-use Rattle.sn_device.specs.Disk.{reads}
+use Rattle.std.proofs.Common.{◌≤◌, ◌-◌}
 use Rattle.sn_block.specs.Lending.{device_of}
-use Rattle.sn_layout_node.specs.Directory.{number_of}
-use Rattle.sn_ondisk.specs.Trees.{store_of}
-use Rattle.sn_dir.specs.Blocks.{names_before}
-use Rattle.sn_dir.proofs.ReadingLemmas.{IsReading}
+use Rattle.sn_dir.proofs.SeenLemmas.{IsLooking}
 use Rattle.sn_dir.proofs.lookups.lookup.Given as goal
 
 abbrev pub invariant-loop-i : goal.invariant-loop-i
 invariant-loop-i g l = record {
-  reading : IsReading g.D.Device.tells_bytes l.tree l.i (g.D.Device.status (device_of l.initial.blocks)) (g.D.Device.status (device_of l.blocks)) (g.D.Device.disk (device_of l.initial.blocks)) (g.D.Device.disk (device_of l.blocks));
-  none : IsTrue g.D.Device.tells_bytes → number_of l.name (names_before (store_of (reads (g.D.Device.disk (device_of l.initial.blocks)))) l.tree l.i) ≡ None;
+  within : l.i ≤ l.count;
+  looking : IsLooking g.D.Device.tells_bytes l.tree l.name (g.D.Device.status (device_of l.fn.blocks)) (g.D.Device.status (device_of l.blocks)) (g.D.Device.disk (device_of l.fn.blocks)) (g.D.Device.disk (device_of l.blocks)) l.i;
 }
+
+abbrev pub decreases-loop-i : goal.decreases-loop-i
+decreases-loop-i g l = l.count - l.i
