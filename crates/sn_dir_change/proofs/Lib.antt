@@ -1,6 +1,7 @@
 mod BlockLemmas
 mod ChangeLemmas
 mod FillLemmas
+mod FilterLemmas
 mod MarkLemmas
 mod NameLemmas
 mod PartLemmas

@@ -167,7 +167,7 @@ module _ (Told : Type 0) (s : Store) (tree : BlockTree) (changes : List NameChan
       (ap (λ (ls : List Link). front ++ ls) (names_from-first s tree i within) ∙ sym (append_assoc front (names_in (data_block s tree i)) rest))
       (through.way told once))
 
-  module _ (new : List ℕ) (here : AreFull waiting' (names_in new)) (listed : (c : NameChange) → Contains waiting' c → Contains waiting c) (step : (front back old : List Link) → IsUnderWay changes standing waiting front (front ++ names_in bytes ++ back) old → IsUnderWay changes standing' waiting' front (front ++ names_in new ++ back) old × AreGone standing' (names_in new)) where
+  module _ (new : List ℕ) (here : Told → AreFull waiting' (names_in new)) (listed : (c : NameChange) → Contains waiting' c → Contains waiting c) (step : Told → (front back old : List Link) → IsUnderWay changes standing waiting front (front ++ names_in bytes ++ back) old → IsUnderWay changes standing' waiting' front (front ++ names_in new ++ back) old × AreGone standing' (names_in new)) where
     fewer_full : (links : List Link) → AreFull waiting links → AreFull waiting' links
     fewer_full links full c there = full c (listed c there)
 
@@ -176,7 +176,7 @@ module _ (Told : Type 0) (s : Store) (tree : BlockTree) (changes : List NameChan
     left_behind front' made told once =
         let front = names_to s tree ds i in
         let rest = names_from s tree (i + 1) in
-        let moved = step front rest (names_of s (Tree tree)) (entered told once) in
+        let moved = step told front rest (names_of s (Tree tree)) (entered told once) in
         subst (λ (ls : List Link). IsUnderWay changes standing' waiting' ls (ls ++ rest) (names_of s (Tree tree))) (sym made)
         (passed_way changes standing' waiting' front (names_in new) (front ++ names_in new ++ rest) (names_of s (Tree tree)) moved.1 moved.0)
 
@@ -192,7 +192,7 @@ module _ (Told : Type 0) (s : Store) (tree : BlockTree) (changes : List NameChan
               (λ (last : i ≤ j).
               let at : d.index ≡ j = omega (arith, last, low, pushed.index_is) in
               let is_now : block_now s tree (ds ++ d ∷ []) j ≡ new = subst (λ (n : ℕ). block_after (tree.size / 4096) (ds ++ d ∷ []) n (data_block s tree n) ≡ d.bytes.value) at (block-pushed (tree.size / 4096) ds d i (data_block s tree d.index) (omega (arith, pushed.index_is)) through.blocks.before) ∙ pushed.bytes_are in
-              subst (λ (b : List ℕ). AreFull waiting' (names_in b)) (sym is_now) here)
+              subst (λ (b : List ℕ). AreFull waiting' (names_in b)) (sym is_now) (here told))
               (cases_lt j i);
           way = left_behind (names_to s tree (ds ++ d ∷ []) (i + 1)) (names_to-pushed s tree ds d i pushed.index_is through.blocks ∙ ap (λ (b : List ℕ). names_to s tree ds i ++ names_in b) pushed.bytes_are);
         })
@@ -207,7 +207,7 @@ module _ (Told : Type 0) (s : Store) (tree : BlockTree) (changes : List NameChan
           (λ (last : i ≤ j).
           let at : i ≡ j = omega (arith, last, low) in
           let is_now : block_now s tree ds i ≡ new = block-untouched (tree.size / 4096) ds i i (data_block s tree i) (omega arith) through.blocks.before ∙ block-kept (tree.size / 4096) i (data_block s tree i) within ∙ sym (same ∙ is told) in
-          subst (λ (n : ℕ). AreFull waiting' (names_in (block_now s tree ds n))) at (subst (λ (b : List ℕ). AreFull waiting' (names_in b)) (sym is_now) here))
+          subst (λ (n : ℕ). AreFull waiting' (names_in (block_now s tree ds n))) at (subst (λ (b : List ℕ). AreFull waiting' (names_in b)) (sym is_now) (here told)))
           (cases_lt j i);
       way = λ told once. left_behind (names_to s tree ds (i + 1)) (names_to-kept s tree ds i within through.blocks ∙ ap (λ (b : List ℕ). names_to s tree ds i ++ names_in b) (sym (same ∙ is told))) told once;
     }

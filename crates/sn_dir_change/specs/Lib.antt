@@ -3,5 +3,6 @@ pub mod Planned
 pub mod Standing
 pub mod UnderWay
 pub mod Through
+pub mod Filter
 pub mod Laws
 pub mod NameMarks

@@ -19,9 +19,14 @@
 //! (`name_marks`), and beside each change stands which mark is that of its name, so that it costs a block that
 //! doesn't have the name one look, and not one at each name.
 //!
+//! Where the directory has an index of its names (`sn_names`, kept by `Blocks`), not all blocks are read. Each
+//! name is looked up by itself, and then blocks are passed over that the index tells to have none of the names
+//! that stand, and less room than the shortest name that waits takes (`filter`). `change_names` would leave
+//! such a block as it is, so the plan is the same, block for block, as without an index.
+//!
 //! The way through: `amend` changes one name in one block, `pass` all of them, `standing` tells which names
-//! the directory has, `pending` are the changes still to be made, `through` goes over the blocks, `fill` makes
-//! new ones, and `planned` puts all together.
+//! the directory has, `pending` are the changes still to be made, `filter` tells which blocks they can't touch,
+//! `through` goes over the others, `fill` makes new ones, and `planned` puts all together.
 //!
 //! What the sources leave open is decided in `docs/DECISIONS.md`, under "Directories that change".
 //!
@@ -34,6 +39,7 @@
 
 mod amend;
 mod fill;
+mod filter;
 mod laws;
 mod name_change;
 mod name_marks;

@@ -22,6 +22,7 @@ fn amend_standing(block: &mut Block, marks: &NameMarks, standing: &mut Vec<Marke
         → IsUnderWay changes standing.old.items waiting front (front ++ names_in block.old ++ back) old
         → IsUnderWay changes standing.new.items waiting front (front ++ names_in block.new ++ back) old
         × AreGone standing.new.items (names_in block.new) }
+    ensures listed { (change : TheChange) → Contains standing.new.items change → Contains standing.old.items change }
     ensures fewer { length standing.new.items ≤ length standing.old.items }
     ensures same { length standing.new.items ≡ length standing.old.items
         → (block.new ≡ block.old) × (standing.new.items ≡ standing.old.items) }
@@ -97,6 +98,8 @@ pub(crate) fn change_names(
     ensures full { AreFull pending.new.waiting.items (names_in block.new) }
     ensures listed { (change : TheChange) → Contains pending.new.waiting.items change
         → Contains pending.old.waiting.items change }
+    ensures stand_listed { (change : TheChange) → Contains pending.new.standing.items change
+        → Contains pending.old.standing.items change }
     ensures changed { IsTrue result → length pending.new.standing.items + length pending.new.waiting.items
         < length pending.old.standing.items + length pending.old.waiting.items }
     ensures same { result ≡ false → (block.new ≡ block.old) × (pending.new.standing.items ≡ pending.old.standing.items)

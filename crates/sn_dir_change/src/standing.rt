@@ -1,5 +1,5 @@
 //! Which names the directory has.
-ghost use Rattle.std.specs.Prelude.{◌≡◌, ℕ, ◌↔◌, [], ⊤, true, map, All, Option as TheOption, Err, IsTrue, IfOk, OnOk};
+ghost use Rattle.std.specs.Prelude.{◌≡◌, ℕ, ◌↔◌, ◌++◌, [], ◌∷◌, ⊤, true, map, All, Option as TheOption, Err, IsTrue, IfOk, OnOk};
 ghost use Rattle.sn_device.specs.Disk.{reads};
 ghost use Rattle.sn_block.specs.Lending.{device_of};
 ghost use Rattle.sn_layout_node.specs.declared.content.Content.TheVariants.{Tree};
@@ -16,7 +16,7 @@ use crate::NameChange;
 use crate::name_marks::{MarkedChange, NameMarks};
 use sn_block::Blocks;
 use sn_device::Device;
-use sn_dir::{block_count, decoded, fetch_block};
+use sn_dir::{begin_index, block_count, decoded, fetch_block, lookup};
 use sn_layout::BlockTree;
 use sn_layout_node::DirectoryBlock;
 use sn_tree_read::TreeFault;
@@ -26,7 +26,7 @@ use std::alloc::{AllocError, Global};
 #[derive(Drop)]
 pub(crate) struct Sought<'a> {
     pub change: MarkedChange<'a>,
-    /// Whether one of the blocks that were gone through has the name.
+    /// Whether one of the blocks that were looked in has the name.
     pub stands: bool,
 }
 
@@ -40,16 +40,28 @@ impl<'a> Sought<'a> {
     }
 }
 
+// Puts a change behind others, and whether its name was found.
+fn push_sought<'a>(
+    list: &mut Vec<Sought<'a>>,
+    change: &NameChange<'a>,
+    stands: bool,
+) -> Result<(), AllocError>
+    ensures { OnOk result (list.new.items ≡ list.old.items ++ (record { change = change.now; stands = stands }) ∷ []) }
+{
+    list.push(Sought {
+        change: MarkedChange::of(*change),
+        stands,
+    })?;
+    Ok(())
+}
+
 // Changes before the first block.
 fn unseen<'a>(alloc: Global, changes: &[NameChange<'a>]) -> Result<Vec<Sought<'a>>, AllocError>
     ensures { IfOk result (λ list. list.items ≡ map (seen []) changes.now) }
 {
     let mut list = Vec::new(alloc);
     for change in changes {
-        list.push(Sought {
-            change: MarkedChange::of(*change),
-            stands: false,
-        })?;
+        push_sought(&mut list, change, false)?;
     }
     Ok(list)
 }
@@ -96,9 +108,9 @@ fn note_block<D: Device>(
     Ok(())
 }
 
-/// Looks for the names of changes, all of them in one going through the blocks, up to the one where the
-/// last of them is found.
-pub(crate) fn seek<'a, D: Device>(
+// Looks for the names of changes, all of them in one going through the blocks, up to the one where the
+// last of them is found.
+fn seek_in_turn<'a, D: Device>(
     alloc: Global,
     blocks: &mut Blocks<D>,
     tree: &BlockTree,
@@ -118,4 +130,52 @@ pub(crate) fn seek<'a, D: Device>(
         note_block(blocks, tree, i, &mut sought)?;
     }
     Ok(sought)
+}
+
+// Looks for the name of each change by itself.
+fn seek_each<'a, D: Device>(
+    alloc: Global,
+    blocks: &mut Blocks<D>,
+    tree: &BlockTree,
+    changes: &[NameChange<'a>],
+) -> Result<Vec<Sought<'a>>, TreeFault>
+    ensures sought { IsTrue D.tells_bytes → IfOk result (λ sought. sought.items
+        ≡ map (seen (names_of (store_of (reads (D.disk (device_of blocks.old)))) (Tree tree.now))) changes.now) }
+    ensures listed { IfOk result (λ sought. map change_of sought.items ≡ changes.now) }
+    ensures damaged { IsTrue D.tells_bytes → (block : TheOption ℕ) → result ≡ Err (Damaged block)
+        → IsDamagedAt (λ names. ⊤) (D.status (device_of blocks.old)).sectors
+        (store_of (reads (D.disk (device_of blocks.old)))) tree.now block }
+    ensures same { IsTrue D.tells_bytes → D.disk (device_of blocks.new) ≡ D.disk (device_of blocks.old) }
+    ensures counts { CountsTree result (D.status (device_of blocks.old)) (D.status (device_of blocks.new)) }
+{
+    let mut sought = Vec::new(alloc);
+    for change in changes {
+        let stands = lookup(blocks, tree, change.name)?.is_some();
+        push_sought(&mut sought, change, stands)?;
+    }
+    Ok(sought)
+}
+
+/// Looks for the names of changes. Where the directory has an index, which is begun if it can have one, each
+/// is looked up by itself, so few blocks are read. Else all are looked for in one going through the blocks.
+pub(crate) fn seek<'a, D: Device>(
+    alloc: Global,
+    blocks: &mut Blocks<D>,
+    tree: &BlockTree,
+    changes: &[NameChange<'a>],
+) -> Result<Vec<Sought<'a>>, TreeFault>
+    ensures sought { IsTrue D.tells_bytes → IfOk result (λ sought. sought.items
+        ≡ map (seen (names_of (store_of (reads (D.disk (device_of blocks.old)))) (Tree tree.now))) changes.now) }
+    ensures listed { IfOk result (λ sought. map change_of sought.items ≡ changes.now) }
+    ensures damaged { IsTrue D.tells_bytes → (block : TheOption ℕ) → result ≡ Err (Damaged block)
+        → IsDamagedAt (λ names. ⊤) (D.status (device_of blocks.old)).sectors
+        (store_of (reads (D.disk (device_of blocks.old)))) tree.now block }
+    ensures same { IsTrue D.tells_bytes → D.disk (device_of blocks.new) ≡ D.disk (device_of blocks.old) }
+    ensures counts { CountsTree result (D.status (device_of blocks.old)) (D.status (device_of blocks.new)) }
+{
+    begin_index(blocks, tree)?;
+    if blocks.has_index(tree) {
+        return seek_each(alloc, blocks, tree, changes);
+    }
+    seek_in_turn(alloc, blocks, tree, changes)
 }

@@ -1,5 +1,5 @@
 //! Going through the blocks of a directory.
-ghost use Rattle.std.specs.Prelude.{◌≡◌, ℕ, ◌+◌, ◌/◌, ◌<◌, List, [], ⊤, Option as TheOption, Err, IsTrue, IfOk, OnOk};
+ghost use Rattle.std.specs.Prelude.{◌≡◌, ℕ, ◌+◌, ◌/◌, ◌<◌, List, [], ⊤, Contains, Option as TheOption, Err, IsTrue, IfOk, OnOk};
 ghost use Rattle.sn_device.specs.Disk.{reads};
 ghost use Rattle.sn_block.specs.Lending.{device_of};
 ghost use Rattle.sn_ondisk.specs.Trees.{store_of};
@@ -10,6 +10,7 @@ ghost use Rattle.sn_dir_change.specs.Changes.{AreLinkChanges};
 ghost use Rattle.sn_dir_change.specs.Through.{IsPushed, IsThrough};
 ghost use Rattle.sn_dir_change.specs.declared.name_change.NameChange.{NameChange as TheChange};
 
+use crate::filter::BlockFilter;
 use crate::name_marks::NameMarks;
 use crate::pass::change_names;
 use crate::pending::Pending;
@@ -53,6 +54,10 @@ fn pass_block<D: Device>(
         i dirty.old.items pending.old.standing.items pending.old.waiting.items
         → OnOk result (IsThrough (IsTrue D.tells_bytes) (store_of (reads (D.disk (device_of blocks.old)))) tree.now changes bound
         (i + 1) dirty.new.items pending.new.standing.items pending.new.waiting.items) }
+    ensures stand_listed { (change : TheChange) → Contains pending.new.standing.items change
+        → Contains pending.old.standing.items change }
+    ensures listed { (change : TheChange) → Contains pending.new.waiting.items change
+        → Contains pending.old.waiting.items change }
     ensures standing { AreLinkChanges pending.new.standing.items }
     ensures waiting { AreLinkChanges pending.new.waiting.items }
     ensures damaged { IsTrue D.tells_bytes → (block : TheOption ℕ) → result ≡ Err (Damaged block)
@@ -76,7 +81,8 @@ fn pass_block<D: Device>(
 }
 
 /// Makes the changes of names that stand, and puts those that don't where there is room. Answers the
-/// changed blocks.
+/// changed blocks. Those are passed over, and not read, that an index tells to have none of the names and no
+/// room: the changes that are left are always among those of the beginning, so what these need is enough.
 pub(crate) fn pass_blocks<D: Device>(
     alloc: Global,
     blocks: &mut Blocks<D>,
@@ -97,9 +103,12 @@ pub(crate) fn pass_blocks<D: Device>(
     ensures same { IsTrue D.tells_bytes → D.disk (device_of blocks.new) ≡ D.disk (device_of blocks.old) }
     ensures counts { CountsTree result (D.status (device_of blocks.old)) (D.status (device_of blocks.new)) }
 {
+    let filter = BlockFilter::of(alloc, pending)?;
     let mut dirty = VecDeque::new(alloc);
-    for i in 0..block_count(tree) {
+    let mut i = blocks.next_wanted(tree, &filter.prints, filter.least, 0);
+    while i < block_count(tree) {
         pass_block(alloc, blocks, tree, i, pending, &mut dirty)?;
+        i = blocks.next_wanted(tree, &filter.prints, filter.least, i + 1);
     }
     Ok(dirty)
 }

@@ -4,7 +4,7 @@ use Rattle.sn_layout_node.specs.Directory.{number_of}
 use Rattle.sn_image.specs.Names.{names_in}
 use Rattle.sn_dir_change.specs.UnderWay.{AreGone, IsUnderWay}
 use Rattle.sn_dir_change.specs.declared.name_change.NameChange.{NameChange as TheChange}
-use Rattle.sn_dir_change.proofs.PassLemmas.{amend_one, one_fewer, rest_changes, gone_more, is_none}
+use Rattle.sn_dir_change.proofs.PassLemmas.{amend_one, one_fewer, rest_changes, gone_more, is_none, rest_listed}
 use Rattle.sn_dir_change.proofs.pass.amend_standing.Goals as goal
 
 pub loop-k-preserved-then-amend_marked : goal.loop-k-preserved-then-amend_marked
@@ -21,6 +21,7 @@ loop-k-preserved-then-amend_marked c =
       marks = c.amend_marked.ensures.marks;
       changes = λ x there. rest_changes list k change within c.index.ensures c.loop-k.invariant.changes x (subst (λ (xs : List TheChange). Contains xs x) c.remove.ensures.items there);
       within = omega (arith, within, fewer);
+      listed = λ x there. c.loop-k.invariant.listed x (rest_listed list k change within c.index.ensures x (subst (λ (xs : List TheChange). Contains xs x) c.remove.ensures.items there));
       fewer = omega (arith, fewer, c.loop-k.invariant.fewer);
       same = λ same. absurd (omega (arith, same, fewer, c.loop-k.invariant.fewer));
       way = λ changes waiting front back old way.
@@ -41,6 +42,7 @@ loop-k-preserved c =
       marks = c.amend_marked.ensures.marks;
       changes = c.loop-k.invariant.changes;
       within = omega (arith, within);
+      listed = c.loop-k.invariant.listed;
       fewer = c.loop-k.invariant.fewer;
       same = λ same. let before = c.loop-k.invariant.same same in (bytes ∙ before.0, before.1);
       way = λ changes waiting front back old way.

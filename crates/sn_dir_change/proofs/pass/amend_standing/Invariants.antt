@@ -1,4 +1,5 @@
 use Rattle.std.proofs.Common.{◌≡◌, ◌++◌, ◌-◌, ◌≤◌, List, length, take}
+use Rattle.std.specs.Prelude.{Contains}
 use Rattle.sn_layout_node.specs.Directory.{Link, IsDirectoryBlock}
 use Rattle.sn_image.specs.Names.{names_in}
 use Rattle.sn_dir_change.specs.Changes.{AreLinkChanges}
@@ -14,6 +15,7 @@ invariant-loop-k l = record {
   changes : AreLinkChanges l.standing.items;
   within : l.k ≤ length l.standing.items;
   fewer : length l.standing.items ≤ length l.initial.standing.items;
+  listed : (change : TheChange) → Contains l.standing.items change → Contains l.initial.standing.items change;
   same : length l.standing.items ≡ length l.initial.standing.items → (l.block ≡ l.initial.block) × (l.standing.items ≡ l.initial.standing.items);
   way : (changes waiting : List TheChange) (front back old : List Link) → IsUnderWay changes l.initial.standing.items waiting front (front ++ names_in l.initial.block ++ back) old
       → IsUnderWay changes l.standing.items waiting front (front ++ names_in l.block ++ back) old × AreGone (take l.k l.standing.items) (names_in l.block);

@@ -17,7 +17,7 @@ returns-then-is_empty-clause-through g c = λ changes bound through.
     let none : length standing + length waiting ≡ 0 = eqb-true (length standing + length waiting) 0 (sym c.is_empty.ensures ∙ c.if-is_empty.true) in
     let bytes = data_block s c.args.tree.now c.args.i in
     through_kept _ s c.args.tree.now changes bound c.args.i c.args.dirty.now.items standing waiting standing waiting bytes (λ told. refl) c.requires.index through
-    bytes (none_full waiting _ (omega (arith, none))) (λ x there. there) (λ front back old way. (way, none_gone standing _ (omega (arith, none)))) refl (omega arith)
+    bytes (λ told. none_full waiting _ (omega (arith, none))) (λ x there. there) (λ told front back old way. (way, none_gone standing _ (omega (arith, none)))) refl (omega arith)
 
 pub returns-in_err-number-clause-damaged : goal.returns-in_err-number-clause-damaged
 returns-in_err-number-clause-damaged g c told block is =
@@ -33,7 +33,7 @@ returns-in_ok-push_dirty-clause-through g c = λ changes bound through.
     let bytes = c.fetched-2.result.now in
     through_pushed _ s c.args.tree.now changes bound c.args.i c.args.dirty.now.items c.args.pending.now.standing.items c.args.pending.now.waiting.items c.change_names.new.pending.standing.items c.change_names.new.pending.waiting.items
     bytes (λ told. c.fetched-2.ensures.value ∙ c.in_ok-number.ensures.block told) c.requires.index through
-    c.change_names.new.block c.change_names.ensures.full c.change_names.ensures.listed (c.change_names.ensures.way changes) c.push_dirty.new.dirty.items c.in_ok-push_dirty.ensures c.change_names.ensures.still (c.change_names.ensures.changed c.if-change_names.true)
+    c.change_names.new.block (λ told. c.change_names.ensures.full) c.change_names.ensures.listed (λ told. c.change_names.ensures.way changes) c.push_dirty.new.dirty.items c.in_ok-push_dirty.ensures c.change_names.ensures.still (c.change_names.ensures.changed c.if-change_names.true)
 
 pub returns-else-change_names-clause-through : goal.returns-else-change_names-clause-through
 returns-else-change_names-clause-through g c = λ changes bound through.
@@ -42,7 +42,7 @@ returns-else-change_names-clause-through g c = λ changes bound through.
     let same = c.change_names.ensures.same c.if-change_names.false in
     through_kept _ s c.args.tree.now changes bound c.args.i c.args.dirty.now.items c.args.pending.now.standing.items c.args.pending.now.waiting.items c.change_names.new.pending.standing.items c.change_names.new.pending.waiting.items
     bytes (λ told. c.fetched-2.ensures.value ∙ c.in_ok-number.ensures.block told) c.requires.index through
-    c.change_names.new.block c.change_names.ensures.full c.change_names.ensures.listed (c.change_names.ensures.way changes) same.0
+    c.change_names.new.block (λ told. c.change_names.ensures.full) c.change_names.ensures.listed (λ told. c.change_names.ensures.way changes) same.0
     (omega (arith, ap (λ xs. length xs) same.1, ap (λ xs. length xs) same.2))
 
 pub change_names-requires-clause-marks : goal.change_names-requires-clause-marks

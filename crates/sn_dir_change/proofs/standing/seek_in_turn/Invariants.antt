@@ -4,7 +4,7 @@ use Rattle.sn_block.specs.Lending.{device_of}
 use Rattle.sn_ondisk.specs.Trees.{store_of}
 use Rattle.sn_dir.specs.Blocks.{names_before}
 use Rattle.sn_dir_change.specs.Standing.{change_of, seen}
-use Rattle.sn_dir_change.proofs.standing.seek.Given as goal
+use Rattle.sn_dir_change.proofs.standing.seek_in_turn.Given as goal
 
 abbrev pub invariant-loop-i : goal.invariant-loop-i
 invariant-loop-i g l = record {
