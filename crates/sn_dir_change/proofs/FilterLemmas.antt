@@ -1,15 +1,12 @@
 -- Blocks that changes can't touch.
-use Rattle.std.proofs.Common.{◌≡◌, ◌≢◌, ℕ, ◌+◌, ◌-◌, ◌/◌, ◌<◌, ◌≤◌, suc, zero, if◌then◌else◌, Bool, List, length, None, refl, sym, ap, subst, ◌∙◌, arith}
+use Rattle.std.proofs.Common.{◌≡◌, ℕ, ◌+◌, ◌-◌, ◌/◌, ◌<◌, ◌≤◌, suc, zero, List, length, None, refl, subst, arith}
 use Rattle.std.specs.Prelude.{Contains}
-use Rattle.std.proofs.lemmas.Bool.{ne_eqb}
-use Rattle.sn_layout.specs.Bytes.{zeros}
-use Rattle.sn_layout.specs.Pointers.{levels_of}
 use Rattle.sn_layout.specs.declared.tree.BlockTree.{BlockTree}
 use Rattle.sn_layout_node.specs.Directory.{Link, links_bytes, number_of}
-use Rattle.sn_ondisk.specs.Trees.{Store, entry, named_by, data_block}
+use Rattle.sn_ondisk.specs.Trees.{Store, data_block}
 use Rattle.sn_names.specs.Told.{IsSeen, IsUnwanted}
 use Rattle.sn_image.specs.Names.{names_in}
-use Rattle.sn_image.proofs.DecodeLemmas.{directory_read}
+use Rattle.sn_dir.proofs.SeenLemmas.{seen_names}
 use Rattle.sn_tree.specs.declared.new_block.DirtyBlock.{DirtyBlock}
 use Rattle.sn_dir_change.specs.Changes.{ArePuts}
 use Rattle.sn_dir_change.specs.Filter.{Covers}
@@ -19,17 +16,6 @@ use Rattle.sn_dir_change.specs.declared.name_change.NameChange.{NameChange}
 use Rattle.sn_dir_change.proofs.BlockLemmas.{no_room}
 use Rattle.sn_dir_change.proofs.ThroughLemmas.{through_kept}
 use Rattle.sn_dir_change.proofs.WayLemmas.{all_from}
-
--- the bytes of a block that isn't a hole
-not_hole : (s : Store) (tree : BlockTree) (i number : ℕ) → entry s (levels_of tree.size) tree.pointers i ≡ number → number ≢ 0 → s number ≡ data_block s tree i
-unfolding data_block named_by
-not_hole s tree i number place some =
-    sym (ap (λ (n : ℕ). named_by s n) place ∙ ap (λ (b : Bool). if b then zeros 4096 else s number) (ne_eqb number 0 some))
-
--- what is true of the names of a block that was seen is true of those that are read in it
-pub names_seen : (sectors : ℕ) (s : Store) (tree : BlockTree) (i : ℕ) (P : List Link → Type 0) → IsSeen sectors s tree i P → P (names_in (data_block s tree i))
-names_seen sectors s tree i P seen =
-    subst P (sym (directory_read (s seen.number) seen.links seen.spelled) ∙ ap (λ (b : List ℕ). names_in b) (not_hole s tree i seen.number seen.placed.place seen.no_hole)) seen.true_of
 
 module _ (prints : List ℕ) (least : ℕ) (standing waiting : List NameChange) (covers : Covers prints least standing waiting) (links : List Link) (unwanted : IsUnwanted prints least links) where
   unwanted_gone : AreGone standing links
@@ -44,7 +30,7 @@ module _ (Told : Type 0) (sectors : ℕ) (s : Store) (tree : BlockTree) (changes
       → IsThrough Told s tree changes bound i ds standing waiting → IsThrough Told s tree changes bound (i + 1) ds standing waiting
   through_one i within seen through =
       let block = data_block s tree i in
-      let unwanted : Told → IsUnwanted prints least (names_in block) = (λ told. names_seen sectors s tree i (IsUnwanted prints least) (seen told)) in
+      let unwanted : Told → IsUnwanted prints least (names_in block) = (λ told. seen_names sectors s tree i (IsUnwanted prints least) (seen told)) in
       through_kept Told s tree changes bound i ds standing waiting standing waiting block (λ told. refl) within through
       block (λ told. unwanted_full prints least standing waiting covers (names_in block) (unwanted told) through.puts) (λ c there. there)
       (λ told front back old way. (way, unwanted_gone prints least standing waiting covers (names_in block) (unwanted told))) refl (omega arith)

@@ -81,8 +81,9 @@ fn pass_block<D: Device>(
 }
 
 /// Makes the changes of names that stand, and puts those that don't where there is room. Answers the
-/// changed blocks. Those are passed over, and not read, that an index tells to have none of the names and no
-/// room: the changes that are left are always among those of the beginning, so what these need is enough.
+/// changed blocks. A block isn't read where an index tells that it has none of the names that stand, and no
+/// room for one that waits. The changes that are left are among those at the beginning, so one filter is
+/// enough for all blocks.
 pub(crate) fn pass_blocks<D: Device>(
     alloc: Global,
     blocks: &mut Blocks<D>,
