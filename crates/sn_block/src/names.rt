@@ -23,7 +23,7 @@ impl<D: Device> Blocks<D> {
         self.names.has(tree)
     }
 
-    /// Begins the index of a directory, which knows no names, and isn't kept before `keep_index`.
+    /// Begins an index of a directory, which knows no names, and isn't kept before `keep_index`.
     pub fn new_index(&self, tree: &BlockTree) -> Result<NameIndex, AllocError>
         requires { IsTrue (is_indexable tree.now) }
         ensures tree { IfOk result (λ index. tree_of index ≡ tree.now) }

@@ -1,5 +1,5 @@
 -- The inode file with other inodes.
-use Rattle.std.proofs.Common.{◌≡◌, ◌≢◌, ◌⊎◌, inl, inr, ℕ, suc, ◌+◌, ◌-◌, ◌*◌, ◌/◌, ◌%◌, ◌<◌, ◌≤◌, ◌==◌, ◌&&◌, Bool, true, false, if◌then◌else◌, List, [], ◌∷◌, ◌++◌, length, map, max, Option, None, Result, Ok, Err, IfOk, Contains, slice_index, refl, sym, ap, subst, ◌∙◌, arith, length-append}
+use Rattle.std.proofs.Common.{◌≡◌, ◌≢◌, ◌⊎◌, inl, inr, ℕ, zero, suc, ◌+◌, ◌-◌, ◌*◌, ◌/◌, ◌%◌, ◌<◌, ◌≤◌, ◌==◌, ◌&&◌, Bool, true, false, if◌then◌else◌, List, [], ◌∷◌, ◌++◌, length, map, max, Option, None, Result, Ok, Err, IfOk, Contains, slice_index, refl, sym, ap, subst, ◌∙◌, arith, length-append}
 use Rattle.std.specs.Prelude.{All, nat_le, nat_lt}
 use Rattle.std.specs.List.{AllZip, AllByRecursion}
 use Rattle.std.specs.List.Sorted.{IsStrictlyIncreasing}
@@ -147,6 +147,15 @@ few_levels size small = told (cases_lt 1 (levels_of size))
     told : (1 < levels_of size) ⊎ (levels_of size ≤ 1) → levels_of size ≤ 1
     told (inl more) = let large = levels_least size 1 more in absurd (omega (arith, small, large))
     told (inr few) = few
+
+-- the paths to so many records at most, and one more
+pub few_paths : (size dirty many : ℕ) → size ≤ 8388608 → dirty ≤ many → (levels_of size + 1) * (dirty + 1) ≤ 2 * (many + 1)
+few_paths size dirty many most few = told (levels_of size) (few_levels size most)
+  where
+    told : (levels : ℕ) → levels ≤ 1 → (levels + 1) * (dirty + 1) ≤ 2 * (many + 1)
+    told zero low = omega (arith, few)
+    told (suc zero) low = omega (arith, few)
+    told (suc (suc levels)) low = absurd (omega (arith, low))
 
 module _ (limits : Limits) (s : Store) (old new : BlockTree) (changes : List InodeChange) (stored : List StoredRecord) (keep : ℕ) (dirty : List DirtyBlock)
     (keep_is : keep ≡ old.size / 4096) (whole : old.size % 4096 ≡ 0) (larger : old.size ≤ new.size) (new_whole : new.size % 4096 ≡ 0) (small : new.size ≤ 8388608)

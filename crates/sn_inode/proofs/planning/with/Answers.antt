@@ -1,4 +1,4 @@
-use Rattle.std.proofs.Common.{◌≡◌, ◌≢◌, inl, inr, ℕ, ◌/◌, ◌+◌, ◌-◌, ◌≤◌, List, Err, slice_index, length, map, IsTrue, refl, sym, ap, subst, ◌∙◌, arith}
+use Rattle.std.proofs.Common.{◌≡◌, ◌≢◌, inl, inr, ℕ, ◌/◌, ◌+◌, ◌-◌, ◌*◌, ◌<◌, ◌≤◌, List, Err, slice_index, length, map, IsTrue, refl, sym, ap, subst, ◌∙◌, arith, length-append}
 use Rattle.std.specs.Prelude.{All}
 use Rattle.std.proofs.lemmas.Bool.{eqb-true, eqb-false, true≢false}
 use Rattle.std.proofs.lemmas.List.{length-map}
@@ -15,7 +15,10 @@ use Rattle.sn_inode.specs.Changes.{numbers_in}
 use Rattle.sn_inode.specs.Stored.{ArePatched, IsOffAt}
 use Rattle.sn_inode.specs.declared.changes.InodeChange.{InodeChange}
 use Rattle.sn_inode.specs.declared.changes.StoredRecord.{StoredRecord}
-use Rattle.sn_inode.proofs.WithLemmas.{with_none, empty_list, has_number, all_below, with_result, file_result}
+use Rattle.sn_layout.specs.Pointers.{levels_of}
+use Rattle.sn_alloc.specs.Taking.{free_data}
+use Rattle.sn_tree.specs.Drafts.{Draft}
+use Rattle.sn_inode.proofs.WithLemmas.{few_paths, with_none, empty_list, has_number, all_below, with_result, file_result}
 use Rattle.sn_inode.proofs.planning.with.Goals as goal
 
 pub returns-then-is_empty-clause-with : goal.returns-then-is_empty-clause-with
@@ -94,3 +97,14 @@ returns-clause-damaged g c told block is =
     let disk : g.D.Device.disk (device_of c.patched.new.blocks) ≡ g.D.Device.disk (device_of c.args.blocks.now) = c.patched.ensures.same told ∙ c.settle.ensures.same told in
     inr (subst (λ (n : ℕ). LeadsOutsideAt n (tree_reach (store_of (reads (g.D.Device.disk (device_of c.args.blocks.now)))) file) block) (c.patched.ensures.counts.sectors ∙ c.settle.ensures.counts.sectors)
     (subst (λ (d : Disk). LeadsOutsideAt sectors (tree_reach (store_of (reads d)) file) block) disk (c.plan_tree.ensures.damaged told block is)))
+
+pub returns-clause-full : goal.returns-clause-full
+returns-clause-full g c = λ is.
+    let changes = c.args.changes.now in
+    let stored = c.in_ok-stored.stored.items in
+    let dirty = c.in_ok-dirty.dirty.items in
+    let settled = c.in_ok-stored.ensures.settled in
+    let long : length stored ≡ length changes = sym (length-map stored (λ (x : StoredRecord). x.number)) ∙ ap (λ (ns : List ℕ). length ns) settled.numbers ∙ length-map changes (λ (x : InodeChange). x.number) in
+    let few : length dirty ≤ length changes = omega (arith, subst (λ (xs : List StoredRecord). length dirty ≤ length xs) c.as_slice.ensures.value c.in_ok-dirty.ensures.count, long) in
+    let paths = few_paths c.size_with.result (length dirty) (length changes) (c.size_with.ensures.most c.fits.ensures) few in
+    omega (arith, subst (λ (d : Draft). free_data d.words d.first < length d.added + (levels_of c.size_with.result + 1) * (length dirty + 1)) settled.grew (c.plan_tree.ensures.full is), length-append c.args.build.now.added settled.added, settled.few, paths)
