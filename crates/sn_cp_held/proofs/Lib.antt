@@ -1,5 +1,6 @@
 pub mod BuildLemmas
 pub mod EditLemmas
+pub mod LaidLemmas
 pub mod LiveLemmas
 pub mod RecoverLemmas
 pub mod RoomLemmas

@@ -39,6 +39,7 @@ use Rattle.sn_opening.specs.Worlds.{all_reach, frozen_of}
 use Rattle.sn_overlay.specs.Layers.{through}
 use Rattle.sn_overlay.specs.Needs.{nameless_in, need}
 use Rattle.sn_overlay.specs.Seen.{LiesOver}
+use Rattle.sn_room.specs.Rooms.{begun}
 use Rattle.sn_root.specs.declared.following.PointKind.{PointKind}
 use Rattle.sn_root.specs.declared.following.PointKind.TheVariants.{Ordinary}
 use Rattle.sn_sound.specs.Charges.{charges_from}
@@ -55,8 +56,9 @@ use Rattle.sn_cp_build.specs.Building.{Builds}
 use Rattle.sn_cp_build.specs.declared.building.Built.{Built}
 use Rattle.sn_cp_held.specs.Builds.{CanBeBuilt, IsBuiltOf, IsOfBuild, plan_of, room_behind, work_for}
 use Rattle.sn_cp_held.specs.Snapshots.{trees_behind}
-use Rattle.sn_cp_held.specs.Wholes.{IsFollowing, IsOfLive, StandsKept}
+use Rattle.sn_cp_held.specs.Wholes.{IsFollowing, IsOfLive, StandsKept, TakesNoMore}
 use Rattle.sn_cp_held.proofs.BuildLemmas.{builds_are_built, builds_are_sound, frozen_reach, live_reached}
+use Rattle.sn_cp_held.proofs.LaidLemmas.{laid, laid_all, laid_same}
 use Rattle.sn_cp_held.proofs.RoomLemmas.{builds_leave_room}
 
 -- ---- words
@@ -228,6 +230,16 @@ module _ (n : ℕ) (c : Contents) (world : World) (k : Kept) (st : StandsKept n 
         );
       }
 
+    -- its blocks are no more than what changed needs
+    pub takes_few : free_blocks n s k.root ≤ free_data built.map (start_of n Data) + need k.root.limits k.changed
+    takes_few =
+        let plan = plan_of built next in
+        let trees = trees_behind asked (trees_of world) in
+        let t = laid plan.blocks s in
+        let same = laid_same n s k.root trees plan made in
+        let holds = laid_all n s k.root trees plan made in
+        omega (arith, new_free t same holds, builds_leave_room n s k.root k.words k.changed asked bit built next of_build t same holds, of_build.well.few)
+
     pub sound_next : (t : Store) → SameIn (all_reach s k.root) s t → HoldsAll t (plan_of built next).blocks → IsSoundRoot n t next (slice_index built.map)
     sound_next = builds_are_sound n s k.root k.words k.changed asked bit built next of_build
 
@@ -286,6 +298,18 @@ module _ (h : Held) (world : World) (k : Kept) (rr : RunsReady h world k) where
     no_more : limits_written.inode_charge * nameless_in world.live ≤ k.root.limits.inode_charge * nameless_in world.live
     no_more = omega (arith, ap (λ (l : Limits). l.inode_charge * nameless_in world.live) limits_kept)
 
+    -- what its blocks take was charged since the root's moment
+    takes : TakesNoMore (room_behind h.at.blocks built).free (begun h.room)
+    takes = omega (
+      arith,
+      r.charged.free,
+      ap (free_blocks h.at.blocks r.store) rr.ready.root,
+      takes_few h.at.blocks (reads h.disk) world k stands_kept Ordinary asked bit built next x,
+      ap (λ (l : Limits). need l k.changed) limits_kept,
+      rr.ready.changed.paid,
+      r.charged.parked,
+    )
+
     pub of_live : IsOfLive h world r asked (work_for h.at.blocks k gate built next) (room_behind h.at.blocks built)
     of_live = record {
       whole = whole_work h.at.blocks (reads h.disk) world k stands_kept Ordinary asked bit built next x (other_slot k.slot) gate;
@@ -295,5 +319,6 @@ module _ (h : Held) (world : World) (k : Kept) (rr : RunsReady h world k) where
       built = subst (λ (b : RootBody). IsBuilt h.at.blocks r.store b (trees_behind asked (trees_of world)) (plan_of built next)) rr.ready.root (made h.at.blocks (reads h.disk) world k stands_kept Ordinary asked bit built next x);
       sound = λ t same holds. sound_next h.at.blocks (reads h.disk) world k stands_kept Ordinary asked bit built next x t (here t same) holds;
       charged = λ t same holds. charged h.at.blocks (reads h.disk) world k stands_kept Ordinary asked bit built next x t (here t same) holds no_more;
+      takes = takes;
       age = x.age;
     }

@@ -24,7 +24,7 @@ use Rattle.sn_opening.specs.Points.{HoldsAll, IsBuilt}
 use Rattle.sn_opening.specs.Worlds.{all_reach, frozen_of}
 use Rattle.sn_overlay.specs.Needs.{nameless_in}
 use Rattle.sn_overlay.specs.Overlays.{no_changes}
-use Rattle.sn_room.specs.Rooms.{RoomCounts}
+use Rattle.sn_room.specs.Rooms.{RoomCounts, begun}
 use Rattle.sn_root.specs.Following.{epochs_of}
 use Rattle.sn_root.specs.declared.following.PointKind.{PointKind}
 use Rattle.sn_root.specs.declared.following.PointKind.TheVariants.{Ordinary}
@@ -42,7 +42,11 @@ pub record IsFollowing (kind : PointKind) (root next : RootBody) : Type 0 where
   pub epoch : next.epoch ≡ root.epoch + epochs_of kind
   pub limits : next.limits ≡ limits_written
 
--- The point was built of the live tree, with the snapshots that are asked for, for the slot that doesn't count: wherever its blocks stand beside what the root reaches, its root is sound with its snapshots and its map, and what is kept of the room is charged of it. It has an age left.
+-- A root that leaves so many blocks free takes no more of them than was charged, with a charge for each file that was dropped, before its point began.
+abbrev pub TakesNoMore : ℕ → RoomCounts → Type 0
+TakesNoMore free room = room.free + room.charged_since + limits_written.inode_charge * room.dropped_since ≤ free + room.charged + limits_written.inode_charge * room.dropped
+
+-- The point was built of the live tree, with the snapshots that are asked for, for the slot that doesn't count: wherever its blocks stand beside what the root reaches, its root is sound with its snapshots and its map, and what is kept of the room is charged of it. It takes no more than was charged. It has an age left.
 pub record IsOfLive (h : Held) (world : World) (r : Runs h world) (asked : AskedPoint) (w : Work) (room : RoomCounts) : Type 0 where
   pub whole : IsWhole w
   pub blocks : w.blocks ≡ h.at.blocks
@@ -51,6 +55,7 @@ pub record IsOfLive (h : Held) (world : World) (r : Runs h world) (asked : Asked
   pub built : IsBuilt h.at.blocks r.store r.root (trees_behind asked (trees_of world)) w.plan
   pub sound : (s : Store) → SameIn (all_reach r.store r.root) r.store s → HoldsAll s w.plan.blocks → IsSoundRoot h.at.blocks s w.plan.next (slice_index w.plan.words)
   pub charged : (s : Store) → SameIn (all_reach r.store r.root) r.store s → HoldsAll s w.plan.blocks → IsCharged room h.at.blocks s w.plan.next [] world.live
+  pub takes : TakesNoMore room.free (begun h.room)
   pub age : HasAgeLeft w.plan.next
 
 -- What no step of a point touches, on a disk of so many blocks: the superblock, the map of the slot that counts, the half of the root's epoch, which begins with no record of a later one, and that of the next, which is ready for its first.
