@@ -1,5 +1,5 @@
 -- What a call between two steps of a point leaves of the point.
-use Rattle.std.proofs.Common.{◌≡◌, ◌⊎◌, inr, ℕ, ◌+◌, ◌≤◌, Bool, List, [], ◌∷◌, ◌++◌, Some, refl, sym, ap, subst, ◌∙◌, append_assoc, arith}
+use Rattle.std.proofs.Common.{◌≡◌, ◌⊎◌, inr, ℕ, ◌+◌, ◌≤◌, Bool, true, if◌then◌else◌, List, [], ◌∷◌, ◌++◌, Some, refl, sym, ap, subst, ◌∙◌, append_assoc, arith, le-leb, leb-true}
 use Rattle.sn_device.specs.Sectors.{AreSectors}
 use Rattle.sn_device.specs.Disk.{Always, reads}
 use Rattle.sn_device.specs.Crash.{LeavesOnly, Touches}
@@ -11,6 +11,7 @@ use Rattle.sn_model.specs.declared.change.Change.{Change}
 use Rattle.sn_model.specs.Changes.{apply}
 use Rattle.sn_model.specs.Charges.{charge_for}
 use Rattle.sn_model.specs.NameTree.{IsHierarchy, IsTree}
+use Rattle.sn_model.specs.declared.outcome.Outcome.{Outcome}
 use Rattle.sn_model.specs.Settling.{settle}
 use Rattle.sn_model.specs.Tree.{Tree}
 use Rattle.sn_model.specs.World.{World}
@@ -25,7 +26,7 @@ use Rattle.sn_opening.proofs.LogLemmas.{of_position}
 use Rattle.sn_opening.proofs.SpelledLemmas.{spelled_more}
 use Rattle.sn_overlay.specs.Needs.{nameless_in}
 use Rattle.sn_record.specs.Payload.{IsSpelled}
-use Rattle.sn_room.specs.Rooms.{RoomCounts, done, dropping, logged}
+use Rattle.sn_room.specs.Rooms.{RoomCounts, charged_behind, done, dropping, fits, gives_back, logged}
 use Rattle.sn_sound.specs.Logs.{HasAgeLeft}
 use Rattle.sn_held.specs.Events.{IsOfTree, LeavesEither, LeavesMore}
 use Rattle.sn_held.specs.Held.{CarriesOn, Held, Kept, Runs}
@@ -38,6 +39,13 @@ use Rattle.sn_cp.proofs.LogLemmas.{log_keeps}
 use Rattle.sn_cp_held.proofs.WholeLemmas.{no_later_depends}
 use Rattle.sn_cp_progress.specs.Progress.{Progress, RunsOn}
 use Rattle.sn_cp_progress.proofs.StepLemmas.{lie}
+
+-- ---- what fits
+
+pub fits_on_next : (h : Held) (world : World) (p : Progress) (nameless : ℕ) (o : Outcome) → RunsOn h world p → fits limits_written h.room nameless o ≡ true → fits limits_written (done p.free h.room) nameless o ≡ true
+fits_on_next h world p nameless o ro it_fits =
+    let rest = if gives_back o.change then 0 else limits_written.reserve in
+    le-leb (charged_behind limits_written (done p.free h.room) nameless o + rest) p.free (omega (arith, leb-true (charged_behind limits_written h.room nameless o + rest) h.room.free it_fits, ro.point.takes))
 
 -- ---- a change that is appended
 
@@ -81,7 +89,7 @@ module _ (old new : Held) (world next : World) (p : Progress) (change : Change) 
   rest_now : Always new.disk (Rests n r.store r.slot r.root r.words r.root.epoch r.older)
   rest_now = LeavesOnly-now old.disk new.disk (Rests n r.store r.slot r.root r.words r.root.epoch r.older) rest
 
-  module _ (fits_next : HasRoomFor (done p.free old.room) world.live change) (leaves : LeavesMore old.at change old.disk new.disk) (whole : AreSectors (reads new.disk)) (no_fewer : nameless_in world.live ≤ nameless_in next.live)
+  module _ (leaves : LeavesMore old.at change old.disk new.disk) (whole : AreSectors (reads new.disk)) (no_fewer : nameless_in world.live ≤ nameless_in next.live)
       (carried : CarriesOn old.base world.live old.room.charged_since new.base next.live (old.room.charged_since + charge_for limits_written world.live change)) (hierarchic : IsTree limits_written next.live) where
     abbrev after : Held
     after = record new { at = behind old.at change; room = logged (charge_for limits_written world.live change) old.room; world = next }
@@ -134,7 +142,8 @@ module _ (old new : Held) (world next : World) (p : Progress) (change : Change) 
                 (λ i one two. halves_apart n r.root.epoch i two one) old.disk new.disk r.stands.disk.whole ro.point.none_later written;
             cover = new_cover;
             charged = λ t same holds. one_charged (done p.free old.room) t p.work.plan.next r.newer (ro.point.charged t same holds)
-                (subst (λ (from : Tree). MakesCover limits_written r.newer from world.live) (sym (ro.point.of.built.tree t same holds)) ro.point.cover) fits_next no_fewer;
+                (subst (λ (from : Tree). MakesCover limits_written r.newer from world.live) (sym (ro.point.of.built.tree t same holds)) ro.point.cover) (omega (arith, has_room, ro.point.takes)) no_fewer;
+            takes = omega (arith, ro.point.takes);
             slot = carried.slot ∙ ro.point.slot;
             root = carried.root ∙ ro.point.root;
             changed = carried.changed p.trees.live ro.point.changed;
@@ -147,14 +156,14 @@ pub appends_leave : (old new : Held) (world next : World) (p : Progress) (change
     → LeavesOnly old.disk new.disk (λ c. IsImage c (settle world) ⊎ IsImage c (settle next))
 appends_leave old new world next p change tree ro spelled applied of hierarchy has_room aged touched leaves = appends_either old new world next p change tree ro spelled applied of hierarchy has_room aged touched leaves
 
-pub appends_go_on : (old new : Held) (world next : World) (p : Progress) (change : Change) (tree : Tree) (r : RunsOn old world p) → IsSpelled change → apply limits_written change world.live ≡ Some tree → IsOfTree world tree next → IsHierarchy world.live → HasRoomFor old.room world.live change → HasRoomFor (done p.free old.room) world.live change → HasAgeLeft r.runs.root
+pub appends_go_on : (old new : Held) (world next : World) (p : Progress) (change : Change) (tree : Tree) (r : RunsOn old world p) → IsSpelled change → apply limits_written change world.live ≡ Some tree → IsOfTree world tree next → IsHierarchy world.live → HasRoomFor old.room world.live change → HasAgeLeft r.runs.root
     → Touches (InHalf (base_at old.at)) old.disk new.disk → LeavesMore old.at change old.disk new.disk → AreSectors (reads new.disk)
     → new.at ≡ behind old.at change → new.room ≡ logged (charge_for limits_written world.live change) old.room → new.world ≡ next → nameless_in world.live ≤ nameless_in next.live
     → CarriesOn old.base world.live old.room.charged_since new.base next.live (old.room.charged_since + charge_for limits_written world.live change) → IsTree limits_written next.live
     → RunsOn new next p
-appends_go_on old new world next p change tree ro spelled applied of hierarchy has_room fits_next aged touched leaves whole at charged is no_fewer carried hierarchic =
+appends_go_on old new world next p change tree ro spelled applied of hierarchy has_room aged touched leaves whole at charged is no_fewer carried hierarchic =
     subst (λ (h : Held). RunsOn h next p) (λ i. record new { at = sym at i; room = sym charged i; world = sym is i })
-    (after_on old new world next p change tree ro spelled applied of hierarchy has_room aged touched fits_next leaves whole no_fewer carried hierarchic)
+    (after_on old new world next p change tree ro spelled applied of hierarchy has_room aged touched leaves whole no_fewer carried hierarchic)
 
 -- ---- files without names that go
 
@@ -175,6 +184,7 @@ module _ (h : Held) (world next : World) (p : Progress) (kept since : ℕ → Bo
             none_later = q.none_later;
             cover = left_covers ro.runs.newer p.trees.live world.live next.live of.held of.live q.cover;
             charged = λ t same holds. let it = q.charged t same holds in record { free = it.free; charged = it.charged; parked = omega (arith, it.parked, counted); fits = it.fits };
+            takes = omega (arith, q.takes);
             slot = carried.slot ∙ q.slot;
             root = carried.root ∙ q.root;
             changed = carried.changed p.trees.live q.changed;

@@ -127,6 +127,7 @@ module _ (h : Held) (world : World) (k : Kept) (ready : RunsReady h world k) (as
       none_later = λ c crash. (has.around c crash).none_later;
       cover = covers_alone world.live;
       charged = of.charged;
+      takes = of.takes;
       slot = ready.ready.slot;
       root = ready.ready.root;
       changed = nothing_changed limits_written world.live;

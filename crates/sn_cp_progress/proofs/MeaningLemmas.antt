@@ -18,14 +18,14 @@ use Rattle.sn_ondisk.specs.LogHalf.{InHalf}
 use Rattle.sn_opening.specs.Worlds.{FrozenTrees}
 use Rattle.sn_overlay.specs.Needs.{nameless_in}
 use Rattle.sn_record.specs.Payload.{IsSpelled}
-use Rattle.sn_room.specs.Rooms.{RoomCounts, dropping, logged}
+use Rattle.sn_room.specs.Rooms.{dropping, logged}
 use Rattle.sn_sound.specs.Logs.{HasAgeLeft}
 use Rattle.sn_held.specs.Events.{IsOfTree, LeavesMore}
 use Rattle.sn_held.specs.Held.{CarriesOn, Going, Held, Kept, Runs}
 use Rattle.sn_held.specs.Moments.{LastsOver, ShowsState}
 use Rattle.sn_held.specs.Room.{HasRoomFor}
 use Rattle.sn_held.proofs.EventLemmas.{appends_ready, drops_ready, ready_with, runs_beside, runs_show}
-use Rattle.sn_cp_progress.specs.Meaning.{HasRoomWith, Means, RunsWith, progress_over}
+use Rattle.sn_cp_progress.specs.Meaning.{Means, RunsWith, progress_over}
 use Rattle.sn_cp_progress.specs.Progress.{Progress, RunsOn}
 use Rattle.sn_cp_progress.proofs.CallLemmas.{appends_go_on, drops_go_on}
 
@@ -43,10 +43,6 @@ module _ (h : Held) (world : World) where
   pub tree_with : (point : Option Going) → RunsWith point h world → IsTree limits_written world.live
   tree_with None ready = ready.ready.tree
   tree_with (Some going) (built, on) = on.point.tree
-
-pub room_with : (point : Option Going) (room : RoomCounts) (tree : Tree) (change : Change) → HasRoomWith point room tree change → HasRoomFor room tree change
-room_with None room tree change has = has
-room_with (Some going) room tree change has = has.0
 
 -- ---- what a crash leaves
 
@@ -71,7 +67,7 @@ still : (h : Held) (world next : World) (going : Going) (built : Tree) → next.
 still h world next going built same on = subst (λ (f : FrozenTrees). RunsOn h next (progress_over going (record { live = built; frozen = f }))) (sym same) on
 
 -- a change that is appended
-pub appends_with : (point : Option Going) (old new : Held) (world next : World) (change : Change) (tree : Tree) → RunsWith point old world → IsSpelled change → apply limits_written change world.live ≡ Some tree → IsOfTree world tree next → IsHierarchy world.live → HasRoomWith point old.room world.live change → HasAgeLeft old.base.root
+pub appends_with : (point : Option Going) (old new : Held) (world next : World) (change : Change) (tree : Tree) → RunsWith point old world → IsSpelled change → apply limits_written change world.live ≡ Some tree → IsOfTree world tree next → IsHierarchy world.live → HasRoomFor old.room world.live change → HasAgeLeft old.base.root
     → Touches (InHalf (base_at old.at)) old.disk new.disk → LeavesMore old.at change old.disk new.disk
     → AreSectors (reads new.disk) → IsSynced new.disk → new.at ≡ behind old.at change → new.room ≡ logged (charge_for limits_written world.live change) old.room → new.world ≡ next → nameless_in world.live ≤ nameless_in next.live
     → ((figure : ℕ) → CarriesOn old.base world.live figure new.base next.live (figure + charge_for limits_written world.live change)) → IsTree limits_written next.live → RunsWith point new next
@@ -80,7 +76,7 @@ appends_with None old new world next change tree ready spelled applied of hierar
 appends_with (Some going) old new world next change tree (built, on) spelled applied of hierarchy has_room aged touched leaves whole synced at charged is no_fewer carried hierarchic = (
   built,
   still new world next going built of.frozen
-      (appends_go_on old new world next (point_over going built world) change tree on spelled applied of hierarchy has_room.0 has_room.1 (subst HasAgeLeft on.point.root aged) touched leaves whole at charged is no_fewer (carried old.room.charged_since) hierarchic),
+      (appends_go_on old new world next (point_over going built world) change tree on spelled applied of hierarchy has_room (subst HasAgeLeft on.point.root aged) touched leaves whole at charged is no_fewer (carried old.room.charged_since) hierarchic),
 )
 
 -- files without names that go
@@ -110,6 +106,7 @@ on_with h world p kept since point status on =
         none_later = q.none_later;
         cover = q.cover;
         charged = q.charged;
+        takes = q.takes;
         slot = q.slot;
         root = q.root;
         changed = q.changed;

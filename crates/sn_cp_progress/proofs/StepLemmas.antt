@@ -209,6 +209,7 @@ module _ (h : Held) (world : World) (p : Progress) (ro : RunsOn h world p) where
           none_later = λ c crash. (around_behind c crash).none_later;
           cover = q.cover;
           charged = q.charged;
+          takes = q.takes;
           slot = q.slot;
           root = q.root;
           changed = q.changed;

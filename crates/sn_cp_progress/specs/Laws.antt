@@ -1,5 +1,5 @@
 -- What events between two steps of a point, and the steps, leave of the world.
-use Rattle.std.specs.Prelude.{◌≡◌, ◌⊎◌, ℕ, ◌+◌, ◌≤◌, Bool, Some, Result, OnOk}
+use Rattle.std.specs.Prelude.{◌≡◌, ◌⊎◌, ℕ, ◌+◌, ◌≤◌, Bool, true, Some, Result, OnOk}
 use Rattle.sn_device.specs.Sectors.{AreSectors}
 use Rattle.sn_device.specs.Disk.{Disk, reads}
 use Rattle.sn_device.specs.Crash.{LeavesOnly, Touches}
@@ -13,12 +13,13 @@ use Rattle.sn_model.specs.NameTree.{IsHierarchy, IsTree}
 use Rattle.sn_model.specs.Settling.{settle}
 use Rattle.sn_model.specs.Tree.{Tree}
 use Rattle.sn_model.specs.declared.outcome.AskedPoint.{AskedPoint}
+use Rattle.sn_model.specs.declared.outcome.Outcome.{Outcome}
 use Rattle.sn_model.specs.World.{World, trees_of}
 use Rattle.sn_ondisk.specs.LogHalf.{InHalf}
 use Rattle.sn_overlay.specs.Needs.{nameless_in}
 use Rattle.sn_overlay.specs.Overlays.{no_changes}
 use Rattle.sn_record.specs.Payload.{IsSpelled}
-use Rattle.sn_room.specs.Rooms.{begun, done, dropping, fresh, logged}
+use Rattle.sn_room.specs.Rooms.{begun, done, dropping, fits, fresh, logged}
 use Rattle.sn_sound.specs.Logs.{HasAgeLeft}
 use Rattle.sn_held.specs.Events.{IsOfTree, LeavesEither, LeavesMore}
 use Rattle.sn_held.specs.Held.{CarriesOn, Held, Kept, RunsReady}
@@ -55,7 +56,11 @@ abbrev pub PointsFinish : Type 0
 PointsFinish = (h : Held) (world : World) (p : Progress) (result : Result (Unit {0}) Fault) (d : Disk) → RunsOn h world p → AreSectors (reads d) → Finishes p.work result h.disk d
     → LeavesOnly h.disk d (EitherImage world (world_behind p world)) × OnOk result (RunsReady (record h { world = world_behind p world; room = done p.free h.room; disk = d }) (world_behind p world) (kept_behind h p))
 
--- A change of the live tree that has room on both roots is appended between two steps: a crash in its course leaves an image of the settled world from before it, or of the one after it.
+-- A call that fits on the root that counts fits on that of the point in progress too, with what was charged since that began.
+abbrev pub CallsFitOnNext : Type 0
+CallsFitOnNext = (h : Held) (world : World) (p : Progress) (nameless : ℕ) (o : Outcome) → RunsOn h world p → fits limits_written h.room nameless o ≡ true → fits limits_written (done p.free h.room) nameless o ≡ true
+
+-- A change of the live tree that has room on the root that counts is appended between two steps: a crash in its course leaves an image of the settled world from before it, or of the one after it.
 abbrev pub AppendsLeaveEither : Type 0
 AppendsLeaveEither = (old new : Held) (world next : World) (p : Progress) (change : Change) (tree : Tree) (r : RunsOn old world p) → IsSpelled change → apply limits_written change world.live ≡ Some tree → IsOfTree world tree next → IsHierarchy world.live → HasRoomFor old.room world.live change → HasAgeLeft r.runs.root
     → Touches (InHalf (base_at old.at)) old.disk new.disk → LeavesEither old.at change old.disk new.disk
@@ -63,7 +68,7 @@ AppendsLeaveEither = (old new : Held) (world next : World) (p : Progress) (chang
 
 -- Once its record stands, and it is charged, the mount runs over the world after it, with the point where it was.
 abbrev pub AppendsGoOn : Type 0
-AppendsGoOn = (old new : Held) (world next : World) (p : Progress) (change : Change) (tree : Tree) (r : RunsOn old world p) → IsSpelled change → apply limits_written change world.live ≡ Some tree → IsOfTree world tree next → IsHierarchy world.live → HasRoomFor old.room world.live change → HasRoomFor (done p.free old.room) world.live change → HasAgeLeft r.runs.root
+AppendsGoOn = (old new : Held) (world next : World) (p : Progress) (change : Change) (tree : Tree) (r : RunsOn old world p) → IsSpelled change → apply limits_written change world.live ≡ Some tree → IsOfTree world tree next → IsHierarchy world.live → HasRoomFor old.room world.live change → HasAgeLeft r.runs.root
     → Touches (InHalf (base_at old.at)) old.disk new.disk → LeavesMore old.at change old.disk new.disk → AreSectors (reads new.disk)
     → new.at ≡ behind old.at change → new.room ≡ logged (charge_for limits_written world.live change) old.room → new.world ≡ next → nameless_in world.live ≤ nameless_in next.live
     → CarriesOn old.base world.live old.room.charged_since new.base next.live (old.room.charged_since + charge_for limits_written world.live change) → IsTree limits_written next.live

@@ -2,16 +2,13 @@
 use Rattle.std.specs.Prelude.{◌≡◌, ◌⊎◌, Bool, true, false, Option, None, Some}
 use Rattle.sn_device.specs.Disk.{Always}
 use Rattle.sn_device.specs.Sectors.{Contents}
-use Rattle.sn_model.specs.declared.change.Change.{Change}
 use Rattle.sn_model.specs.Machine.{State, Running, Stopped}
 use Rattle.sn_model.specs.Settling.{settle}
 use Rattle.sn_model.specs.Tree.{Tree}
 use Rattle.sn_model.specs.World.{Trees, World}
-use Rattle.sn_room.specs.Rooms.{RoomCounts, done}
 use Rattle.sn_held.specs.Held.{Going, Held, RunsReady}
 use Rattle.sn_held.specs.Images.{IsImage}
 use Rattle.sn_held.specs.Moments.{ShowsState}
-use Rattle.sn_held.specs.Room.{HasRoomFor}
 use Rattle.sn_cp_progress.specs.Progress.{Progress, RunsOn}
 
 -- contents are an image of one settled world or of another
@@ -31,8 +28,3 @@ RunsWith (Some going) h world = (built : Tree) × RunsOn h world (progress_over 
 abbrev pub Means : Held → Bool → State → Type 0
 Means h has_stopped (Running world) = (has_stopped ≡ false) × RunsWith h.point h world
 Means h has_stopped (Stopped before after) = (has_stopped ≡ true) × Always h.disk (ShowsState (Stopped before after))
-
--- A change has room on the root that counts, and on that of the point in progress.
-abbrev pub HasRoomWith : Option Going → RoomCounts → Tree → Change → Type 0
-HasRoomWith None room tree change = HasRoomFor room tree change
-HasRoomWith (Some going) room tree change = HasRoomFor room tree change × HasRoomFor (done going.free room) tree change

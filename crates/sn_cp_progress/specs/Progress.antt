@@ -24,7 +24,7 @@ use Rattle.sn_held.specs.Room.{IsCharged}
 use Rattle.sn_cp.specs.Points.{Work}
 use Rattle.sn_cp.specs.Steps.{IsWhole, IsWithin, StandsAtStage}
 use Rattle.sn_cp.specs.declared.stage.Stage.{Stage}
-use Rattle.sn_cp_held.specs.Wholes.{IsFollowing}
+use Rattle.sn_cp_held.specs.Wholes.{IsFollowing, TakesNoMore}
 
 -- A point was built of these trees over this root, for the slot that doesn't count: wherever its blocks stand beside what the root reaches, its root is sound with its snapshots and its map. It has an age left.
 pub record IsOfTrees (n : ℕ) (s : Store) (counts : Slot) (root : RootBody) (trees : Trees) (w : Work) : Type 0 where
@@ -43,7 +43,7 @@ pub record Progress : Type 0 where
   pub trees : Trees
   pub free : ℕ
 
--- The point is in progress in a mount that runs. What is logged is logged under the next epoch, from its first record on: those changes make of the tree that it was built of one that covers the live one, and what they were charged, with a charge for each file without names, is no more than the next root leaves free. What is kept is of the root that counts, but that the live tree is seen through what changed over that tree.
+-- The point is in progress in a mount that runs. What is logged is logged under the next epoch, from its first record on: those changes make of the tree that it was built of one that covers the live one, and what they were charged, with a charge for each file without names, is no more than the next root leaves free, which takes no more than was charged before. What is kept is of the root that counts, but that the live tree is seen through what changed over that tree.
 pub record InProgress (h : Held) (world : World) (r : Runs h world) (p : Progress) : Type 0 where
   pub of : IsOfTrees h.at.blocks r.store r.slot r.root p.trees p.work
   pub within : IsWithin p.work p.stage
@@ -53,6 +53,7 @@ pub record InProgress (h : Held) (world : World) (r : Runs h world) (p : Progres
   pub none_later : Always h.disk (λ c. HasNoLater c (base_of h.at.blocks r.root.epoch) r.root.epoch)
   pub cover : MakesCover limits_written r.newer p.trees.live world.live
   pub charged : (t : Store) → SameIn (all_reach r.store r.root) r.store t → HoldsAll t p.work.plan.blocks → IsCharged (done p.free h.room) h.at.blocks t p.work.plan.next r.newer world.live
+  pub takes : TakesNoMore p.free h.room
   pub slot : h.base.slot ≡ r.slot
   pub root : h.base.root ≡ r.root
   pub changed : HasChanged limits_written h.base.changed p.trees.live world.live h.room.charged_since

@@ -13,8 +13,10 @@
 //! - `steps`, `ends`: a crash at any moment of a step leaves an image of the settled world, in the last one maybe of that with
 //!   the point's snapshots (`EitherImage`); behind that one the mount is ready for another point, over the next root, with
 //!   these snapshots and with what was logged since. So do all that are left, made in a row (`finishes`).
+//! - `fits`: a call that fits on the root that counts fits on that of the point in progress too, since that takes no more
+//!   of what is free than was charged before the point began.
 //! - `either`, `appends`: a call that is logged between two steps leaves to a crash the world before it or the one after it,
-//!   and the point where it was. It has to fit on both roots.
+//!   and the point where it was.
 //! - `drops`: so does a call that logs nothing.
 //!
 //! What a mounted file system means is said here too (`Means`), since it runs either between two points or with one in progress.

@@ -1,4 +1,4 @@
-use Rattle.sn_cp_progress.proofs.CallLemmas.{appends_go_on, appends_leave, drops_go_on}
+use Rattle.sn_cp_progress.proofs.CallLemmas.{appends_go_on, appends_leave, drops_go_on, fits_on_next}
 use Rattle.sn_cp_progress.proofs.EndLemmas.{point_begins, point_ends, point_finishes}
 use Rattle.sn_cp_progress.proofs.StepLemmas.{step_goes_on, step_leaves}
 use Rattle.sn_cp_progress.proofs.laws.progress_laws.Goals as goal
@@ -14,6 +14,9 @@ returns-clause-ends c h world p result d ro whole is_last step = point_ends h wo
 
 pub returns-clause-finishes : goal.returns-clause-finishes
 returns-clause-finishes c h world p result d ro whole all = point_finishes h world p result d ro whole all
+
+pub returns-clause-fits : goal.returns-clause-fits
+returns-clause-fits c = fits_on_next
 
 pub returns-clause-either : goal.returns-clause-either
 returns-clause-either c = appends_leave
