@@ -18,7 +18,7 @@ use Rattle.sn_model.specs.Changes.{apply}
 use Rattle.sn_model.specs.Charges.{charge_for}
 use Rattle.sn_model.specs.NameTree.{IsHierarchy}
 use Rattle.sn_overlay.specs.Needs.{AreCharged, nameless_in}
-use Rattle.sn_room.specs.Rooms.{RoomCounts, charged_behind, done, dropping, fits, gives_back}
+use Rattle.sn_room.specs.Rooms.{RoomCounts, charged_behind, dropping, gives_back}
 use Rattle.sn_room.specs.Rooms.{logged as logs}
 use Rattle.sn_held.specs.Room.{HasRoomFor}
 use Rattle.sn_model.specs.Machine.{State, Running, Stopped, Mishap, Memory, Read, Write, EventStep, refused}
@@ -49,14 +49,14 @@ use Rattle.sn_ondisk.specs.LogHalf.{InHalf}
 use Rattle.sn_log.specs.Positions.{base_at, behind}
 use Rattle.sn_held.specs.Events.{IsOfTree, LeavesEither, LeavesMore}
 use Rattle.sn_held.specs.Held.{CarriesOn, Going, Held, Kept}
-use Rattle.sn_cp_progress.specs.Meaning.{HasRoomWith, Means, RunsWith}
-use Rattle.sn_cp_progress.proofs.MeaningLemmas.{appends_with, counted_with, room_with, root_with, runs_with, stays_lasts}
+use Rattle.sn_cp_progress.specs.Meaning.{Means, RunsWith}
+use Rattle.sn_cp_progress.proofs.MeaningLemmas.{appends_with, counted_with, root_with, runs_with, stays_lasts}
 use Rattle.sn_sound.specs.Logs.{HasAgeLeft}
 use Rattle.sn_examine.specs.Failing.{HasFailed}
 use Rattle.sn_block.specs.Counts.{FailsRead, IsLater}
 use Rattle.sn_model.specs.Calls.{ready}
 use Rattle.sn_held.proofs.EventLemmas.{left_of_tree, runs_lasts, stops_between, stops_lasts}
-use Rattle.sn_events.specs.Answers.{Answers, AsksFirst, HasAll, IsChangeOf, Lacks, LacksFirst, MayMeet, fits_with, is_fitting, writes_of, HasDropped, Leaves, with_record, CarriesCharge}
+use Rattle.sn_events.specs.Answers.{Answers, AsksFirst, HasAll, IsChangeOf, Lacks, LacksFirst, MayMeet, is_fitting, writes_of, HasDropped, Leaves, with_record, CarriesCharge}
 use Rattle.sn_events.specs.Changing.{FailsChange, IsLogged, errno_of, stops}
 use Rattle.sn_events.specs.Mounted.{RunsNow}
 use Rattle.sn_events.specs.Serving.{DropsFiles, IsUndecided, Serves, ServesFrom, ServesTo, Turns, reply_to}
@@ -229,10 +229,6 @@ drops_carry old new w session caller charged hierarchy drops = record {
   changed = λ root changed. callers_drop limits_written old.changed new.changed root charged w session caller drops.files figures hierarchy changed drops.gone drops.leads;
 }
 
-both_true : (a b : Bool) → (a && b) ≡ true → (a ≡ true) × (b ≡ true)
-both_true true b e = (refl, e)
-both_true false b e = absurd (true≢false (sym e))
-
 -- the call has an outcome, and a change was chosen
 module _ (old : Held) (session : ℕ) (c : Call) (o : Outcome) (picked : Chosen) (change : Change) (numbers : IsCall c) (whole : IsWorld limits_written old.world) (decided : decision limits_written old.world session c ≡ Ok o) (chosen : Chooses old.world.live old.kept o.change o.caller picked) (some : picked.change ≡ Some change) where
   can : CanBeMade old.world change
@@ -246,15 +242,8 @@ module _ (old : Held) (session : ℕ) (c : Call) (o : Outcome) (picked : Chosen)
   charge_is = charge_of_change old.world old.kept session c o picked change decided chosen some
 
   -- where it fits, there is room for it on top of what was charged
-  room_on : (room : RoomCounts) → fits limits_written room (nameless_in old.world.live) o ≡ true → HasRoomFor room old.world.live change
-  room_on room it_fits = omega (arith, leb-true (charged_behind limits_written room (nameless_in old.world.live) o + (if gives_back o.change then 0 else limits_written.reserve)) room.free it_fits, charge_is)
-
-  room_along : (point : Option Going) → fits_with point old.room (nameless_in old.world.live) o ≡ true → HasRoomWith point old.room old.world.live change
-  room_along None it_fits = room_on old.room it_fits
-  room_along (Some going) it_fits = let both = both_true _ _ it_fits in (room_on old.room both.0, room_on (done going.free old.room) both.1)
-
   has_room : is_fitting old o ≡ true → HasRoomFor old.room old.world.live change
-  has_room it_fits = room_with old.point old.room old.world.live change (room_along old.point it_fits)
+  has_room it_fits = omega (arith, leb-true (charged_behind limits_written old.room (nameless_in old.world.live) o + (if gives_back o.change then 0 else limits_written.reserve)) old.room.free it_fits, charge_is)
 
   -- the world that it makes
   abbrev pub next_with : Tree → World
@@ -415,7 +404,7 @@ module _ (old : Held) (session : ℕ) (c : Call) (o : Outcome) (picked : Chosen)
         let of = of_tree tree in
         let more = subst (LeavesMore old.at change old.disk) (sym disk_is) logged.acknowledged in
         subst (λ (p : Option Going). RunsWith p new next) (sym point_is)
-        (appends_with old.point old new old.world next change tree r can.spelled logged.made.applied of whole.live.hierarchy (room_along old.point all.fits) all.age touched more (subst (λ (d : Disk). AreSectors (reads d)) (sym disk_is) logged.sectors) (subst IsSynced (sym disk_is) logged.synced) at_is room_is world_is
+        (appends_with old.point old new old.world next change tree r can.spelled logged.made.applied of whole.live.hierarchy (has_room all.fits) all.age touched more (subst (λ (d : Disk). AreSectors (reads d)) (sym disk_is) logged.sectors) (subst IsSynced (sym disk_is) logged.synced) at_is room_is world_is
         (no_fewer tree logged.made.applied) carried whole_next.live)
 
     pub made_whole : IsWorld limits_written new.world

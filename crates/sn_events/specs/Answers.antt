@@ -1,5 +1,5 @@
 -- What an event leads a mounted file system to, on its disk too.
-use Rattle.std.specs.Prelude.{◌≡◌, ◌≢◌, ◌⊎◌, ℕ, ◌+◌, ◌-◌, ◌*◌, ◌≤◌, Bool, false, true, ◌&&◌, ◌||◌, Option, None, Some, Ok, length}
+use Rattle.std.specs.Prelude.{◌≡◌, ◌≢◌, ◌⊎◌, ℕ, ◌+◌, ◌-◌, ◌*◌, ◌≤◌, Bool, false, true, ◌||◌, Option, None, Some, Ok, length}
 use Rattle.std.proofs.Common.{inl, inr}
 use Rattle.sn_device.specs.Crash.{Touches}
 use Rattle.sn_device.specs.Disk.{Disk, reads}
@@ -36,7 +36,7 @@ use Rattle.sn_held.specs.Room.{HasRoomOf}
 use Rattle.sn_overlay.specs.Layers.{Layer}
 use Rattle.sn_overlay.specs.Needs.{nameless_in, need}
 use Rattle.sn_overlay.specs.Overlays.{no_changes}
-use Rattle.sn_room.specs.Rooms.{RoomCounts, begun, done, dropping, fits, logged}
+use Rattle.sn_room.specs.Rooms.{begun, done, dropping, fits, logged}
 use Rattle.sn_sound.specs.Logs.{HasAgeLeft}
 use Rattle.sn_root.specs.declared.following.PointKind.TheVariants.{Ordinary}
 use Rattle.sn_cp.specs.Counting.{steps_left, syncs_left, writes_left}
@@ -65,13 +65,9 @@ pub record IsChangeOf (world : World) (kept : ℕ → Bool) (session : ℕ) (c :
   pub chosen : Chooses world.live kept outcome.change outcome.caller picked
   pub is : picked.change ≡ Some change
 
--- whether a call fits that comes to this, on top of what was logged: on the root that counts, and on that of a point in progress
-abbrev pub fits_with : Option Going → RoomCounts → ℕ → Outcome → Bool
-fits_with None room nameless o = fits limits_written room nameless o
-fits_with (Some going) room nameless o = fits limits_written room nameless o && fits limits_written (done going.free room) nameless o
-
+-- whether a call fits that comes to this, on top of what was logged
 abbrev pub is_fitting : Held → Outcome → Bool
-is_fitting h o = fits_with h.point h.room (nameless_in h.world.live) o
+is_fitting h o = fits limits_written h.room (nameless_in h.world.live) o
 
 -- the charge of a call's change, with those from before it, is more than is free
 pub record DoesNotFit (h : Held) (session : ℕ) (c : Call) : Type 0 where

@@ -67,23 +67,13 @@ impl<D: Device> Fs<D> {
         self.world.prepare_caller(caller)
     }
 
-    /// Whether a call fits that comes to this: on the root that counts, and on that of the point in progress.
+    /// Whether a call fits that comes to this, on the root that counts. So it does on that of the point in progress.
     fn fits(&self, outcome: &Outcome<'_>) -> bool
         ensures exact { IsOver self.now.world (tree_of self.now) → result ≡ is_fitting (held self.now) outcome.now }
         ensures within { IsTrue result → charged_behind limits_written self.now.room (nameless_of self.now.world) outcome.now < 2 ^ 32 }
     {
-        let nameless = self.world.nameless();
-        if !self.room.fits(&Limits::WRITTEN, nameless, outcome) {
-            return false;
-        }
-        match &self.going {
-            Some(going) => {
-                let mut behind = self.room;
-                behind.end_point(going.free);
-                behind.fits(&Limits::WRITTEN, nameless, outcome)
-            }
-            None => true,
-        }
+        self.room
+            .fits(&Limits::WRITTEN, self.world.nameless(), outcome)
     }
 
     /// Whether a change lacks something that a whole point gives: room for its record in the log or for its charge on

@@ -1,5 +1,6 @@
 -- What points leave of a run, and of their steps.
-use Rattle.std.proofs.Common.{◌≡◌, inl, inr, ℕ, ◌+◌, Bool, false, List, [], ◌∷◌, Option, None, Some, Result, Ok, Err, refl, sym, ap, subst, ◌∙◌, arith}
+use Rattle.std.proofs.Common.{◌≡◌, inl, inr, ℕ, ◌+◌, Bool, false, true, List, [], ◌∷◌, Option, None, Some, Result, Ok, Err, refl, sym, ap, subst, ◌∙◌, arith}
+use Rattle.std.proofs.lemmas.Bool.{true≢false}
 use Rattle.sn_device.specs.Disk.{Always}
 use Rattle.sn_limits.specs.Versions.{limits_written}
 use Rattle.sn_model.specs.declared.call.Call.{Call}
@@ -15,10 +16,13 @@ use Rattle.sn_model.specs.Machine.{State, Running, Stopped, Mishap, Memory, Read
 use Rattle.sn_model.specs.Settling.{settle}
 use Rattle.sn_model.specs.Steps.{AsksForPoint, Becomes, decision}
 use Rattle.sn_model.specs.World.{World}
+use Rattle.sn_overlay.specs.Needs.{nameless_in}
+use Rattle.sn_room.specs.Rooms.{done, fits}
 use Rattle.sn_held.specs.Held.{Going, Held, RunsReady}
-use Rattle.sn_cp_progress.specs.Meaning.{Means, RunsWith}
+use Rattle.sn_cp_progress.specs.Meaning.{Means, RunsWith, progress_over}
+use Rattle.sn_cp_progress.proofs.CallLemmas.{fits_on_next}
 use Rattle.sn_cp_progress.proofs.MeaningLemmas.{runs_with}
-use Rattle.sn_events.specs.Answers.{AnswersFrom, AsksFirst, HasMadePoint, IsBehindFinish, Leaves, left_of}
+use Rattle.sn_events.specs.Answers.{AnswersFrom, AsksFirst, HasMadePoint, IsBehindFinish, Leaves, is_fitting, left_of}
 use Rattle.sn_events.specs.Durable.{IsInItsRoot}
 use Rattle.sn_events.specs.Mounting.{IsFresh}
 use Rattle.sn_events.proofs.CountedLemmas.{counts_event}
@@ -63,6 +67,17 @@ module _ (old new : Held) (had has : Bool) (session : ℕ) (c : Call) (asks : As
 
 pub syncs_leave_all : (old new : Standing) (session : ℕ) (c : Call) → AsksForPoint c → Means old.held old.has_stopped old.state → Goes old (event.Call session c) answer.Done new → Always new.held.disk (IsInItsRoot new.held.world.live (settle new.held.world))
 syncs_leave_all old new session c asks means goes = let a = goes.answers in leaves_all old.held new.held old.has_stopped new.has_stopped session c asks old.state a.met a.next a.fin a.mid a.finish a.step means a.means a.leaves
+
+-- ---- a call that fits
+
+pub fits_on_both : (s : Standing) (going : Going) (o : Outcome) → s.held.point ≡ Some going → Means s.held false s.state → is_fitting s.held o ≡ true → fits limits_written (done going.free s.held.room) (nameless_in s.held.world.live) o ≡ true
+fits_on_both s going o is means it_fits = told s.state means
+  where
+    told : (state : State) → Means s.held false state → fits limits_written (done going.free s.held.room) (nameless_in s.held.world.live) o ≡ true
+    told (Running w) m =
+        let on = subst (λ (point : Option Going). RunsWith point s.held w) is m.1 in
+        fits_on_next s.held w (progress_over going (record { live = on.0; frozen = w.frozen })) (nameless_in s.held.world.live) o on.1 it_fits
+    told (Stopped before after) m = absurd (true≢false (sym m.0))
 
 -- ---- steps, one after the other, with what comes between
 

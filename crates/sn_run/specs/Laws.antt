@@ -1,5 +1,5 @@
 -- What crashes leave of runs, life by life, and what points leave and cost.
-use Rattle.std.specs.Prelude.{◌≡◌, false, Option, None, Some, List, [], ◌∷◌, ℕ, ◌+◌, ◌<◌, ◌≤◌}
+use Rattle.std.specs.Prelude.{◌≡◌, false, true, Option, None, Some, List, [], ◌∷◌, ℕ, ◌+◌, ◌<◌, ◌≤◌}
 use Rattle.sn_device.specs.Sectors.{Contents}
 use Rattle.sn_device.specs.Status.{has_ended}
 use Rattle.sn_limits.specs.Versions.{limits_written}
@@ -17,11 +17,13 @@ use Rattle.sn_layout.specs.Geometry.{map_blocks}
 use Rattle.sn_model.specs.declared.call.Call.{Call}
 use Rattle.sn_model.specs.Settling.{settle}
 use Rattle.sn_model.specs.Steps.{AsksForPoint}
-use Rattle.sn_overlay.specs.Needs.{need}
+use Rattle.sn_model.specs.declared.outcome.Outcome.{Outcome}
+use Rattle.sn_overlay.specs.Needs.{nameless_in, need}
+use Rattle.sn_room.specs.Rooms.{done, fits}
 use Rattle.sn_held.specs.Held.{Going, Held}
 use Rattle.sn_cp_progress.specs.Meaning.{Means}
 use Rattle.sn_examine.specs.Failing.{CostsAtMost}
-use Rattle.sn_events.specs.Answers.{HasBegun, counts_down, left_of, NeedsPoint}
+use Rattle.sn_events.specs.Answers.{HasBegun, counts_down, is_fitting, left_of, NeedsPoint}
 use Rattle.sn_events.specs.Durable.{IsInItsRoot}
 use Rattle.sn_model.specs.Worlds.{IsWorld}
 
@@ -66,6 +68,11 @@ SyncsLeaveAll = (old new : Standing) (session : ℕ) (c : Call) → AsksForPoint
 -- A call that needs no point makes at most the 131 writes and the two syncs of the longest record, however it is answered.
 abbrev pub CallsAreSmall : Type 0
 CallsAreSmall = (old new : Standing) (session : ℕ) (c : Call) (reply : Reply) → IsWorld limits_written old.held.world → (NeedsPoint old.held (event.Call session c) → ⊥) → Goes old (event.Call session c) reply new → CostsAtMost 131 2 old.held.status new.held.status
+
+-- A call that fits on the root that counts fits on that of the point in progress too, with what was charged since that began.
+abbrev pub CallsFitOnBoth : Type 0
+CallsFitOnBoth = (s : Standing) (going : Going) (o : Outcome) → s.held.point ≡ Some going → Means s.held false s.state → is_fitting s.held o ≡ true
+    → fits limits_written (done going.free s.held.room) (nameless_in s.held.world.live) o ≡ true
 
 -- A step makes at most eight writes and a sync, however it is answered.
 abbrev pub StepsAreSmall : Type 0

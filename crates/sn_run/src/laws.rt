@@ -1,6 +1,6 @@
 //! The laws that the definitions of `specs/` keep.
 ghost use Rattle.sn_run.specs.Causes.{OnlyItsEndFails};
-ghost use Rattle.sn_run.specs.Laws.{CallsAreSmall, LivesAreLives, NoFailureIsInvented, PointsAreFewSteps, StepsAreSmall, StepsAreSpent, StepsWrite, SyncsLeaveAll};
+ghost use Rattle.sn_run.specs.Laws.{CallsAreSmall, CallsFitOnBoth, LivesAreLives, NoFailureIsInvented, PointsAreFewSteps, StepsAreSmall, StepsAreSpent, StepsWrite, SyncsLeaveAll};
 
 use sn_record::payloads_fit;
 
@@ -26,9 +26,11 @@ pub fn sync_laws()
     ensures { SyncsLeaveAll }
 {}
 
-/// A call that needs no point makes at most the writes and the two syncs of the longest record.
+/// A call that needs no point makes at most the writes and the two syncs of the longest record. While a point is in
+/// progress its root makes no call need another that fits on the root that counts.
 pub fn call_laws()
-    ensures { CallsAreSmall }
+    ensures small { CallsAreSmall }
+    ensures fits { CallsFitOnBoth }
 {
     payloads_fit();
 }

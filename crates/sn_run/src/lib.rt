@@ -17,7 +17,8 @@
 //! - [`only_its_end_fails`]: where the device's count of failures stayed, each failure was the device's end: a
 //!   device whose type keeps that count at 0 fails in no other way.
 //! - [`sync_laws`]: behind a `sync` that is answered the newest root has all of the world.
-//! - [`call_laws`]: a call that needs no point makes at most 131 writes and two syncs.
+//! - [`call_laws`]: a call that needs no point makes at most 131 writes and two syncs. One that fits on the root that counts
+//!   fits on that of a point in progress too.
 //! - [`step_laws`]: a step makes at most eight writes and a sync, and a point has so many steps at most.
 //! - [`crash_laws`]: so it is over lives, each of which begins from what a crash in the one before has left.
 //!
