@@ -275,8 +275,9 @@ def refuse_memory(words, folder):
 
 def sweep_row(number):
     """What the test program tells of the whole sweeps over a row."""
-    program = TESTS / "out/sn_tests_restarts"
-    run = subprocess.run([program, ".", str(number), "1"], cwd=TESTS / "data", capture_output=True, text=True)
+    program, is_old = TESTS / "out/sn_tests_restarts", number >= len(NAMES)
+    words = ("versions", str(number - len(NAMES))) if is_old else ("hostile", str(number))
+    run = subprocess.run([program, ".", *words, "1"], cwd=TESTS / "data", capture_output=True, text=True)
     return (NAMES + OLD_NAMES)[number], run.stdout, run.returncode
 
 
@@ -296,9 +297,10 @@ def sweep_device(words, _):
 
 # What is left of the test program, which isn't built for speed here: the row frozen, with fewer calls that fail.
 LESS = (
-    ("crates/sn_tests_restarts/src/main.rt", "sn_tests_runs::run(&mut report)?;", ""),
+    ("crates/sn_tests_restarts/src/main.rt", "sn_tests_runs::run(report)?;", ""),
+    ("crates/sn_tests_restarts/src/main.rt", "sn_tests_versions::run(report)", "Ok(())"),
     ("crates/sn_tests_hostile/src/lib.rt", "spoilt::run(report)", "Ok(())"),
-    ("crates/sn_tests_hostile/src/sweeps.rt", "sweep_of(report, 0..ROWS.len(), SOME)", "sweep_of(report, 4..5, SOME)"),
+    ("crates/sn_tests_hostile/src/lib.rt", "sweep_rows(report, &(0..ROWS.len()), Extent::SOME)", "sweep_rows(report, &(4..5), Extent::SOME)"),
     ("crates/sn_tests_hostile/src/sweeps.rt", "    calls: 5,", "    calls: 11,"),
     ("crates/sn_tests_hostile/src/sweeps.rt", "Spacing { row: 24, mount: 7 }", "Spacing { row: 200, mount: 50 }"),
 )

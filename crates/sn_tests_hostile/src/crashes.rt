@@ -1,52 +1,14 @@
-//! Runs of a row whose device stops behind a number of writes, and crashes.
+//! Runs of a row whose device stops after a number of writes, and crashes.
 //!
 //! What is wanted is that each reply up to the stop is the row's, that the event in flight tells it and no later one is served,
 //! and that the disk is then found as the last event that was answered left it, or the one in flight, with the frozen trees as they
 //! were.
 
-use crate::rows::{Row, Told, told_on};
+use crate::rows::{Row, lines_from};
 use anyhow::Result;
-use sn_device::MemDevice;
 use sn_model::{End, MountFault};
-use sn_testing_mounts::{FILLS, crashed};
-use sn_testing_tables::{Report, Tally};
-use std::alloc::Global;
-
-/// The kinds of crashes: the five fills of one kind, one that draws each byte of what wasn't synced, and one that leaves any of
-/// its sectors old and any new, and tears others.
-pub const KINDS: u32 = 7;
-
-/// A device that stops behind so many writes, and then a crash of a kind.
-#[derive(Clone, Copy)]
-pub struct Cut {
-    pub stop: u32,
-    pub kind: u32,
-}
-
-impl Cut {
-    /// The number that `crashed` tells the crash by: what is drawn is drawn anew for each number of writes.
-    fn crash(self) -> u32 {
-        match self.kind {
-            0..5 => self.kind,
-            5 => 5 + self.stop % (FILLS - 5),
-            _ => FILLS.saturating_add(self.stop),
-        }
-    }
-}
-
-/// A run of a script on a device that is cut short, and the device behind the crash.
-pub fn cut_on(alloc: Global, device: MemDevice, script: &str, cut: Cut) -> Result<Told> {
-    let mut device = device;
-    device.stop_at(u64::from(cut.stop));
-    let told = told_on(alloc, device, script)?;
-    crash(alloc, told, cut)
-}
-
-fn crash(alloc: Global, told: Told, cut: Cut) -> Result<Told> {
-    let Told { lines, end, device } = told;
-    let device = crashed(alloc, device, cut.crash())?;
-    Ok(Told { lines, end, device })
-}
+use sn_testing_runs::{Cut, Harm, KINDS, Told};
+use sn_testing_tables::Tally;
 
 /// Whether an event that a stopped device can't serve is answered so.
 fn is_refused(is_restart: bool, is_first: bool, line: &str) -> bool {
@@ -60,8 +22,9 @@ fn is_refused(is_restart: bool, is_first: bool, line: &str) -> bool {
 
 /// Whether each event from a place on is refused, the first of them as the one that has met the stop.
 fn are_refused(row: &Row, place: usize, lines: &str) -> bool {
-    for (at, line) in lines.lines().enumerate().skip(place) {
-        if !is_refused(row.is_restart(at), at == place, line) {
+    let events = row.rest(place).lines();
+    for (at, (event, line)) in events.zip(lines_from(lines, place).lines()).enumerate() {
+        if !is_refused(event == "restart", at == 0, line) {
             return false;
         }
     }
@@ -69,8 +32,9 @@ fn are_refused(row: &Row, place: usize, lines: &str) -> bool {
 }
 
 /// Whether a run that was cut short was answered and ended as it may, where so many replies are the row's.
-fn is_told(row: &Row, lines: &str, end: End, answered: usize) -> bool {
-    match end {
+fn is_told(row: &Row, told: &Told, answered: usize) -> bool {
+    let lines = told.lines.as_str();
+    match told.end {
         End::Clean => answered == row.events(),
         End::Stopped => lines.lines().count() == row.events() && are_refused(row, answered, lines),
         End::Mount(fault) => fault == MountFault::Device && lines.is_empty(),
@@ -79,18 +43,17 @@ fn is_told(row: &Row, lines: &str, end: End, answered: usize) -> bool {
 }
 
 /// Whether a row that is cut short so is told and found as it may be.
-fn is_right(alloc: Global, row: &Row, cut: Cut) -> Result<bool> {
-    let Told { lines, end, device } = cut_on(alloc, row.device()?, row.script(), cut)?;
-    let answered = row.answered(lines.as_str());
-    let is_told = is_told(row, lines.as_str(), end, answered);
-    let found = row.find(device)?;
-    Ok(is_told && row.may_be_found(answered, found.as_str()))
+fn is_right(row: &Row, cut: Cut) -> Result<bool> {
+    let told = row.run(row.script(), Harm::Stops(cut))?;
+    let found = row.find(told.left.as_slice())?;
+    let answered = row.answered(told.lines.as_str());
+    Ok(is_told(row, &told, answered) && row.may_be_found(answered, found.as_str()))
 }
 
-/// Where a row is cut short: behind each so-manieth of its writes, with so many kinds of crashes at each, another one first at the
+/// Where a row is cut short: after each so-manieth of its writes, with so many kinds of crashes at each, another one first at the
 /// next.
-pub fn cuts_of(alloc: Global, row: &Row, spacing: u32, kinds: u32) -> Result<Vec<Cut>> {
-    let mut cuts = Vec::new(alloc);
+pub fn cuts_of(row: &Row, spacing: u32, kinds: u32) -> Result<Vec<Cut>> {
+    let mut cuts = Vec::new(row.alloc());
     for stop in 0..row.writes().saturating_add(1) {
         if stop.checked_rem(spacing) == Some(0) {
             push_cuts(row, stop, kinds, &mut cuts)?;
@@ -107,13 +70,12 @@ fn push_cuts(row: &Row, stop: u32, kinds: u32, cuts: &mut Vec<Cut>) -> Result<()
     Ok(())
 }
 
-/// Cuts a row short behind each of its writes, with so many kinds of crashes at each.
-pub fn sweep(report: &Report<'_>, row: &Row, kinds: u32, tally: &mut Tally) -> Result<()> {
-    let cuts = cuts_of(report.alloc(), row, 1, kinds)?;
+/// Cuts a row short after each of its writes, with so many kinds of crashes at each.
+pub fn sweep(rt: &HostRuntime, row: &Row, kinds: u32, tally: &mut Tally) -> Result<()> {
+    let cuts = cuts_of(row, 1, kinds)?;
     for cut in cuts.iter() {
-        let is_right = is_right(report.alloc(), row, *cut)?;
-        let case = [row.number(), cut.stop, cut.kind];
-        tally.check(report.runtime(), is_right, &case)?;
+        let is_right = is_right(row, *cut)?;
+        tally.check(rt, is_right, &[row.number(), cut.stop, cut.kind])?;
     }
     Ok(())
 }

@@ -1,45 +1,16 @@
 //! Events as lines of text.
 
 use anyhow::{Result, ensure};
-use sn_device::MemDevice;
-use sn_model::{End, Event, Reply};
-use sn_replies::print_replies;
-use sn_run::{Ran, Unwatched, run};
-use sn_testing_mounts::{event_of, new_device};
+use sn_model::End;
+use sn_run::Ran;
+use sn_testing_mounts::new_device;
+use sn_testing_runs::{events_of, lines_of, ran};
 use std::alloc::Global;
-use std::str;
-
-/// What a run of events on a device comes to: of it nothing is promised, since it is compared.
-pub fn ran(alloc: Global, device: MemDevice, events: &[Event]) -> Ran<MemDevice> {
-    run(alloc, device, events, &mut Unwatched)
-}
-
-/// The events of a text, one a line.
-pub fn events_of(alloc: Global, text: &str) -> Result<Vec<Event>> {
-    let mut events = Vec::new(alloc);
-    for line in text.lines() {
-        events.push(event_of(alloc, line)?)?;
-    }
-    Ok(events)
-}
 
 /// A line for each event of a run on a new disk, which has to end well.
 pub fn replies(alloc: Global, text: &str) -> Result<String> {
     let events = events_of(alloc, text)?;
     let Ran { replies, end, .. } = ran(alloc, new_device(alloc)?, events.as_slice());
     ensure!(end == End::Clean, "no memory for the run");
-    lines_of(alloc, replies.as_slice())
-}
-
-/// The lines of replies.
-pub fn lines_of(alloc: Global, replies: &[Reply]) -> Result<String> {
-    let lines = print_replies(alloc, replies)?;
-    Ok(String::from_str(alloc, str::from_utf8(lines.as_slice())?)?)
-}
-
-/// A line for each event of a run on a device, or none where it isn't mounted.
-pub fn found_on(alloc: Global, device: MemDevice, text: &str) -> Result<String> {
-    let events = events_of(alloc, text)?;
-    let Ran { replies, .. } = ran(alloc, device, events.as_slice());
     lines_of(alloc, replies.as_slice())
 }

@@ -1,12 +1,12 @@
 //! Frozen trees in runs, which no call of a run made: a run ends, a snapshot is put by hand over the tree of the root that it
 //! leaves, and the next run begins. The places are those of a disk of 256 blocks, as `docs/FORMAT.md` has them.
 
-use crate::events::{lines_of, ran};
 use anyhow::{Context, Result, ensure};
 use sn_device::MemDevice;
 use sn_model::{End, Event};
 use sn_run::Ran;
 use sn_testing_mounts::{event_of, least_device};
+use sn_testing_runs::{bytes_of, lines_of, ran};
 use std::alloc::Global;
 
 /// Where the parts of a root begin.
@@ -51,14 +51,6 @@ pub fn replies(alloc: Global, text: &str) -> Result<String> {
     }
     image_behind(alloc, image.as_slice(), events.as_slice(), &mut lines)?;
     Ok(lines)
-}
-
-fn bytes_of(alloc: Global, device: &MemDevice) -> Result<Vec<u8>> {
-    let mut bytes = Vec::new(alloc);
-    for sector in device.contents() {
-        bytes.extend_from_slice(sector)?;
-    }
-    Ok(bytes)
 }
 
 /// What a run of events leaves of an image. Their replies are added to the lines.

@@ -3,12 +3,12 @@
 //! How many reads a run makes isn't promised. So the refused calls of a run are one case, which is right where each of them is
 //! told as it may be, and where there are as many of them as the run has writes and syncs.
 
-use crate::events::{events_of, ran};
 use anyhow::{Result, bail, ensure};
 use sn_device::{Device, MemDevice};
 use sn_model::{Call, End, Errno, Event, MountFault, Progress, Reply};
 use sn_run::Ran;
 use sn_testing_mounts::least_device;
+use sn_testing_runs::{events_of, ran};
 use sn_testing_tables::{Report, Tally};
 use std::alloc::Global;
 

@@ -4,12 +4,12 @@
 //! second alone, also in the unmount with which each run ends. Some records take several sectors, so that a crash may
 //! leave one of them without another, or a part of one. Steps, restarts, unmounts and calls that don't fit make roots.
 
-use crate::events::{events_of, found_on, lines_of as lines_of_replies, ran};
 use anyhow::{Result, ensure};
 use sn_device::{Device, MemDevice};
 use sn_model::{End, Event, Reply};
 use sn_run::Ran;
 use sn_testing_mounts::{FILLS, crashed, least_device};
+use sn_testing_runs::{events_of, found_on, lines_of as lines_of_replies, ran};
 use std::alloc::Global;
 use std::ops::Range;
 
