@@ -1,14 +1,20 @@
 #!/usr/bin/env python3
-"""Tells what looking a name up costs in a directory of 65,535 names, in blocks that are read and in time.
+"""Tells what large directories cost beside small ones: look-ups, names that are made, and a consistency point.
 
-    bench/lookup.py [NAMES [LENGTH]]
+    bench/lookup.py [--program PROGRAM] [--rounds N] [stat | mkdir | point ..]
 
-Run by hand: builds the program where it isn't up to date. The image is written by `made_image.py`, so by docs/FORMAT.md alone:
-one directory with NAMES names (65,535) of LENGTH bytes (8), of empty files. Runs of the program are compared, which ask for
-nothing, for one name, a thousand times for that name, and for a thousand names: how many blocks of the image each reads more
-than the run that asks for nothing, as the system counts them, and how long it takes more, the least of seven.
+Run by hand: builds the program where it isn't up to date, or takes the one that is named. Images are written by `made_image.py`,
+so by docs/FORMAT.md alone, into memory where the system has a folder for that. Told are ratios of times within this run, each the
+least of N rounds (5), without that of a run that doesn't make the calls that are timed, but all that stands before them:
+
+- `stat`: one among 65,535 names beside one among 100, of 8 and of 255 bytes, where a name is there and where it isn't. The
+  directory was gone through before. And the blocks that all these look-ups read of the image, and the time of the first one.
+- `mkdir`: 30,000 in one directory beside as many in directories of 50.
+- `point`: 100 renames among 65,535 names, spread over all its blocks, with the consistency point that a run ends with, beside 100
+  among 100 names; and the blocks that either writes.
 """
 
+import argparse
 import os
 import subprocess
 import sys
@@ -21,10 +27,24 @@ sys.dont_write_bytecode = True
 from made_image import Tree, write_image  # noqa: E402
 
 TOP = Path(__file__).resolve().parent.parent
-PROGRAM = TOP / "crates/sn_bin/out/sn_bin"
-ROUNDS = 7
-ASKED = 1000
-LINKS = 32767
+MEMORY = Path("/dev/shm")
+MANY, FEW = 65_535, 100
+LENGTHS = (8, 255)
+BLOCKS, MKDIR_BLOCKS = 32_768, 65_536
+ASKED, RENAMED = 2_000, 100
+MADE, SMALL = 30_000, 50
+LINKS = 32_767
+LOGIN = "0 login 0 0 -"
+BLOCK = 4096
+
+
+def names_of(count, length):
+    return [f"{number:05}".ljust(length, "n") for number in range(count)]
+
+
+def missing(number, length):
+    """A name as long as the others, which isn't there."""
+    return f"{number:05}".ljust(length, "o")
 
 
 def tree_of(names):
@@ -39,41 +59,119 @@ def tree_of(names):
     return tree
 
 
-def measured(image, lines):
-    """How often a run of these lines reads from a file, and how many milliseconds it takes."""
-    with tempfile.NamedTemporaryFile("w", suffix=".snap") as script:
-        script.write("".join(f"{line}\n" for line in lines))
-        script.flush()
+def spread(names, count):
+    """So many of the names, over all of them, and each as often where there are fewer."""
+    return [names[at * len(names) // count] for at in range(count)] if len(names) >= count else (names * count)[:count]
+
+
+class Run:
+    """What a run took: milliseconds, reads of the image, and bytes written to it."""
+
+    def __init__(self, taken, reads, written):
+        self.taken, self.reads, self.written = taken, reads, written
+
+    def beside(self, other):
+        """What it took more than another."""
+        return Run(max(self.taken - other.taken, 1e-3), self.reads - other.reads, self.written - other.written)
+
+
+class Bench:
+    """A program, and a folder for its images."""
+
+    def __init__(self, program, rounds, work):
+        self.program, self.rounds, self.work = program, rounds, Path(work)
+
+    def image(self, names):
+        path = self.work / "whole"
+        write_image(path, tree_of(names), BLOCKS)
+        return path
+
+    def once(self, image, lines):
+        """A run of these lines on a copy of an image."""
+        copy, script = self.work / "copy", self.work / "script.snap"
+        subprocess.run(["cp", "--sparse=always", image, copy], check=True)
+        script.write_text("".join(f"{line}\n" for line in lines))
         begun = time.perf_counter()
-        run = subprocess.Popen([PROGRAM, "run", image, script.name], stdout=subprocess.DEVNULL)
+        run = subprocess.Popen([self.program, "run", copy, script], stdout=subprocess.DEVNULL)
         os.waitid(os.P_PID, run.pid, os.WEXITED | os.WNOWAIT)
         taken = time.perf_counter() - begun
         counts = dict(line.split(": ") for line in Path(f"/proc/{run.pid}/io").read_text().splitlines())
         if run.wait() != 0:
             sys.exit("a run failed")
-    return int(counts["syscr"]), 1000 * taken
+        replies = sum(1 for _ in lines)  # Each is told on a line; what is told isn't written to the image.
+        return Run(1000 * taken, int(counts["syscr"]), int(counts["wchar"]) - replies)
+
+    def least(self, image, *scripts):
+        """The least times of runs of some scripts, which take turns."""
+        found = [[self.once(image, lines) for lines in scripts] for _ in range(self.rounds)]
+        return [Run(min(run.taken for run in runs), runs[-1].reads, runs[-1].written) for runs in zip(*found)]
 
 
-def least(image, lines):
-    """The reads of a run, which are those of each, and the least time of some."""
-    rounds = [measured(image, lines) for _ in range(ROUNDS)]
-    return rounds[-1][0], min(taken for _, taken in rounds)
+def stat(bench):
+    for length in LENGTHS:
+        told = {}
+        for count in (MANY, FEW):
+            names = names_of(count, length)
+            image = bench.image(names)
+            gone = [LOGIN, f"0 stat /d/{missing(count, length)}"]
+            hits = [f"0 stat /d/{name}" for name in spread(names, ASKED)]
+            misses = [f"0 stat /d/{missing(number, length)}" for number in range(ASKED)]
+            none, first, hit, miss = bench.least(image, [LOGIN], gone, gone + hits, gone + misses)
+            told[count] = [hit.beside(first), miss.beside(first), first.beside(none)]
+        for what, many, few in zip(("a name that is there", "one that isn't"), told[MANY], told[FEW]):
+            taken, small = many.taken / ASKED, few.taken / ASKED
+            print(f"{what}, of {length} bytes, among {MANY:,}: {taken / small:.1f} of one among {FEW} ({1000 * taken:.1f} us, {1000 * small:.1f} us), {many.reads} blocks read for {ASKED:,}")
+        first = told[MANY][2]
+        print(f"the first look-up, of {length} bytes, among {MANY:,}: {first.taken:.1f} ms, {first.reads} blocks read")
+
+
+def mkdir(bench):
+    image = bench.work / "whole"
+    subprocess.run([bench.program, "mkfs", image, str(MKDIR_BLOCKS)], check=True, stdout=subprocess.DEVNULL)
+    one = [f"0 mkdir /{number:05} 0755" for number in range(MADE)]
+    small = []
+    for number in range(MADE):
+        parent, place = divmod(number, SMALL + 1)
+        small.append(f"0 mkdir /{parent:05} 0755" if place == 0 else f"0 mkdir /{parent:05}/{place:05} 0755")
+    none, large, directories = bench.least(image, [LOGIN], [LOGIN, *one], [LOGIN, *small])
+    large, directories = large.beside(none).taken, directories.beside(none).taken
+    print(f"{MADE:,} mkdir in one directory: {large / directories:.2f} of as many in directories of {SMALL} ({large / 1000:.2f} s, {directories / 1000:.2f} s)")
+
+
+def point(bench):
+    for length in LENGTHS:
+        told = []
+        for count in (MANY, FEW):
+            names = names_of(count, length)
+            image = bench.image(names)
+            gone = [LOGIN, f"0 stat /d/{missing(count, length)}", "0 sync"]
+            changes = [f"0 rename /d/{name} /d/{name[:-1]}p" for name in spread(names, RENAMED)]
+            none, changed = bench.least(image, gone, [*gone, *changes, "0 sync"])
+            told.append(changed.beside(none))
+        many, few = told
+        print(
+            f"{RENAMED} renames and a point, of {length} bytes, among {MANY:,}: {many.taken:.1f} ms, {many.written // BLOCK} blocks written;"
+            f" among {FEW}: {few.taken:.1f} ms, {few.written // BLOCK} blocks written"
+        )
+
+
+SUBJECTS = {"stat": stat, "mkdir": mkdir, "point": point}
 
 
 def main():
-    count, length = [int(word) for word in sys.argv[1:]] + [65535, 8][len(sys.argv) - 1 :]
-    names = [f"{number:05}".ljust(length, "n") for number in range(count)]
-    with tempfile.TemporaryDirectory() as work:
-        image = Path(work) / "image"
+    parser = argparse.ArgumentParser(description=__doc__, formatter_class=argparse.RawDescriptionHelpFormatter)
+    parser.add_argument("--program", type=Path)
+    parser.add_argument("--rounds", type=int, default=5)
+    parser.add_argument("subjects", nargs="*", metavar="stat | mkdir | point")
+    asked = parser.parse_args()
+    program = asked.program
+    if program is None:
         subprocess.run([TOP / "snapfs", "--build"], check=True)
-        write_image(image, tree_of(names), 32768)
-        login = ["0 login 0 0 -"]
-        last = f"0 stat /d/{names[-1]}"
-        some = [f"0 stat /d/{name}" for name in names[:: max(1, count // ASKED)][:ASKED]]
-        nothing, idle = least(image, login)
-        for what, lines in (("one name", [last]), (f"that name {ASKED:,} times", [last] * ASKED), (f"{len(some):,} names", some)):
-            reads, taken = least(image, login + lines)
-            print(f"{what}: {reads - nothing} blocks read, {taken - idle:.2f} ms more than {idle:.2f} ms for none")
+        program = TOP / "crates/sn_bin/out/sn_bin"
+    with tempfile.TemporaryDirectory(dir=MEMORY if MEMORY.is_dir() else None) as work:
+        bench = Bench(program.resolve(), asked.rounds, work)
+        for subject in asked.subjects or SUBJECTS:
+            SUBJECTS[subject](bench)
 
 
 if __name__ == "__main__":

@@ -15,13 +15,21 @@ use sn_testing_tables::Report;
 use std::env;
 
 /// The parts, in the order in which they run.
-const PARTS: [&str; 5] = ["image", "fs", "live", "commands", "outputs"];
+const PARTS: [&str; 6] = [
+    "image",
+    "fs",
+    "live",
+    "directories",
+    "commands",
+    "outputs",
+];
 
 fn run(report: &mut Report<'_>, part: &str) -> Result<()> {
     match part {
         "image" => sn_tests_image::run(report),
         "fs" => sn_tests_fs::run(report),
         "live" => sn_tests_live::run(report),
+        "directories" => sn_tests_directories::run(report),
         "commands" => sn_tests_commands::run(report),
         "outputs" => sn_tests_outputs::run(report),
         _ => bail!("no such part: {part}"),

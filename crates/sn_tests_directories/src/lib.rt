@@ -1,0 +1,26 @@
+//! Directories of many blocks, beside the tree in memory and with blocks that can't be read.
+//!
+//! `drawing` has lists of calls on names of two directories, some of which have more than 40 blocks. `lists` says what the tree in
+//! memory answers to a list, and asks a disk the same. `drawn` compares the two, and asks each snapshot what the live tree was asked
+//! when it was made. `turns` looks names up in nine directories in turns. `failing` has a directory of 40 blocks, of which
+//! each read is refused once, and one with a block that is never read.
+//!
+//! No clause promises what comes out, since it is compared: `sn_tests_program` runs it. The tables are in `directories/`.
+#![tactic(auto)]
+
+mod drawing;
+mod drawn;
+mod failing;
+mod lists;
+mod names;
+mod turns;
+
+use anyhow::Result;
+use sn_testing_tables::Report;
+
+/// Compares the answers to all lists. A want of memory, and a table that can't be read, are errors.
+pub fn run(report: &mut Report<'_>) -> Result<()> {
+    drawn::run(report)?;
+    turns::run(report)?;
+    failing::run(report)
+}
