@@ -24,7 +24,7 @@ struct Asked {
     numbers: Range<usize>,
 }
 
-fn asked(rt: &HostRuntime) -> Result<Option<Asked>> {
+fn read_arguments(rt: &HostRuntime) -> Result<Option<Asked>> {
     let mut words = env::args(rt)?.skip(2);
     let Some(name) = words.next() else {
         return Ok(None);
@@ -53,7 +53,7 @@ fn run(report: &mut Report<'_>) -> Result<()> {
 
 fn main(rt: HostRuntime) -> Result<()> {
     let mut report = Report::new(&rt)?;
-    match asked(&rt)? {
+    match read_arguments(&rt)? {
         Some(asked) => sweep(&mut report, &asked)?,
         None => run(&mut report)?,
     }
