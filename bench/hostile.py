@@ -19,7 +19,8 @@ in turn, until none is left. What is wanted:
   `fault M6`; and the run ends with `snapfs: M6` or as stopped.
 - What is left is sound.
 
-`device` runs the test program of restarts, one process for each row, and prints what it counts. `bodies` runs it by `rt try`, which
+`device` runs the test program of restarts, one process for each row, and prints what it counts. Of the rows on disks of version 1 what
+follows a crash is cut short again after one of the seven kinds of crashes at each write, and else after all seven. `bodies` runs it by `rt try`, which
 proves nothing, on a copy of the repository with one wrong body, and prints what it tells: each has to be found. The status is 1 where
 anything was otherwise.
 """
