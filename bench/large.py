@@ -343,8 +343,12 @@ def spread(first, count):
 # What changes: 127 records fill a half, and twice that are held while a point is made in steps.
 SPREAD = "0 login 0 0 -\n0 open /spread wc 0644\n" + spread(0, 100) + "step\nstep\n" + spread(100, 100) + "0 sync\n"
 LONG = "0 login 0 0 -\n0 open /long wc 0644\n" + f"0 write 0 {'61' * 65536}\n" * 12 + "step\n" + f"0 write 0 {'62' * 65536}\n" * 2
+# A name that isn't there, which is looked for in all blocks of the directory: they come into its index.
+MISSING = "0 login 0 0 -\n0 stat /missing\n"
+# What an index has for each name, and for each block. While it is put in order, it is there twice.
+INDEXED, INDEXED_BLOCK = 8, 12
 # Each write of SPREAD changes two blocks and their indirect block; each of LONG sixteen. What changed is held, and what a point writes of it.
-CHANGED = {"": 0, SPREAD: 2 * 3 * 200, LONG: 2 * 17 * 4}
+CHANGED = {"": 0, MISSING: 0, SPREAD: 2 * 3 * 200, LONG: 2 * 17 * 4}
 
 
 def peak_of(folder, library, *words):
@@ -368,6 +372,9 @@ def tell_memory(program, folder):
         tasks = [("check", "", BOUND + 4 * blocks + image.names), ("a run", "", BOUND + 8 * blocks + image.names)]
         if name in ("a new image", "5,000 files of one block", "a new image of 1,048,576 blocks"):
             tasks += [("short writes", SPREAD, None), ("long writes", LONG, None)]
+        if name in ("all 65,534 numbers in use", "all of them, under names of 255 bytes"):
+            index = 2 * (INDEXED * 65_533 + INDEXED_BLOCK * in_use(image))
+            tasks += [("a look-up", MISSING, BOUND + 8 * blocks + image.names + index)]
         for task, script, bound in tasks:
             (work / "script").write_text(script)
             shutil.copyfile(work / "image", work / "copy")
