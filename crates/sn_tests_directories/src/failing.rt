@@ -1,37 +1,40 @@
 //! A directory of forty blocks, of which reads fail.
 //!
-//! Each call of the device is refused once, in turn: a look-up tells it, by EIO, or is right, and the next ones are right. Then
-//! one block is spoilt, so that no read of it serves: what stands in the blocks before it is found, and nothing else.
+//! A mount reads the whole tree. So a file of more blocks than are kept is read behind it, and then a name of each block in turn.
+//! Each call of the device that these look-ups make is refused once: that look-up tells it, by EIO, and is right when it is asked
+//! again, and so are all others.
 
 use crate::names::Lengths;
-use anyhow::{Context, Result, bail, ensure};
-use sn_device::{Fill, SECTOR_SIZE};
+use anyhow::{Result, ensure};
+use sn_device::Fill;
 use sn_testing_mounts::Disk;
 use sn_testing_tables::{Report, Tally};
 use std::alloc::Global;
+use std::ops::Range;
 
-const BLOCKS: u32 = 512;
-
-const BLOCK_SIZE: usize = 4_096;
-
-/// The sectors of a block.
-const SECTORS: u64 = 8;
+const BLOCKS: u32 = 1_024;
 
 /// The names of the directory, of the greatest length. A block has room for 15 of them.
 const NAMES: u32 = 600;
 
 const NAMES_OF_BLOCK: u32 = 15;
 
+const PLACES: u32 = NAMES / NAMES_OF_BLOCK;
+
 const LENGTHS: Lengths = Lengths {
     least: 255,
     most: 255,
 };
 
-/// The place of the block that is spoilt, in the directory.
-const SPOILT: u32 = 30;
+/// The bytes of the longest write. The file has so many of these: 272 blocks, where 256 are kept.
+const LONGEST: usize = 65_536;
 
-/// A mount and some look-ups make no more calls of the device.
-const MOST_CALLS: u32 = 4_000;
+const PARTS: u32 = 17;
+
+/// A mount and all reads behind it make fewer calls of the device than all of these and one.
+const STEPS: [u32; 14] = [
+    8_192, 4_096, 2_048, 1_024, 512, 256, 128, 64, 32, 16, 8, 4, 2, 1,
+];
 
 /// What is told of each name, all of which are those of one file.
 const STATUS: &str = "ok f 0644 601 0 0 0\n";
@@ -40,18 +43,13 @@ const NONE: &str = "err ENOENT\n";
 
 const FAILED: &str = "err EIO\n";
 
-/// Looks names up where reads are refused, and where a block can't be read.
+/// Looks names up where reads are refused.
 pub fn run(report: &mut Report<'_>) -> Result<()> {
     let image = image_of(report.alloc())?;
     let refused = refused(report, image.as_slice())?;
     report.add(
         "reads of a directory of 40 blocks, each refused once",
         refused,
-    )?;
-    let spoilt = spoilt(report, image.as_slice())?;
-    report.add(
-        "names of a directory of 40 blocks, one of them spoilt",
-        spoilt,
     )
 }
 
@@ -66,13 +64,36 @@ fn image_on(alloc: Global, disk: &mut Disk) -> Result<Vec<u8>> {
     disk.login()?;
     done(disk, "0 mkdir /d 0755")?;
     done(disk, "0 open /f wc 0644")?;
-    for number in 0..NAMES {
+    for place in 0..PLACES {
+        fill_block(alloc, disk, place)?;
+    }
+    fill_file(disk)?;
+    disk.unmount()?;
+    disk.bytes(0, usize::MAX)
+}
+
+/// Makes the file of more blocks than are kept.
+fn fill_file(disk: &mut Disk) -> Result<()> {
+    done(disk, "0 open /large wc 0644")?;
+    for _part in 0..PARTS {
+        disk.write_all(1, b'l', LONGEST)?;
+    }
+    done(disk, "0 sync")
+}
+
+/// Makes the names of a block, by a point of their own, so that they stand in that.
+fn fill_block(alloc: Global, disk: &mut Disk, place: u32) -> Result<()> {
+    for number in names_of(place) {
         let line = line_of(alloc, "0 link /f /d/", number)?;
         done(disk, line.as_str())?;
     }
-    done(disk, "0 sync")?;
-    disk.unmount()?;
-    disk.bytes(0, usize::MAX)
+    done(disk, "0 sync")
+}
+
+/// The numbers of the names in the block at a place.
+fn names_of(place: u32) -> Range<u32> {
+    let first = place.saturating_mul(NAMES_OF_BLOCK);
+    first..first.saturating_add(NAMES_OF_BLOCK)
 }
 
 fn done(disk: &mut Disk, line: &str) -> Result<()> {
@@ -106,83 +127,82 @@ fn refused(report: &Report<'_>, image: &[u8]) -> Result<Tally> {
     refused_on(report, &mut disk)
 }
 
-/// Refuses the calls of the device one after the other, until none is left.
+/// Refuses the calls of the device that the look-ups make, one after the other.
 fn refused_on(report: &Report<'_>, disk: &mut Disk) -> Result<Tally> {
+    let (first, end) = (
+        calls(report.alloc(), disk, 0)?,
+        calls(report.alloc(), disk, PLACES)?,
+    );
     let mut tally = Tally::new();
-    for call in 0..MOST_CALLS {
-        disk.crash(Fill::Old)?;
-        disk.fail_behind(call)?;
-        if disk.mount()?.is_none() {
-            let is_right = is_right_where_one_is_refused(report.alloc(), disk)?;
-            disk.unmount()?;
-            if !disk.has_failed()? {
-                return Ok(tally);
-            }
-            tally.check(report.runtime(), is_right, &[call])?;
-        }
-    }
-    bail!("there is no end of calls")
-}
-
-/// Looks the last name up, that again, the first one, and one that isn't there, twice.
-fn is_right_where_one_is_refused(alloc: Global, disk: &mut Disk) -> Result<bool> {
-    disk.login()?;
-    let last = told(alloc, disk, NAMES - 1)?;
-    let is_first = last.as_str() == STATUS || last.as_str() == FAILED;
-    let is_again = is_told(alloc, disk, NAMES - 1, STATUS)?;
-    let is_front = is_told(alloc, disk, 0, STATUS)?;
-    let is_none = is_told(alloc, disk, NAMES, NONE)?;
-    Ok(is_first && is_again && is_front && is_none)
-}
-
-fn spoilt(report: &Report<'_>, image: &[u8]) -> Result<Tally> {
-    let mut disk = Disk::of_bytes(report.alloc(), image)?;
-    spoilt_on(report, &mut disk, image)
-}
-
-fn spoilt_on(report: &Report<'_>, disk: &mut Disk, image: &[u8]) -> Result<Tally> {
-    spoil(report.alloc(), disk, image)?;
-    disk.remount()?;
-    disk.login()?;
-    let mut tally = Tally::new();
-    for turn in 0..2_u32 {
-        for number in 0..=NAMES {
-            let is_right = is_told(report.alloc(), disk, number, wanted_of(number))?;
-            tally.check(report.runtime(), is_right, &[turn, number])?;
-        }
+    for call in first..end {
+        mount_to_refuse(disk, call)?;
+        let refused = refused_of(report.alloc(), disk, PLACES)?;
+        let is_right = refused == Some(1) && is_told(report.alloc(), disk, NAMES, NONE)?;
+        tally.check(report.runtime(), is_right, &[call])?;
     }
     Ok(tally)
 }
 
-/// What is told of a name where a block is spoilt.
-fn wanted_of(number: u32) -> &'static str {
-    if number < SPOILT * NAMES_OF_BLOCK {
-        STATUS
-    } else {
-        FAILED
-    }
+/// Mounts the disk so that the call of the device behind so many is refused.
+fn mount_to_refuse(disk: &mut Disk, call: u32) -> Result<()> {
+    disk.crash(Fill::Old)?;
+    disk.fail_behind(call)?;
+    disk.remount()
 }
 
-/// Fills a block with bytes that are no names.
-fn spoil(alloc: Global, disk: &mut Disk, image: &[u8]) -> Result<()> {
-    let at = place_of(alloc, image)?;
-    for sector in 0..SECTORS {
-        disk.write(
-            at.saturating_mul(SECTORS).saturating_add(sector),
-            &[0xff; SECTOR_SIZE],
-        )?;
-    }
-    Ok(())
-}
-
-/// The block of the directory's names from that of the spoilt place on.
-fn place_of(alloc: Global, image: &[u8]) -> Result<u64> {
-    let name = line_of(alloc, "", SPOILT * NAMES_OF_BLOCK)?;
-    let mut found = None;
-    for (at, block) in image.chunks_exact(BLOCK_SIZE).enumerate() {
-        if block.get(3..258) == Some(name.as_str().as_bytes()) {
-            found = Some(at as u64);
+/// How many calls of the device a mount and the reads behind it make, with the look-ups in so many blocks.
+fn calls(alloc: Global, disk: &mut Disk, places: u32) -> Result<u32> {
+    let mut count = 0_u32;
+    for step in STEPS {
+        let last = count.saturating_add(step).saturating_sub(1);
+        if is_refused(alloc, disk, last, places)? {
+            count = count.saturating_add(step);
         }
     }
-    found.context("no such block")
+    Ok(count)
+}
+
+/// Whether these make more calls of the device than so many.
+fn is_refused(alloc: Global, disk: &mut Disk, call: u32, places: u32) -> Result<bool> {
+    disk.crash(Fill::Old)?;
+    disk.fail_behind(call)?;
+    if disk.mount()?.is_some() {
+        return Ok(true);
+    }
+    refused_of(alloc, disk, places)?;
+    disk.unmount()?;
+    disk.has_failed()
+}
+
+/// Reads the large file, and looks a name up of each of so many blocks, again where that fails. Gives how many look-ups failed, or
+/// nothing where one is answered otherwise.
+fn refused_of(alloc: Global, disk: &mut Disk, places: u32) -> Result<Option<u32>> {
+    disk.login()?;
+    read_large(disk)?;
+    let mut refused = 0_u32;
+    for place in 0..places {
+        let number = place.saturating_mul(NAMES_OF_BLOCK);
+        let line = told(alloc, disk, number)?;
+        if line.as_str() == FAILED {
+            refused = refused.saturating_add(1);
+        }
+        let is_told = line.as_str() == STATUS || line.as_str() == FAILED;
+        if !is_told || !is_told_again(alloc, disk, number)? {
+            return Ok(None);
+        }
+    }
+    Ok(Some(refused))
+}
+
+fn is_told_again(alloc: Global, disk: &mut Disk, number: u32) -> Result<bool> {
+    is_told(alloc, disk, number, STATUS)
+}
+
+/// Reads the large file. What a refused read of it tells isn't looked at.
+fn read_large(disk: &mut Disk) -> Result<()> {
+    disk.ask("0 open /large r")?;
+    for _part in 0..PARTS {
+        disk.ask("0 read 0 65536")?;
+    }
+    Ok(())
 }
