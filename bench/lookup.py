@@ -1,13 +1,14 @@
 #!/usr/bin/env python3
 """Tells what large directories cost beside small ones: look-ups, names that are made, and a consistency point.
 
-    bench/lookup.py [--program PROGRAM] [--rounds N] [stat | mkdir | point ..]
+    bench/lookup.py [--program PROGRAM] [--rounds N] [--asked N] [stat | mkdir | point ..]
 
 Run by hand: builds the program where it isn't up to date, or takes the one that is named. Images are written by `made_image.py`,
 so by docs/FORMAT.md alone, into memory where the system has a folder for that. Told are ratios of times within this run, each the
 least of N rounds (5), without that of a run that doesn't make the calls that are timed, but all that stands before them:
 
-- `stat`: one among 65,535 names beside one among 100, of 8 and of 255 bytes, where a name is there and where it isn't. The
+- `stat`: one, the mean of so many as are asked for (2,000), among 65,535 names beside one among 100, of 8 and of 255 bytes, where a
+  name is there and where it isn't. The
   directory was gone through before. And the blocks that all these look-ups read of the image, and the time of the first one.
 - `mkdir`: 30,000 in one directory beside as many in directories of 50.
 - `point`: 100 renames among 65,535 names, spread over all its blocks, with the consistency point that a run ends with, beside 100
@@ -31,7 +32,7 @@ MEMORY = Path("/dev/shm")
 MANY, FEW = 65_535, 100
 LENGTHS = (8, 255)
 BLOCKS, MKDIR_BLOCKS = 32_768, 65_536
-ASKED, RENAMED = 2_000, 100
+RENAMED = 100
 MADE, SMALL = 30_000, 50
 LINKS = 32_767
 LOGIN = "0 login 0 0 -"
@@ -78,8 +79,8 @@ class Run:
 class Bench:
     """A program, and a folder for its images."""
 
-    def __init__(self, program, rounds, work):
-        self.program, self.rounds, self.work = program, rounds, Path(work)
+    def __init__(self, program, rounds, asked, work):
+        self.program, self.rounds, self.asked, self.work = program, rounds, asked, Path(work)
 
     def image(self, names):
         path = self.work / "whole"
@@ -114,13 +115,13 @@ def stat(bench):
             names = names_of(count, length)
             image = bench.image(names)
             gone = [LOGIN, f"0 stat /d/{missing(count, length)}"]
-            hits = [f"0 stat /d/{name}" for name in spread(names, ASKED)]
-            misses = [f"0 stat /d/{missing(number, length)}" for number in range(ASKED)]
+            hits = [f"0 stat /d/{name}" for name in spread(names, bench.asked)]
+            misses = [f"0 stat /d/{missing(number, length)}" for number in range(bench.asked)]
             none, first, hit, miss = bench.least(image, [LOGIN], gone, gone + hits, gone + misses)
             told[count] = [hit.beside(first), miss.beside(first), first.beside(none)]
         for what, many, few in zip(("a name that is there", "one that isn't"), told[MANY], told[FEW]):
-            taken, small = many.taken / ASKED, few.taken / ASKED
-            print(f"{what}, of {length} bytes, among {MANY:,}: {taken / small:.1f} of one among {FEW} ({1000 * taken:.1f} us, {1000 * small:.1f} us), {many.reads} blocks read for {ASKED:,}")
+            taken, small = many.taken / bench.asked, few.taken / bench.asked
+            print(f"{what}, of {length} bytes, among {MANY:,}: {taken / small:.1f} of one among {FEW} ({1000 * taken:.1f} us, {1000 * small:.1f} us), {many.reads} blocks read for {bench.asked:,}")
         first = told[MANY][2]
         print(f"the first look-up, of {length} bytes, among {MANY:,}: {first.taken:.1f} ms, {first.reads} blocks read")
 
@@ -162,15 +163,16 @@ def main():
     parser = argparse.ArgumentParser(description=__doc__, formatter_class=argparse.RawDescriptionHelpFormatter)
     parser.add_argument("--program", type=Path)
     parser.add_argument("--rounds", type=int, default=5)
+    parser.add_argument("--asked", type=int, default=2_000)
     parser.add_argument("subjects", nargs="*", metavar="stat | mkdir | point")
-    asked = parser.parse_args()
-    program = asked.program
+    words = parser.parse_args()
+    program = words.program
     if program is None:
         subprocess.run([TOP / "snapfs", "--build"], check=True)
         program = TOP / "crates/sn_bin/out/sn_bin"
     with tempfile.TemporaryDirectory(dir=MEMORY if MEMORY.is_dir() else None) as work:
-        bench = Bench(program.resolve(), asked.rounds, work)
-        for subject in asked.subjects or SUBJECTS:
+        bench = Bench(program.resolve(), words.rounds, words.asked, work)
+        for subject in words.subjects or SUBJECTS:
             SUBJECTS[subject](bench)
 
 
