@@ -1,8 +1,8 @@
 //! A directory of forty blocks, of which reads fail.
 //!
 //! A mount reads the whole tree. So a file of more blocks than are kept is read behind it, and then a name of each block in turn.
-//! Each call of the device that these look-ups make is refused once: that look-up tells it, by EIO, and is right when it is asked
-//! again, and so are all others.
+//! One call of the device of each block that these look-ups read is refused once: that look-up tells it, by EIO, and is right when it
+//! is asked again, and so are all others.
 
 use crate::names::Lengths;
 use anyhow::{Result, ensure};
@@ -20,6 +20,9 @@ const NAMES: u32 = 600;
 const NAMES_OF_BLOCK: u32 = 15;
 
 const PLACES: u32 = NAMES / NAMES_OF_BLOCK;
+
+/// The calls of the device that a read of a block makes, one for each sector.
+const CALLS_OF_BLOCK: u32 = 8;
 
 const LENGTHS: Lengths = Lengths {
     least: 255,
@@ -127,14 +130,15 @@ fn refused(report: &Report<'_>, image: &[u8]) -> Result<Tally> {
     refused_on(report, &mut disk)
 }
 
-/// Refuses the calls of the device that the look-ups make, one after the other.
+/// Refuses a call of the device of each block that the look-ups read, one after the other.
 fn refused_on(report: &Report<'_>, disk: &mut Disk) -> Result<Tally> {
     let (first, end) = (
         calls(report.alloc(), disk, 0)?,
         calls(report.alloc(), disk, PLACES)?,
     );
     let mut tally = Tally::new();
-    for call in first..end {
+    for block in 0..end.saturating_sub(first) / CALLS_OF_BLOCK {
+        let call = first.saturating_add(block.saturating_mul(CALLS_OF_BLOCK));
         mount_to_refuse(disk, call)?;
         let refused = refused_of(report.alloc(), disk, PLACES)?;
         let is_right = refused == Some(1) && is_told(report.alloc(), disk, NAMES, NONE)?;

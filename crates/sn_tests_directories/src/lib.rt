@@ -3,7 +3,7 @@
 //! `drawing` has lists of calls on names of two directories, some of which have more than 40 blocks. `lists` says what the tree in
 //! memory answers to a list, and asks a disk the same. `drawn` compares the two, and asks each snapshot what the live tree was asked
 //! when it was made. `turns` looks names up in nine directories in turns. `failing` has a directory of 40 blocks, of which
-//! each read is refused once.
+//! the read of each block is refused once.
 //!
 //! No clause promises what comes out, since it is compared: `sn_tests_program` runs it. The tables are in `directories/`.
 #![tactic(auto)]
