@@ -15,14 +15,7 @@ use sn_testing_tables::Report;
 use std::env;
 
 /// The parts, in the order in which they run.
-const PARTS: [&str; 6] = [
-    "image",
-    "fs",
-    "live",
-    "directories",
-    "commands",
-    "outputs",
-];
+const PARTS: [&str; 6] = ["image", "fs", "live", "directories", "commands", "outputs"];
 
 fn run(report: &mut Report<'_>, part: &str) -> Result<()> {
     match part {
