@@ -27,4 +27,3 @@ pub mod FileLaws
 pub mod NameCalls
 pub mod SnapshotCalls
 pub mod NameLaws
-pub mod RestoreLaws
