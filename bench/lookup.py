@@ -13,6 +13,9 @@ least of N rounds (5), without that of a run that doesn't make the calls that ar
 - `mkdir`: 30,000 in one directory beside as many in directories of 50.
 - `point`: 100 renames among 65,535 names, spread over all its blocks, with the consistency point that a run ends with, beside 100
   among 100 names; and the blocks that either writes.
+- `refused`: no ratio. Each allocation is refused in turn of a run of look-ups and changes in a directory of 40 blocks, each of which
+  is asked twice. At most one reply may be `err ENOMEM`, the same call made again is answered as without the refusal, and so are
+  all others; or the run ends for want of memory. Wants gcc. The status is 1 where anything was otherwise.
 """
 
 import argparse
@@ -25,6 +28,7 @@ from pathlib import Path
 
 sys.dont_write_bytecode = True
 
+from hostile import REFUSE  # noqa: E402
 from made_image import Tree, write_image  # noqa: E402
 
 TOP = Path(__file__).resolve().parent.parent
@@ -156,7 +160,64 @@ def point(bench):
         )
 
 
-SUBJECTS = {"stat": stat, "mkdir": mkdir, "point": point}
+# ---- refused memory
+
+FORTY = 600
+# What is told of a run that ends for want of memory.
+ENDS = ("snapfs: memory", "snapfs: M5", "snapfs: file", "snapfs: stopped")
+
+
+def asked_twice(names):
+    """Look-ups and changes of names, and a point between, each with itself behind it."""
+    length = len(names[0])
+    calls = [f"0 stat /d/{name}" for name in spread(names, 4)]
+    calls += [f"0 stat /d/{missing(0, length)}", f"0 link /d/{names[0]} /d/{missing(1, length)}", f"0 unlink /d/{names[300]}", "0 sync"]
+    calls += [f"0 stat /d/{missing(1, length)}", f"0 stat /d/{names[300]}", f"0 stat /d/{names[-1]}"]
+    return [call for call in calls for _ in range(2)]
+
+
+def is_right(told, wanted, end):
+    """Whether replies are those that are wanted, but for one that memory was refused for and the one behind it; or a front of them."""
+    if len(told) < len(wanted) and end not in ENDS:
+        return False
+    other = [at for at, (one, two) in enumerate(zip(told, wanted)) if one != two]
+    if not other:
+        return True
+    first = other[0]
+    again = first + 1 == len(told) or first % 2 == 0 or told[first + 1] == wanted[first]
+    return told[first] == "err ENOMEM" and again and all(at <= first + 1 for at in other)
+
+
+def refused(bench):
+    work, names = bench.work, names_of(FORTY, 255)
+    (work / "refuse.c").write_text(REFUSE)
+    subprocess.run(["gcc", "-O2", "-shared", "-fPIC", "-o", work / "refuse.so", work / "refuse.c", "-ldl"], check=True)
+    image, lines, mark = bench.image(names), [LOGIN, *asked_twice(names)], work / "mark"
+    (work / "script.snap").write_text("".join(f"{line}\n" for line in lines))
+
+    def run(at):
+        subprocess.run(["cp", "--sparse=always", image, work / "copy"], check=True)
+        mark.unlink(missing_ok=True)
+        given = {"LD_PRELOAD": str(work / "refuse.so"), "REFUSED": str(at), "REFUSED_MARK": str(mark)}
+        ended = subprocess.run([bench.program, "run", work / "copy", work / "script.snap"], capture_output=True, text=True, env=given)
+        return ended.stdout.splitlines(), ended.stderr.strip(), mark.exists()
+
+    wanted, _, _ = run(0)
+    count = told_twice = wrong = 0
+    for at in range(1, 100_000):
+        told, end, was_refused = run(at)
+        if not was_refused:
+            break
+        count += 1
+        told_twice += "err ENOMEM" in told
+        if not is_right(told, wanted, end):
+            wrong += 1
+            print(f"allocation {at}: {end}: {told}")
+    print(f"{count} allocations refused of look-ups and changes in a directory of 40 blocks, {told_twice} told by a call, {wrong} wrong")
+    return wrong == 0
+
+
+SUBJECTS = {"stat": stat, "mkdir": mkdir, "point": point, "refused": refused}
 
 
 def main():
@@ -164,7 +225,7 @@ def main():
     parser.add_argument("--program", type=Path)
     parser.add_argument("--rounds", type=int, default=5)
     parser.add_argument("--asked", type=int, default=2_000)
-    parser.add_argument("subjects", nargs="*", metavar="stat | mkdir | point")
+    parser.add_argument("subjects", nargs="*", metavar="stat | mkdir | point | refused")
     words = parser.parse_args()
     program = words.program
     if program is None:
@@ -172,8 +233,8 @@ def main():
         program = TOP / "crates/sn_bin/out/sn_bin"
     with tempfile.TemporaryDirectory(dir=MEMORY if MEMORY.is_dir() else None) as work:
         bench = Bench(program.resolve(), words.rounds, words.asked, work)
-        for subject in words.subjects or SUBJECTS:
-            SUBJECTS[subject](bench)
+        told = [SUBJECTS[subject](bench) for subject in words.subjects or SUBJECTS]
+    sys.exit(1 if False in told else 0)
 
 
 if __name__ == "__main__":
