@@ -15,5 +15,6 @@ fn main(rt: HostRuntime) -> Result<()> {
     let mut report = Report::new(&rt)?;
     sn_tests_names::run(&mut report)?;
     sn_tests_fuse::run(&mut report)?;
+    sn_tests_tar::run(&mut report)?;
     report.end()
 }
