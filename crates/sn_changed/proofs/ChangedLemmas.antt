@@ -12,7 +12,7 @@ use Rattle.sn_model.specs.declared.change.Change.{Change}
 use Rattle.sn_model.specs.Changes.{apply, take_node}
 use Rattle.sn_model.specs.Charges.{charge_for}
 use Rattle.sn_model.specs.NameTree.{HasKind, IsHierarchy}
-use Rattle.sn_model.specs.Settling.{is_nameless}
+use Rattle.sn_model.specs.Settling.{is_nameless, nameless_in}
 use Rattle.sn_model.specs.Tree.{Node, Tree, link_cmp, names_for}
 use Rattle.sn_overlay.specs.declared.node.NodeChange.{NodeChange}
 use Rattle.sn_overlay.specs.declared.node.NodeChange.TheVariants.{Changed}
@@ -20,7 +20,7 @@ use Rattle.sn_overlay.specs.Keys.{file_block_cmp}
 use Rattle.sn_overlay.specs.Laws.{ChangesArePaid}
 use Rattle.sn_overlay.specs.Layers.{Layer, name_seen, through}
 use Rattle.sn_overlay.specs.Merges.{merge}
-use Rattle.sn_overlay.specs.Needs.{AreCharged, IsPaid, left_nameless, levels, nameless_in, need}
+use Rattle.sn_overlay.specs.Needs.{AreCharged, IsPaid, left_nameless, levels, need}
 use Rattle.sn_overlay.specs.Overlays.{gone, no_changes}
 use Rattle.sn_overlay.specs.Seen.{CountsNames, LiesOver}
 use Rattle.sn_overlay.proofs.LiesLemmas.{merges_lie}

@@ -34,6 +34,8 @@ use Rattle.sn_model.specs.Descriptors.{descriptor_at, is_offset, next_descriptor
 use Rattle.sn_model.specs.FileCalls.{access_of, close_outcome, creating, cuts, file, ftruncate_outcome, is_size, new_file, no_directory, not_exclusive, open_absent, open_bytes, open_found, open_outcome, open_there, opens_new, opens_there, read_outcome, reads, seek_outcome, unlink_outcome, unlinks, write_offset, write_outcome, write_some, writes}
 use Rattle.sn_model.specs.NameCalls.{home_of, link_outcome, may_link, readdir_outcome, rename_outcome, rmdir_outcome}
 use Rattle.sn_model.specs.NameTree.{IsHierarchy}
+use Rattle.sn_model.specs.declared.outcome.AskedPoint.{AskedPoint}
+use Rattle.sn_model.specs.declared.outcome.AskedPoint.TheVariants.{Freezes, Plain, Restores, Thaws, Unasked}
 use Rattle.sn_model.specs.declared.outcome.Caller.{Caller}
 use Rattle.sn_model.specs.declared.outcome.Caller.TheVariants.{Closes, LogsIn, LogsOut, Moves, Opens, OpensNew, SetsUmask, Stays}
 use Rattle.sn_model.specs.declared.outcome.Outcome.{Outcome}
@@ -41,8 +43,8 @@ use Rattle.sn_model.specs.declared.outcome.Pending.{Pending}
 use Rattle.sn_model.specs.declared.outcome.Pending.TheVariants.{Does, Makes, Nothing}
 use Rattle.sn_model.specs.Outcomes.{tells, asks}
 use Rattle.sn_model.specs.Seen.{last_name, parent_of}
-use Rattle.sn_model.specs.SnapshotCalls.{snap_create_outcome, snap_delete_outcome}
-use Rattle.sn_model.specs.Settling.{is_nameless}
+use Rattle.sn_model.specs.SnapshotCalls.{snap_create_outcome, snap_delete_outcome, snap_restore_outcome}
+use Rattle.sn_model.specs.Settling.{is_nameless, nameless_in}
 use Rattle.sn_model.specs.Steps.{Comes, IsNumberFor, TakesMemory, changed, decision, filled}
 use Rattle.sn_model.specs.Tests.{full, granted, has_room, live, not_present, one_tree, prefix, sticky, there, writable_parent}
 use Rattle.sn_model.specs.Tree.{Node, Tree, link_to, viewed}
@@ -50,7 +52,7 @@ use Rattle.sn_model.specs.World.{Descriptor, World, trees_of, viewed_trees}
 use Rattle.sn_model.specs.Worlds.{IsCall, IsWorld}
 use Rattle.sn_model.specs.declared.reply.Reply.TheVariants as reply
 use Rattle.sn_model.proofs.PointedLemmas.{pointed_live}
-use Rattle.sn_model.proofs.SnapshotLemmas.{create_is, delete_is}
+use Rattle.sn_model.proofs.SnapshotLemmas.{create_is, delete_is, restore_is}
 use Rattle.sn_model.proofs.AccessCallLemmas.{access_tells, chmod_some, chown_some, getacl_tells, setacl_some, there_is}
 use Rattle.sn_model.proofs.ChainLemmas.{some_same}
 use Rattle.sn_model.proofs.DecidedLemmas.{decided_is}
@@ -58,9 +60,8 @@ use Rattle.sn_model.proofs.DecisionLemmas.{live_node, mkdir_is, ok, same_ok, sta
 use Rattle.sn_model.proofs.NameCallLemmas.{readdir_tells, rmdir_is}
 use Rattle.sn_model.proofs.NameChains as chains
 use Rattle.sn_model.proofs.OpenLemmas.{named_at}
-use Rattle.sn_model.proofs.OutcomeLemmas.{FitsCaller, OnChange}
+use Rattle.sn_model.proofs.OutcomeLemmas.{FitsCaller, IsAlone, LeavesLive, OnChange}
 use Rattle.sn_model.proofs.RenameLemmas.{IsOne, IsRenaming, has_passed, rename_is}
-use Rattle.sn_overlay.specs.Needs.{nameless_in}
 use Rattle.sn_overlay_change.specs.FirstNames.{GivesNoFirstName, StayNameless}
 use Rattle.sn_overlay_change.proofs.StayingLemmas.{named_is_not, nameless_stay, staying_is_counted}
 use Rattle.sn_changed.specs.Decided.{IsLogged, KeepsOpen, PendsNoFirstName}
@@ -266,6 +267,7 @@ module _ (limits : Limits) (world : World) where
   call_gives_none calls.Sync h = tt
   call_gives_none (calls.SnapCreate s name) h = each (snap_create_outcome limits world s name) (λ o e. decides o _ (sym (create_is limits world s name o e).0) tt)
   call_gives_none (calls.SnapDelete s name) h = each (snap_delete_outcome world s name) (λ o e. decides o _ (sym (delete_is world s name o e).0) tt)
+  call_gives_none (calls.SnapRestore s name) h = each (snap_restore_outcome limits world s name) (λ o e. decides o _ (sym (restore_is limits world s name o e).0) tt)
   call_gives_none calls.SnapList h = tt
 
   filled_in : (number : ℕ) (pending : Pending) (caller : Caller) → Spares world.live pending caller → IsNumberFor limits world.live number pending → PendsNoFirstName world.live number pending
@@ -312,11 +314,19 @@ module _ (limits : Limits) (world : World) where
   stays number (Makes directory name kind o) after h e = nameless_stay limits (Make directory name number kind o) world.live after h e
   stays number (Does c) after h e = nameless_stay limits c world.live after h e
 
+-- a point that comes with a change leaves the live tree
+leaves_live : (p : AskedPoint) (change : Pending) (caller : Caller) → IsAlone p change caller → IsLogged change → LeavesLive p
+leaves_live Unasked change caller alone logged = tt
+leaves_live Plain change caller alone logged = tt
+leaves_live (Freezes name) change caller alone logged = tt
+leaves_live (Thaws name) change caller alone logged = tt
+leaves_live (Restores name) change caller alone logged = subst IsLogged alone.0 logged
+
 pub logged_stay_nameless : (limits : Limits) (old new : World) (session : ℕ) (c : Call) (o : Outcome) → IsWorld limits old → decision limits old session c ≡ Ok o → IsLogged o.change → Comes limits old session o new → StayNameless old.live new.live
 logged_stay_nameless limits old new session c o whole e logged comes =
     let named = decided_give_no_first_name limits old session c o e comes.number whole.live.hierarchy comes.free in
     let open_then = keeps_filled old.descriptors session comes.number o.caller (logged_keep_open limits old session c o e whole logged) in
-    subst (StayNameless old.live) (sym (ap (λ (w : World). w.live) comes.world ∙ pointed_live o.point _))
+    subst (StayNameless old.live) (sym (ap (λ (w : World). w.live) comes.world ∙ pointed_live o.point (leaves_live o.point o.change o.caller (decided_is limits old session c o e).points.alone logged) _))
     (kept_open_stay limits old session (filled comes.number o.caller) comes.tree whole (stays limits old comes.number o.change comes.tree named comes.applied) open_then)
 
 pub logged_keep_nameless : (limits : Limits) (old new : World) (session : ℕ) (c : Call) (o : Outcome) → IsWorld limits old → decision limits old session c ≡ Ok o → IsLogged o.change → Comes limits old session o new → nameless_in old.live ≤ nameless_in new.live

@@ -10,12 +10,11 @@ use Rattle.sn_model.specs.declared.outcome.Caller.TheVariants.{Closes, LogsIn, L
 use Rattle.sn_model.specs.declared.outcome.Outcome.{Outcome}
 use Rattle.sn_model.specs.declared.outcome.Pending.{Pending}
 use Rattle.sn_model.specs.declared.outcome.Pending.TheVariants.{Does, Makes, Nothing}
-use Rattle.sn_model.specs.Settling.{dropped}
+use Rattle.sn_model.specs.Settling.{dropped, nameless_in}
 use Rattle.sn_model.specs.Steps.{Comes, IsNumberFor, decision, with_caller, with_live}
 use Rattle.sn_model.specs.Tree.{Tree}
 use Rattle.sn_model.specs.World.{World}
 use Rattle.sn_model.specs.Worlds.{IsWorld}
-use Rattle.sn_overlay.specs.Needs.{nameless_in}
 use Rattle.sn_overlay_change.specs.FirstNames.{GivesNoFirstName, StayNameless}
 
 -- what is pending gives no file its first name, once a new node has its number

@@ -7,13 +7,13 @@ use Rattle.sn_model.specs.Changes.{apply, take_node}
 use Rattle.sn_model.specs.Charges.{charge_for}
 use Rattle.sn_model.specs.NameTree.{IsHierarchy}
 use Rattle.sn_model.specs.declared.outcome.Caller.{Caller}
-use Rattle.sn_model.specs.Settling.{dropped, is_nameless, without_nameless}
+use Rattle.sn_model.specs.Settling.{dropped, is_nameless, nameless_in, without_nameless}
 use Rattle.sn_model.specs.Steps.{with_caller}
 use Rattle.sn_model.specs.Tree.{Tree}
 use Rattle.sn_model.specs.World.{World}
 use Rattle.sn_overlay.specs.Layers.{Layer}
 use Rattle.sn_overlay.specs.Merges.{merge}
-use Rattle.sn_overlay.specs.Needs.{AreCharged, nameless_in, need}
+use Rattle.sn_overlay.specs.Needs.{AreCharged, need}
 use Rattle.sn_overlay.specs.Overlays.{gone, no_changes}
 use Rattle.sn_overlay_change.specs.ChangeLayers.{layer_of_change}
 use Rattle.sn_changed.specs.declared.dropped.DroppedFile.{DroppedFile}

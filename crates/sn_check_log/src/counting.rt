@@ -6,7 +6,7 @@ ghost use Rattle.sn_examine.specs.Failing.{FailsAs, WritesNothing};
 ghost use Rattle.sn_examine.specs.Rooms.{IsNoDamage};
 ghost use Rattle.sn_number_table.specs.Nameless.{TellsNameless};
 ghost use Rattle.sn_number_table.specs.Table.{TellsNumbers, kept_of, since_of};
-ghost use Rattle.sn_overlay.specs.Needs.{nameless_in};
+ghost use Rattle.sn_model.specs.Settling.{nameless_in};
 ghost use Rattle.sn_rooted.specs.Roots.{IsSoundOn, tree_on};
 
 use crate::CheckedRoot;

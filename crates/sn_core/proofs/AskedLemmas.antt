@@ -1,5 +1,5 @@
 -- What a point that a call asks for leaves.
-use Rattle.std.proofs.Common.{◌≡◌, ℕ, ◌-◌, Bool, true, false, cond, Some, None, Ok, Err, refl, sym, ap, ◌∙◌, arith}
+use Rattle.std.proofs.Common.{◌≡◌, ℕ, ◌-◌, Bool, true, false, cond, Option, Some, None, Ok, Err, refl, sym, ap, ◌∙◌, arith}
 use Rattle.std.specs.FinMap as map
 use Rattle.std.specs.Cmp.Lexicographic.{nat_list_cmp_total, slice_cmp}
 use Rattle.std.specs.Ordering.{nat_cmp}
@@ -9,13 +9,13 @@ use Rattle.sn_model.specs.declared.call.Call.{Call}
 use Rattle.sn_model.specs.declared.call.Call.TheVariants as call
 use Rattle.sn_model.specs.declared.change.Change.{Change}
 use Rattle.sn_model.specs.declared.outcome.AskedPoint.{AskedPoint}
-use Rattle.sn_model.specs.declared.outcome.AskedPoint.TheVariants.{Unasked, Plain, Freezes, Thaws}
+use Rattle.sn_model.specs.declared.outcome.AskedPoint.TheVariants.{Unasked, Plain, Freezes, Thaws, Restores}
 use Rattle.sn_model.specs.declared.outcome.Caller.{Caller}
 use Rattle.sn_model.specs.declared.outcome.Outcome.{Outcome}
 use Rattle.sn_model.specs.declared.outcome.Pending.{Pending}
 use Rattle.sn_model.specs.declared.outcome.Pending.TheVariants.{Nothing, Makes, Does}
 use Rattle.sn_model.specs.Calls.{ready}
-use Rattle.sn_model.specs.Steps.{TakesMemory, asks_for_point, decision, pointed}
+use Rattle.sn_model.specs.Steps.{TakesMemory, asks_for_point, decision, pointed, restored}
 use Rattle.sn_model.specs.Tree.{Tree}
 use Rattle.sn_model.specs.World.{World}
 use Rattle.sn_model.proofs.DecidedLemmas.{decided_is}
@@ -34,6 +34,7 @@ unasked_stays Unasked w e = refl
 unasked_stays Plain w e = refl
 unasked_stays (Freezes name) w e = cc
 unasked_stays (Thaws name) w e = cc
+unasked_stays (Restores name) w e = cc
 
 pub alone_stays : (old : World) (session : ℕ) (c : Call) (o : Outcome) → decision limits_written old session c ≡ Ok o → asks_for_point c ≡ false → (w : World) → pointed o.point w ≡ w
 alone_stays old session c o e alone w = unasked_stays o.point w ((decided_is limits_written old session c o e).points.asks ∙ alone)
@@ -44,6 +45,7 @@ beside_stays Unasked change caller w alone some = refl
 beside_stays Plain change caller w alone some = refl
 beside_stays (Freezes name) change caller w alone some = absurd (some alone.0)
 beside_stays (Thaws name) change caller w alone some = absurd (some alone.0)
+beside_stays (Restores name) change caller w alone some = absurd (some alone.0)
 
 pub chosen_stays : (old : World) (kept : ℕ → Bool) (session : ℕ) (c : Call) (o : Outcome) (chosen : Chosen) (change : Change) → decision limits_written old session c ≡ Ok o → Chooses old.live kept o.change o.caller chosen → chosen.change ≡ Some change → (w : World) → pointed o.point w ≡ w
 chosen_stays old kept session c o chosen change e is some w = beside_stays o.point o.change o.caller w (decided_is limits_written old session c o e).points.alone (told o.change is)
@@ -58,6 +60,7 @@ pub plain_stays : (p : AskedPoint) (w : World) → Ok tt ≡ memory_for p → w.
 plain_stays Unasked w e none = refl
 plain_stays Plain w e none = refl
 plain_stays (Freezes name) w e none = cc
+plain_stays (Restores name) w e none = ap (λ (o : Option Tree). restored o w) (ap (λ m. map.get m name) none ∙ map.get-empty (slice_cmp nat_cmp) name)
 plain_stays (Thaws name) w e none = λ i. record w { frozen = (ap (λ m. map.remove m name) none ∙ nothing ∙ sym none) i }
   where
     less : (b : Bool) (n : ℕ) → n ≡ 0 → cond b (n - 1) n ≡ 0
@@ -97,6 +100,7 @@ asking_takes (call.Ftruncate fd size) e = tt
 asking_takes call.Sync e = tt
 asking_takes (call.SnapCreate name) e = tt
 asking_takes (call.SnapDelete name) e = tt
+asking_takes (call.SnapRestore name) e = tt
 asking_takes call.SnapList e = tt
 
 lacks_memory : (p : AskedPoint) (e : WorldError) → Err e ≡ memory_for p → (is_asked p ≡ true) × (e ≡ Memory)
@@ -104,6 +108,7 @@ lacks_memory Unasked e is = cc
 lacks_memory Plain e is = cc
 lacks_memory (Freezes name) e is = (refl, cc)
 lacks_memory (Thaws name) e is = cc
+lacks_memory (Restores name) e is = cc
 
 -- a call whose point finds no memory is one that may find none
 pub point_takes : (old : World) (session : ℕ) (c : Call) (o : Outcome) (e : WorldError) → decision limits_written old session c ≡ Ok o → Err e ≡ memory_for o.point → TakesMemory c × IsOk (ready old session c) × (e ≡ Memory)

@@ -11,6 +11,7 @@ use Rattle.sn_limits.specs.Versions.{limits_written}
 use Rattle.sn_model.specs.declared.call.Call.{Call}
 use Rattle.sn_model.specs.FileCalls.{bytes_of}
 use Rattle.sn_model.specs.Seen.{names_if, seen_names}
+use Rattle.sn_model.specs.Settling.{nameless_if}
 use Rattle.sn_model.specs.Tests.{has_room}
 use Rattle.sn_model.specs.Tree.{Tree}
 use Rattle.sn_model.specs.World.{World, tree_in, viewed_if, viewed_trees}
@@ -44,6 +45,10 @@ pub frozen_names : (tree : Tree) (number : ℕ) (home : Home) (name : List ℕ) 
 frozen_names tree number home name e =
     ap (λ (h : Home). names_if (tree_in (plain_trees tree) h) number) e
     ∙ ap (λ (o : Option Tree). names_if o number) (fin.get-empty (slice_cmp nat_cmp) name)
+
+-- and no file without a name of one
+pub no_nameless : (tree : Tree) (name : List ℕ) → nameless_if (fin.get (plain_trees tree).frozen name) ≡ 0
+no_nameless tree name = ap nameless_if (fin.get-empty (slice_cmp nat_cmp) name)
 
 -- and none of a snapshot
 no_items : {A : Type 0} (xs : List A) → length xs ≡ 0 → xs ≡ []

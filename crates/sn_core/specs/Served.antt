@@ -7,7 +7,7 @@ use Rattle.sn_model.specs.declared.change.Change.{Change}
 use Rattle.sn_model.specs.declared.change.Change.TheVariants.{Make}
 use Rattle.sn_model.specs.Changes.{apply}
 use Rattle.sn_model.specs.declared.outcome.AskedPoint.{AskedPoint}
-use Rattle.sn_model.specs.declared.outcome.AskedPoint.TheVariants.{Unasked, Plain, Freezes, Thaws}
+use Rattle.sn_model.specs.declared.outcome.AskedPoint.TheVariants.{Unasked, Plain, Freezes, Thaws, Restores}
 use Rattle.sn_model.specs.declared.outcome.Caller.{Caller}
 use Rattle.sn_model.specs.declared.outcome.Outcome.{Outcome}
 use Rattle.sn_model.specs.declared.outcome.Pending.{Pending}
@@ -51,6 +51,7 @@ memory_for Unasked = Ok tt
 memory_for Plain = Ok tt
 memory_for (Freezes name) = Err Memory
 memory_for (Thaws name) = Ok tt
+memory_for (Restores name) = Ok tt
 
 -- a number is left for a node that is to be made
 abbrev pub HasNumber : Tree → Pending → Type 0

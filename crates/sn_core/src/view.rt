@@ -172,5 +172,9 @@ impl<'a> FileView for PlainView<'a> {
         }
     }
 
+    fn count_nameless(&mut self, _snapshot: &SnapshotName) -> Result<u32, Infallible> {
+        Ok(0)
+    }
+
     ghost bytes_stay = { λ u v told e. ap (λ w. bytes_in (plain_trees (live_of w.tree.now))) e };
 }

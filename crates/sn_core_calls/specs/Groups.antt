@@ -29,4 +29,5 @@ group_of (call.Ftruncate fd size) = Sessions
 group_of call.Sync = Sessions
 group_of (call.SnapCreate name) = Snapshots
 group_of (call.SnapDelete name) = Snapshots
+group_of (call.SnapRestore name) = Snapshots
 group_of call.SnapList = Snapshots

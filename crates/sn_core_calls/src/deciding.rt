@@ -17,7 +17,7 @@ ghost use Rattle.sn_core_calls.specs.Groups.{group_of};
 
 use crate::deciding_names::{decide_link, decide_readdir, decide_rename, decide_rmdir};
 use crate::deciding_snapshots::{
-    decide_snap_create, decide_snap_delete, decide_snap_list, decide_sync,
+    decide_snap_create, decide_snap_delete, decide_snap_list, decide_snap_restore, decide_sync,
 };
 use crate::groups::{Group, group_of};
 use sn_acl::{Cred, Mode, Permissions};
@@ -207,6 +207,7 @@ fn decide_of_snapshot<'a, V: FileView>(
     match call {
         Call::SnapCreate { name } => decide_snap_create(alloc, view, sessions, session, name),
         Call::SnapDelete { name } => decide_snap_delete(view, sessions, session, name),
+        Call::SnapRestore { name } => decide_snap_restore(view, sessions, session, name),
         Call::SnapList => decide_snap_list(alloc, view, sessions, session),
         _ => unreachable!(),
     }

@@ -13,7 +13,7 @@ ghost use Rattle.sn_core_files.specs.Decided.{DecidesShown};
 ghost use Rattle.sn_core_files.specs.Faults.{IfView};
 
 use sn_acl::Cred;
-use sn_core_decide::{asks, forbidden};
+use sn_core_decide::{asks, forbidden, restore_charge};
 use sn_core_files::{CallError, FileView, logged_in};
 use sn_desc::Sessions;
 use sn_limits::{Limits, SnapshotName};
@@ -108,6 +108,16 @@ fn closed(sessions: &Sessions, name: &SnapshotName) -> Result<(), Refusal>
     Ok(())
 }
 
+/// Whether nobody has a file of the live tree open.
+fn closed_live(sessions: &Sessions) -> Result<(), Refusal>
+    ensures { (world : World) → result ≡ calls.closed_live (in_world (in_use_of sessions.now) world) }
+{
+    if sessions.has_open(&Home::Live) {
+        return Err(Refusal::plain(Errno::Ebusy));
+    }
+    Ok(())
+}
+
 pub(crate) fn decide_sync(sessions: &Sessions, session: u32) -> Result<Outcome<'static>, Refusal>
     ensures { (world : World) → Answers (λ o. o) result (decision limits_written (in_world (in_use_of sessions.now) world) session call.Sync) }
 {
@@ -157,6 +167,35 @@ pub(crate) fn decide_snap_delete<V: FileView>(
     present(view, &name)?;
     closed(sessions, &name)?;
     Ok(points(AskedPoint::Thaws(name)))
+}
+
+/// The files without names of the snapshot's tree are counted last, so that a look-up that fails hides no refusal.
+pub(crate) fn decide_snap_restore<V: FileView>(
+    view: &mut V,
+    sessions: &Sessions,
+    session: u32,
+    name: &Word,
+) -> Result<Outcome<'static>, CallError<V::Fault>>
+    requires { V.holds view.old }
+    ensures kept { V.holds view.new }
+    ensures follows { V.follows view.old view.new }
+    ensures same { IsTrue V.is_told → V.shows view.new ≡ V.shows view.old }
+    ensures decided { IsTrue V.is_told → DecidesShown (in_use_of sessions.now) (V.shows view.old) (V.room view.old) (V.names view.old) (V.bytes view.old) session (call.SnapRestore name.now) result }
+    ensures cause { IfView result (λ f. V.causes view.old view.new f) }
+{
+    let caller = logged_in(sessions, session)?;
+    let name = snapshot_argument(name)?;
+    user_0(&caller.cred)?;
+    present(view, &name)?;
+    closed_live(sessions)?;
+    let nameless = match view.count_nameless(&name) {
+        Ok(nameless) => nameless,
+        Err(fault) => return Err(CallError::View(fault)),
+    };
+    Ok(Outcome {
+        charge: restore_charge(&Limits::WRITTEN, nameless),
+        ..points(AskedPoint::Restores(name))
+    })
 }
 
 pub(crate) fn decide_snap_list<V: FileView>(

@@ -45,6 +45,9 @@ pub(crate) fn group_of(call: &Call) -> Group
         | Call::Rename { .. }
         | Call::Readdir { .. } => Group::Names,
         Call::Open { .. } | Call::Read { .. } | Call::Write { .. } => Group::Files,
-        Call::SnapCreate { .. } | Call::SnapDelete { .. } | Call::SnapList => Group::Snapshots,
+        Call::SnapCreate { .. }
+        | Call::SnapDelete { .. }
+        | Call::SnapRestore { .. }
+        | Call::SnapList => Group::Snapshots,
     }
 }

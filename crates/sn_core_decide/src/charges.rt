@@ -1,4 +1,4 @@
-//! What calls are charged: the blocks that a consistency point may take for their changes, by the numbers
+//! What calls are charged: the blocks that a consistency point may take for what they come to, by the numbers
 //! of the version.
 ghost use Rattle.std.specs.Prelude.{◌≡◌, ◌+◌, ◌*◌, ◌≤◌, ◌^◌};
 ghost use Rattle.sn_model.specs.FileCalls as files;
@@ -58,4 +58,11 @@ pub fn write_charge(limits: &Limits, blocks: u64) -> u128
     ensures most { result ≤ limits.now.inode_charge + limits.now.block_charge * 2 ^ 53 }
 {
     u128::from(limits.inode_charge) + u128::from(limits.block_charge) * u128::from(blocks)
+}
+
+/// A snapshot is brought back in which so many files have no name: the inodes of these, which go.
+pub fn restore_charge(limits: &Limits, nameless: u32) -> u64
+    ensures { result ≡ limits.now.inode_charge * nameless }
+{
+    u64::from(limits.inode_charge) * u64::from(nameless)
 }

@@ -29,8 +29,8 @@ pub use arguments::{
     new_mode_argument, path_argument,
 };
 pub use charges::{
-    attributes_charge, blocks_spanned, name_charge, rename_charge, size_charge, unlink_charge,
-    write_charge,
+    attributes_charge, blocks_spanned, name_charge, rename_charge, restore_charge, size_charge,
+    unlink_charge, write_charge,
 };
 pub use decisions::{mkdir, stat};
 pub use file_calls::{open, unlink};

@@ -1,11 +1,12 @@
 use crate::fault::FileFault;
 use sn_core_names::MoveView;
+use sn_limits::SnapshotName;
 use sn_model::Names;
 use sn_walk::{Home, Object};
 use std::alloc::Global;
 
-/// What calls ask of the trees beside what decisions ask: the bytes of files, and the names that a
-/// directory is listed with.
+/// What calls ask of the trees beside what decisions ask: the bytes of files, the names that a directory is
+/// listed with, and how many files of a snapshot have none.
 pub trait FileView: MoveView {
     ghost use Rattle.std.specs.Prelude.{◌≡◌, ℕ, ◌+◌, ◌<◌, ◌^◌, IsTrue, IfOk, IfErr, List, length, take, drop};
     ghost use Rattle.sn_walk.specs.declared.object.Home.{Home};
@@ -48,6 +49,15 @@ pub trait FileView: MoveView {
         ensures same { IsTrue Self.is_told → Self.shows self.new ≡ Self.shows self.old }
         ensures found { IsTrue Self.is_told → IfOk result (λ listed. listed ≡ (Self.names self.old).listed object.now) }
         ensures cause { IfLookUp result (λ f. Self.causes self.old self.new f) };
+
+    /// How many files of a snapshot's tree have no name: none where there is no such snapshot.
+    fn count_nameless(&mut self, snapshot: &SnapshotName) -> Result<u32, Self::Fault>
+        requires { Self.holds self.old }
+        ensures kept { Self.holds self.new }
+        ensures follows { Self.follows self.old self.new }
+        ensures same { IsTrue Self.is_told → Self.shows self.new ≡ Self.shows self.old }
+        ensures found { IsTrue Self.is_told → IfOk result (λ count. count ≡ (Self.names self.old).nameless snapshot.now) }
+        ensures cause { IfErr result (λ f. Self.causes self.old self.new f) };
 
     // look-ups leave the bytes
     ghost bytes_stay: { (u v : Self) → IsTrue Self.is_told → Self.follows u v → bytes v ≡ bytes u };

@@ -11,8 +11,8 @@ use Rattle.sn_ondisk.specs.Counts.{times}
 use Rattle.sn_ondisk.proofs.CountLemmas.{among_times, times_among}
 use Rattle.sn_tree.specs.Drafts.{numbers_of}
 use Rattle.sn_tree.specs.declared.new_block.NewBlock.{NewBlock}
-use Rattle.sn_cp_build.specs.Bits.{TellsBlocks, PutsBits, MakesUp, BitsFollow}
-use Rattle.sn_cp_build.specs.Edits.{EditsBits}
+use Rattle.sn_cp_build.specs.Bits.{TellsBit, TellsBlocks, PutsBits, MakesUp, BitsFollow}
+use Rattle.sn_cp_build.specs.Edits.{EditsBits, TakesBase, base_bit}
 use Rattle.sn_cp_build.specs.declared.edits.SnapshotEdit.{SnapshotEdit}
 use Rattle.sn_cp_build.proofs.EditLemmas.{edited_before}
 
@@ -110,12 +110,16 @@ module _ (was is added released old middle new : List ℕ) (makes : MakesUp was 
   pub tells_new : TellsBlocks new is
   tells_new block = (was_reached block, is_set block)
 
-pub bits_follow : (added released old middle put new : List ℕ) (e : SnapshotEdit) → PutsBits 1 added old middle → PutsBits 0 released middle put → EditsBits e put new → BitsFollow added released e old new
-bits_follow added released old middle put new e set unset edits = record {
-  as_many = edits.as_many ∙ unset.as_many ∙ set.as_many;
-  snapshots = edited_before e old put new (λ block k other. unset.others block k other ∙ set.others block k other) edits.snapshots;
+-- the bit that a build begins from is bit 0 of what it begins from
+based : (e : SnapshotEdit) (old base was : List ℕ) → TakesBase e old base → TellsBit (base_bit e) old was → TellsBlocks base was
+based e old base was takes tells block = ((λ one. (tells block).0 (sym (takes.live block) ∙ one)), (λ among. takes.live block ∙ (tells block).1 among))
+
+pub bits_follow : (added released old base middle put new : List ℕ) (e : SnapshotEdit) → TakesBase e old base → PutsBits 1 added base middle → PutsBits 0 released middle put → EditsBits e put new → BitsFollow added released e old new
+bits_follow added released old base middle put new e takes set unset edits = record {
+  as_many = edits.as_many ∙ unset.as_many ∙ set.as_many ∙ takes.as_many;
+  snapshots = edited_before e old put new (λ block k other. unset.others block k other ∙ set.others block k other ∙ takes.others block k other) edits.snapshots;
   tells = λ was is makes tells block.
-      let told = tells_new was is added released old middle put makes set unset tells block in
+      let told = tells_new was is added released base middle put makes set unset (based e old base was takes tells) block in
       (λ one. told.0 (sym (edits.live block) ∙ one), λ among. edits.live block ∙ told.1 among);
 }
 

@@ -3,6 +3,7 @@ use Rattle.std.proofs.Common.{◌≡◌, ◌≢◌, ◌⊎◌, inl, inr, ⊎_eli
 use Rattle.std.specs.Prelude.{All, Contains, slice_index}
 use Rattle.std.specs.Int.{bit_at}
 use Rattle.std.specs.List.Sorted.{IsStrictlyIncreasing}
+use Rattle.std.proofs.lemmas.Nat.Bits.{bit_at-zero}
 use Rattle.std.proofs.lemmas.Bool.{cases_lt, cases_eq}
 use Rattle.std.proofs.lemmas.List.Elements.{All-contains}
 use Rattle.sn_alloc.specs.Taking.{IsFreeData}
@@ -35,7 +36,7 @@ use Rattle.sn_tree.proofs.StepLemmas.{grown-grown}
 use Rattle.sn_cp_nodes.specs.Built.{IsGround}
 use Rattle.sn_cp_nodes.proofs.PutLemmas.{holds_parts}
 use Rattle.sn_cp_nodes.proofs.RiseLemmas.{rising_once}
-use Rattle.sn_cp_build.specs.Bits.{MakesUp, TellsBlocks}
+use Rattle.sn_cp_build.specs.Bits.{MakesUp, TellsBit}
 use Rattle.sn_cp_build.specs.Building.{IsTreePlanned}
 use Rattle.sn_cp_build.specs.Planned.{numbers_of}
 use Rattle.sn_cp_build.proofs.BuiltLemmas.{HasGrown, has_grown}
@@ -79,10 +80,10 @@ no_zero t inodes = ⊎_elim
 -- ---- what a map tells
 
 -- none of the blocks that are told can be taken
-pub told_kept : (words reached : List ℕ) (first block : ℕ) → TellsBlocks words reached → Contains reached block → IsFreeData words first block → ⊥
-told_kept words reached first block tells among free =
-    let one : bit_at (slice_index words block) 0 ≡ 1 = (tells block).1 among in
-    let none : bit_at (slice_index words block) 0 ≡ 0 = ap (λ (word : ℕ). bit_at word 0) free.free in
+pub told_kept : {k : ℕ} (words reached : List ℕ) (first block : ℕ) → TellsBit k words reached → Contains reached block → IsFreeData words first block → ⊥
+told_kept {k} words reached first block tells among free =
+    let one : bit_at (slice_index words block) k ≡ 1 = (tells block).1 among in
+    let none : bit_at (slice_index words block) k ≡ 0 = ap (λ (word : ℕ). bit_at word k) free.free ∙ bit_at-zero k in
     let never : 0 ≡ 1 = sym none ∙ one in
     omega (arith, never)
 
@@ -101,7 +102,7 @@ module _ (Told : Type 0) (limits : Limits) (s : Store) (file : BlockTree) (layer
   pub grew : after ≡ grown old added released
   grew = plan.inodes.grew ∙ ap (λ (d : Draft). grown d plan.inodes.added plan.inodes.released) first.grew ∙ grown-grown old first.added plan.inodes.added first.released plan.inodes.released
 
-  module _ (n : ℕ) (words : List ℕ) (told : Told) (ground : IsGround limits n s file layer) (tells : TellsBlocks words (reach s file))
+  module _ {k : ℕ} (n : ℕ) (words : List ℕ) (told : Told) (ground : IsGround limits n s file layer) (tells : TellsBit k words (reach s file))
       (free : All (IsFreeData words (start_of n Data)) (blocks_of added)) (rise : IsStrictlyIncreasing (blocks_of added)) (long : length words ≡ n) where
     -- what was added was reached by nothing
     pub apart : (block : ℕ) → 0 < times block (blocks_of added) → times block (reach s file) ≡ 0

@@ -27,7 +27,8 @@ use Rattle.sn_tree.specs.declared.fault.PlanFault.{PlanFault}
 use Rattle.sn_tree.specs.declared.new_block.NewBlock.{NewBlock}
 use Rattle.sn_cp_nodes.specs.Built.{IsGround}
 use Rattle.sn_cp_nodes.proofs.PutLemmas.{put_elsewhere, put_holds, put_in}
-use Rattle.sn_cp_build.specs.Bits.{BitsFollow, MakesUp, TellsBlocks}
+use Rattle.sn_cp_build.specs.Bits.{BitsFollow, MakesUp, TellsBit}
+use Rattle.sn_cp_build.specs.Edits.{base_bit}
 use Rattle.sn_cp_build.specs.Building.{Builds, IsFrozen, IsTreePlanned, IsWellBuilt}
 use Rattle.sn_cp_build.specs.Planned.{AreBuilt, numbers_of}
 use Rattle.sn_cp_build.specs.declared.building.Built.{Built}
@@ -92,7 +93,7 @@ module _ (Told : Type 0) (n : ℕ) (limits : Limits) (s : Store) (file : BlockTr
   rising_blocks = subst (λ (d : Draft). IsStrictlyIncreasing (blocks_of d.added)) grown_is rise
 
   -- each block that was released was reached or added
-  pub released_within : Told → length words ≡ n → 0 < n → IsGround limits n s file layer → TellsBlocks words (reach s file) → All (λ (b : ℕ). b < length after.words) after.released
+  pub released_within : {k : ℕ} → Told → length words ≡ n → 0 < n → IsGround limits n s file layer → TellsBit k words (reach s file) → All (λ (b : ℕ). b < length after.words) after.released
   released_within told long some ground tells =
       subst (λ (d : Draft). All (λ (b : ℕ). b < length d.words) d.released) (sym grown_is)
       (All-weaker (Contains gone) (λ (b : ℕ). b < length words) (λ block among. ⊎_elim
@@ -134,7 +135,7 @@ module _ (Told : Type 0) (n : ℕ) (limits : Limits) (s : Store) (file : BlockTr
       snapshots = follow.snapshots;
     }
 
-    one_builds : Told → length words ≡ n → Builds n limits s file words layer built
+    one_builds : Told → length words ≡ n → Builds n limits s file (base_bit edit) words layer built
     one_builds told long ground tells r same holds =
         let there : Holds r blocks = subst (λ (bs : List NewBlock). Holds r bs) items_are holds in
         let makes = makes_up Told limits s file layer new (begun words (start_of n Data)) after plan n words told ground tells free_blocks rising_blocks long r same there in
@@ -153,7 +154,7 @@ module _ (Told : Type 0) (n : ℕ) (limits : Limits) (s : Store) (file : BlockTr
   well_built edit (Ok built) file_is blocks_are bits = one_well edit built file_is blocks_are bits
 
   pub all_builds : Told → length words ≡ n → (edit : SnapshotEdit) (result : Result Built PlanFault) → IfOk result (λ (built : Built). built.inode_file ≡ new) → IfOk result (λ (built : Built). built.blocks.items ≡ after.added)
-      → IfOk result (λ (built : Built). BitsFollow (blocks_of after.added) after.released edit after.words built.map) → IfOk result (Builds n limits s file words layer)
+      → IfOk result (λ (built : Built). BitsFollow (blocks_of after.added) after.released edit after.words built.map) → IfOk result (Builds n limits s file (base_bit edit) words layer)
   all_builds told long edit (Err fault) file_is blocks_are bits = tt
   all_builds told long edit (Ok built) file_is blocks_are bits = one_builds edit built file_is blocks_are bits told long
 

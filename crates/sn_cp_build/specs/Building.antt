@@ -18,7 +18,7 @@ use Rattle.sn_overlay.specs.Needs.{need}
 use Rattle.sn_tree.specs.Drafts.{Draft, numbers_of as blocks_of}
 use Rattle.sn_tree.specs.Plans.{Holds}
 use Rattle.sn_cp_nodes.specs.Built.{IsGround}
-use Rattle.sn_cp_build.specs.Bits.{TellsBlocks}
+use Rattle.sn_cp_build.specs.Bits.{TellsBit, TellsBlocks}
 use Rattle.sn_cp_build.specs.Edits.{IsEdited}
 use Rattle.sn_cp_build.specs.Planned.{AreBuilt, numbers_of}
 use Rattle.sn_cp_build.specs.declared.building.Built.{Built}
@@ -48,7 +48,7 @@ pub record IsWellBuilt (n : ℕ) (limits : Limits) (words : List ℕ) (layer : L
   pub as_many : length built.map ≡ length words
   pub snapshots : IsEdited edit words built.map
 
--- Over a sound root whose map tells in bit 0 what it reaches, and a layer that shows a name tree, the new inode file is what is wanted in each store that has the new blocks and agrees with the old one in what the old root reaches: so writes elsewhere don't matter.
-abbrev pub Builds : ℕ → Limits → Store → BlockTree → List ℕ → Layer → Built → Type 0
-Builds n limits s file words layer built = IsGround limits n s file layer → TellsBlocks words (reach s file)
+-- Over a sound root whose map tells in this bit what it reaches, and a layer that shows a name tree, the new inode file is what is wanted in each store that has the new blocks and agrees with the old one in what the old root reaches: so writes elsewhere don't matter.
+abbrev pub Builds : ℕ → Limits → Store → BlockTree → ℕ → List ℕ → Layer → Built → Type 0
+Builds n limits s file bit words layer built = IsGround limits n s file layer → TellsBit bit words (reach s file)
     → (r : Store) → SameIn (reach s file) s r → Holds r built.blocks.items → IsFrozen n limits s file layer built r

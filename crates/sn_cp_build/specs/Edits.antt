@@ -23,6 +23,20 @@ abbrev pub IsEdited : SnapshotEdit → List ℕ → List ℕ → Type 0
 IsEdited edit.None old new = SnapshotsStay old new
 IsEdited (edit.Freeze bit) old new = Freezes bit old new
 IsEdited (edit.Thaw bit) old new = Thaws bit old new
+IsEdited (edit.Restore bit) old new = SnapshotsStay old new
+
+-- the bit that tells what a build begins from: that of a snapshot that is brought back, and else the live tree's
+abbrev pub base_bit : SnapshotEdit → ℕ
+base_bit edit.None = 0
+base_bit (edit.Freeze bit) = 0
+base_bit (edit.Thaw bit) = 0
+base_bit (edit.Restore bit) = bit
+
+-- Bit 0 becomes the bit of what the build begins from. The bits of snapshots are what they were.
+pub record TakesBase (edit : SnapshotEdit) (old new : List ℕ) : Type 0 where
+  pub as_many : length new ≡ length old
+  pub live : (block : ℕ) → bit_at (slice_index new block) 0 ≡ bit_at (slice_index old block) (base_bit edit)
+  pub others : (block k : ℕ) → k ≢ 0 → bit_at (slice_index new block) k ≡ bit_at (slice_index old block) k
 
 -- An edit is made of words, whose bit 0 stays.
 pub record EditsBits (edit : SnapshotEdit) (old new : List ℕ) : Type 0 where

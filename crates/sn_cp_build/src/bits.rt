@@ -38,8 +38,9 @@ fn has_words(map: &Map, blocks: &[u32]) -> bool
     blocks.iter().all(|block| *block < words)
 }
 
-/// Makes bit 0 that of a new tree: it is set for each block that was added, and then unset for each that was
-/// released, so that a block that was added and released again has it unset. Last the bits of snapshots are edited.
+/// Makes bit 0 that of a new tree: from that of the tree that was built from on it is set for each block that was added,
+/// and then unset for each that was released, so that a block that was added and released again has it unset. Last the
+/// bits of snapshots are edited.
 /// `Damaged` comes exactly where a block that was released has no word in the map.
 pub(crate) fn put_bits(
     map: &mut Map,
@@ -55,6 +56,7 @@ pub(crate) fn put_bits(
     if !has_words(map, released) {
         return Err(PlanFault::Tree(TreeFault::Damaged { block: None }));
     }
+    edit.take_base(map);
     set_added(map, added);
     unset_released(map, released);
     edit.apply(map);

@@ -17,7 +17,8 @@ ghost use Rattle.sn_tree.specs.Steps.{CountsPlan};
 ghost use Rattle.sn_tree.specs.declared.fault.PlanFault.TheVariants.{Full, Tree};
 ghost use Rattle.sn_tree_read.specs.declared.fault.TreeFault.TheVariants.{Damaged};
 ghost use Rattle.sn_cp_nodes.specs.Built.{IsGround, IsSafeGround};
-ghost use Rattle.sn_cp_build.specs.Bits.{BitsFollow, TellsBlocks};
+ghost use Rattle.sn_cp_build.specs.Bits.{BitsFollow, TellsBit};
+ghost use Rattle.sn_cp_build.specs.Edits.{base_bit};
 ghost use Rattle.sn_cp_build.specs.Building.{IsTreePlanned, IsWellBuilt, Builds};
 
 use crate::bits::put_bits;
@@ -102,10 +103,10 @@ fn finished(build: Build, inode_file: BlockTree, edit: SnapshotEdit) -> Result<B
 
 /// Builds the tree that is seen through an overlay over that of a root: its new blocks, and the map in which bit 0
 /// tells what it reaches. Of the bits of snapshots only the edited one changes: a snapshot that is frozen reaches what
-/// the new tree does. It only reads. `Full` comes where there are too few free blocks, over a sound root only where
+/// the new tree does. To bring a snapshot back, the root is given its inode file. It only reads. `Full` comes where there are too few free blocks, over a sound root only where
 /// they are fewer than the overlay needs, and `Damaged` where what was read can't be used, over a sound root never: one
-/// whose blocks lie on the device, with a map that tells in bit 0 what it reaches. What a snapshot alone reaches that
-/// goes isn't free yet. After an error there is nothing to undo.
+/// whose blocks lie on the device, with a map that tells in bit 0, or in that of the snapshot that is brought back, what it
+/// reaches. What a snapshot alone reaches that goes isn't free yet, nor what the live tree alone reaches that gives way to one. After an error there is nothing to undo.
 pub fn build<D: Device>(
     alloc: Global,
     blocks: &mut Blocks<D>,
@@ -119,13 +120,13 @@ pub fn build<D: Device>(
     requires words { length map.now ≡ geometry }
     ensures well { IfOk result (IsWellBuilt geometry root.now.limits map.now (layer_of changes) edit) }
     ensures builds { IsTrue D.tells_bytes → IfOk result (Builds geometry root.now.limits
-        (store_of (reads (D.disk (device_of blocks.old)))) root.now.inode_file map.now (layer_of changes)) }
+        (store_of (reads (D.disk (device_of blocks.old)))) root.now.inode_file (base_bit edit) map.now (layer_of changes)) }
     ensures full { IsTrue D.tells_bytes → result ≡ Err Full → IsGround root.now.limits geometry
         (store_of (reads (D.disk (device_of blocks.old)))) root.now.inode_file (layer_of changes)
         → need root.now.limits (layer_of changes) ≤ free_data map.now (start_of geometry Data) → ⊥ }
     ensures damaged { IsTrue D.tells_bytes → (block : TheOption ℕ) → result ≡ Err (Tree (Damaged block)) → IsGround root.now.limits geometry
         (store_of (reads (D.disk (device_of blocks.old)))) root.now.inode_file (layer_of changes)
-        → TellsBlocks map.now (reach (store_of (reads (D.disk (device_of blocks.old)))) root.now.inode_file)
+        → TellsBit (base_bit edit) map.now (reach (store_of (reads (D.disk (device_of blocks.old)))) root.now.inode_file)
         → 8 * geometry ≤ (D.status (device_of blocks.old)).sectors → ⊥ }
     ensures same { IsTrue D.tells_bytes → D.disk (device_of blocks.new) ≡ D.disk (device_of blocks.old) }
     ensures counts { CountsPlan result (D.status (device_of blocks.old)) (D.status (device_of blocks.new)) }

@@ -1,6 +1,6 @@
 //! What becomes of the bits of snapshots.
 ghost use Rattle.std.specs.Prelude.{◌≡◌, ◌≤◌, ◌↔◌, IsSome, IfSome};
-ghost use Rattle.sn_cp_build.specs.Edits.{EditsBits};
+ghost use Rattle.sn_cp_build.specs.Edits.{EditsBits, TakesBase};
 
 use sn_map::Map;
 use std::marker::Model;
@@ -47,24 +47,37 @@ impl SnapshotBit {
     }
 }
 
-/// What a build does to the bits of snapshots, once bit 0 tells the new tree.
+/// What a build does to the bits of snapshots, and from which of them it begins.
 #[derive(Clone, Copy, PartialEq, Eq)]
 pub enum SnapshotEdit {
     /// Nothing: each snapshot keeps what it reaches.
     None,
-    /// A snapshot of the new tree is made: its bit becomes what bit 0 is, in each word.
+    /// A snapshot of the new tree is made: once bit 0 tells that tree, its bit becomes what bit 0 is, in each word.
     Freeze(SnapshotBit),
     /// A snapshot goes: its bit is cleared in each word, and what nothing else reaches is free from this map on.
     Thaw(SnapshotBit),
+    /// A snapshot is brought back: the build is over its tree, and before anything else bit 0 becomes what its bit is, in each
+    /// word. The snapshot keeps what it reaches, and what the live tree alone reached is free from this map on.
+    Restore(SnapshotBit),
 }
 
 impl SnapshotEdit {
+    // The bits of snapshots stay.
+    pub(crate) fn take_base(self, map: &mut Map)
+        ensures { TakesBase self map.old map.new }
+    {
+        match self {
+            SnapshotEdit::None | SnapshotEdit::Freeze(_) | SnapshotEdit::Thaw(_) => {}
+            SnapshotEdit::Restore(bit) => map.copy_bit_to_0(u32::from(bit.number())),
+        }
+    }
+
     // Bit 0 stays, as do the bits of other snapshots.
     pub(crate) fn apply(self, map: &mut Map)
         ensures { EditsBits self map.old map.new }
     {
         match self {
-            SnapshotEdit::None => {}
+            SnapshotEdit::None | SnapshotEdit::Restore(_) => {}
             SnapshotEdit::Freeze(bit) => map.copy_bit0_to(u32::from(bit.number())),
             SnapshotEdit::Thaw(bit) => map.clear_bit(u32::from(bit.number())),
         }

@@ -11,6 +11,8 @@
 //! - Whatever the device tells, the new blocks were free, rise, and are no more than the layer needs, and of the map bit 0
 //!   alone changes but for an edit of snapshots (`IsWellBuilt`): the bit of one that is frozen becomes what bit 0 then is,
 //!   and that of one that goes is cleared (`IsEdited`).
+//! - To bring a snapshot back the build is over its tree, and bit 0 begins as its bit (`TakesBase`). What is free stays a matter
+//!   of the old map, so that no block of the old root is written.
 //! - Over such a ground it is never `Full` where what the layer needs is free, and never `Damaged` where the disk's blocks
 //!   lie on the device.
 //!

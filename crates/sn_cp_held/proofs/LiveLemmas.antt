@@ -37,7 +37,8 @@ use Rattle.sn_opening.specs.Opens.{Shows}
 use Rattle.sn_opening.specs.Points.{HoldsAll, IsBuilt}
 use Rattle.sn_opening.specs.Worlds.{all_reach, frozen_of}
 use Rattle.sn_overlay.specs.Layers.{through}
-use Rattle.sn_overlay.specs.Needs.{nameless_in, need}
+use Rattle.sn_model.specs.Settling.{nameless_in}
+use Rattle.sn_overlay.specs.Needs.{need}
 use Rattle.sn_overlay.specs.Seen.{LiesOver}
 use Rattle.sn_room.specs.Rooms.{begun}
 use Rattle.sn_root.specs.declared.following.PointKind.{PointKind}

@@ -24,7 +24,7 @@ use Rattle.sn_model.specs.declared.change.Change.{Change}
 use Rattle.sn_model.specs.Changes.{apply_all}
 use Rattle.sn_model.specs.NameTree.{IsTree}
 use Rattle.sn_model.specs.declared.outcome.AskedPoint.TheVariants.{Plain}
-use Rattle.sn_model.specs.Settling.{settled}
+use Rattle.sn_model.specs.Settling.{nameless_in, settled}
 use Rattle.sn_model.specs.Tree.{Tree}
 use Rattle.sn_model.specs.World.{World, trees_of}
 use Rattle.sn_model.proofs.SettlingLemmas.{dropping_kept, settle_alike}
@@ -41,7 +41,6 @@ use Rattle.sn_ondisk.proofs.OneLemmas.{later_replays}
 use Rattle.sn_opening.specs.Opens.{IsDisk, Shows}
 use Rattle.sn_opening.specs.Points.{HoldsAll, IsBuilt}
 use Rattle.sn_opening.specs.Worlds.{StandsFor, all_reach, frozen_of}
-use Rattle.sn_overlay.specs.Needs.{nameless_in}
 use Rattle.sn_root.specs.Replacing.{LeavesEither}
 use Rattle.sn_root.specs.declared.following.PointKind.TheVariants.{Recovery}
 use Rattle.sn_sound.specs.Charges.{Fits, charges_from}

@@ -22,7 +22,7 @@ use Rattle.sn_ondisk.specs.Trees.{Store}
 use Rattle.sn_opening.specs.Opens.{IsDisk, Shows}
 use Rattle.sn_opening.specs.Points.{HoldsAll, IsBuilt}
 use Rattle.sn_opening.specs.Worlds.{all_reach, frozen_of}
-use Rattle.sn_overlay.specs.Needs.{nameless_in}
+use Rattle.sn_model.specs.Settling.{nameless_in}
 use Rattle.sn_overlay.specs.Overlays.{no_changes}
 use Rattle.sn_room.specs.Rooms.{RoomCounts, begun}
 use Rattle.sn_root.specs.Following.{epochs_of}

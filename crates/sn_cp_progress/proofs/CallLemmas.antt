@@ -12,7 +12,7 @@ use Rattle.sn_model.specs.Changes.{apply}
 use Rattle.sn_model.specs.Charges.{charge_for}
 use Rattle.sn_model.specs.NameTree.{IsHierarchy, IsTree}
 use Rattle.sn_model.specs.declared.outcome.Outcome.{Outcome}
-use Rattle.sn_model.specs.Settling.{settle}
+use Rattle.sn_model.specs.Settling.{nameless_in, settle}
 use Rattle.sn_model.specs.Tree.{Tree}
 use Rattle.sn_model.specs.World.{World}
 use Rattle.sn_ondisk.specs.LogHalf.{HasNoLater, InHalf, base_of}
@@ -24,7 +24,6 @@ use Rattle.sn_opening.specs.Opens.{IsDisk}
 use Rattle.sn_opening.proofs.CoveringLemmas.{one_more_covers}
 use Rattle.sn_opening.proofs.LogLemmas.{of_position}
 use Rattle.sn_opening.proofs.SpelledLemmas.{spelled_more}
-use Rattle.sn_overlay.specs.Needs.{nameless_in}
 use Rattle.sn_record.specs.Payload.{IsSpelled}
 use Rattle.sn_room.specs.Rooms.{RoomCounts, charged_behind, done, dropping, fits, gives_back, logged}
 use Rattle.sn_sound.specs.Logs.{HasAgeLeft}

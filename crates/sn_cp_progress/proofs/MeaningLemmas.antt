@@ -16,7 +16,7 @@ use Rattle.sn_model.specs.Tree.{Tree}
 use Rattle.sn_model.specs.World.{World}
 use Rattle.sn_ondisk.specs.LogHalf.{InHalf}
 use Rattle.sn_opening.specs.Worlds.{FrozenTrees}
-use Rattle.sn_overlay.specs.Needs.{nameless_in}
+use Rattle.sn_model.specs.Settling.{nameless_in}
 use Rattle.sn_record.specs.Payload.{IsSpelled}
 use Rattle.sn_room.specs.Rooms.{dropping, logged}
 use Rattle.sn_sound.specs.Logs.{HasAgeLeft}

@@ -10,13 +10,12 @@ use Rattle.sn_model.specs.declared.change.Change.{Change}
 use Rattle.sn_model.specs.Changes.{apply}
 use Rattle.sn_model.specs.Charges.{charge_for}
 use Rattle.sn_model.specs.NameTree.{IsHierarchy, IsTree}
-use Rattle.sn_model.specs.Settling.{settle}
+use Rattle.sn_model.specs.Settling.{nameless_in, settle}
 use Rattle.sn_model.specs.Tree.{Tree}
 use Rattle.sn_model.specs.declared.outcome.AskedPoint.{AskedPoint}
 use Rattle.sn_model.specs.declared.outcome.Outcome.{Outcome}
 use Rattle.sn_model.specs.World.{World, trees_of}
 use Rattle.sn_ondisk.specs.LogHalf.{InHalf}
-use Rattle.sn_overlay.specs.Needs.{nameless_in}
 use Rattle.sn_overlay.specs.Overlays.{no_changes}
 use Rattle.sn_record.specs.Payload.{IsSpelled}
 use Rattle.sn_room.specs.Rooms.{begun, done, dropping, fits, fresh, logged}

@@ -2,7 +2,7 @@
 use Rattle.std.proofs.Common.{◌≡◌, ◌≢◌, ◌⊎◌, inl, inr, ⊎_elim, ℕ, zero, suc, ◌+◌, ◌<◌, ◌≤◌, List, [], ◌∷◌, ◌++◌, length, replicate, take, drop, slice_index, slice_set, Contains, refl, sym, ◌∙◌, subst, arith}
 use Rattle.std.proofs.lemmas.List.{length-replicate, get_or-replicate, get_or_past, get_or_push, get_or_append_left, length_push, length-take, get_or-take, get_or-drop, length-set, get_or-set_same, get_or-set_other}
 use Rattle.std.proofs.lemmas.Bool.{cases_eq, cases_lt}
-use Rattle.sn_device.specs.Sectors.{Contents, sector_at, IsSector, AreSectors, Single, Stretch, Union, IsWithin, AreDisjoint, AgreesOutside, AgreesOn}
+use Rattle.sn_device.specs.Sectors.{Contents, sector_at, IsSector, AreSectors, Single, Stretch, IsWithin, AgreesOutside}
 
 pub IsSector-replicate : (byte : ℕ) → byte < 256 → IsSector (replicate 512 byte)
 IsSector-replicate byte fits = record {

@@ -17,13 +17,13 @@ use Rattle.sn_model.specs.declared.reply.Reply.TheVariants as answer
 use Rattle.sn_model.specs.Changes.{apply}
 use Rattle.sn_model.specs.Charges.{charge_for}
 use Rattle.sn_model.specs.NameTree.{IsHierarchy}
-use Rattle.sn_overlay.specs.Needs.{AreCharged, nameless_in}
+use Rattle.sn_overlay.specs.Needs.{AreCharged}
 use Rattle.sn_room.specs.Rooms.{RoomCounts, charged_behind, dropping, gives_back}
 use Rattle.sn_room.specs.Rooms.{logged as logs}
 use Rattle.sn_held.specs.Room.{HasRoomFor}
 use Rattle.sn_model.specs.Machine.{State, Running, Stopped, Mishap, Memory, Read, Write, EventStep, refused}
 use Rattle.sn_model.specs.Outcomes.{is_opening}
-use Rattle.sn_model.specs.Settling.{dropped, is_held, settle}
+use Rattle.sn_model.specs.Settling.{dropped, is_held, nameless_in, settle}
 use Rattle.sn_model.specs.Steps.{Becomes, Comes, TakesMemory, asks_for_point, decision, pointed, with_caller, with_live}
 use Rattle.sn_model.specs.Tree.{Node, Tree}
 use Rattle.sn_model.specs.World.{World}

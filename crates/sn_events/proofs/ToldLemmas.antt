@@ -4,10 +4,9 @@ use Rattle.sn_limits.specs.Versions.{limits_written}
 use Rattle.sn_model.specs.declared.call.Call.{Call}
 use Rattle.sn_model.specs.declared.change.Change.{Change}
 use Rattle.sn_model.specs.declared.outcome.Outcome.{Outcome}
-use Rattle.sn_overlay.specs.Needs.{nameless_in}
 use Rattle.sn_room.specs.Rooms.{dropping}
 use Rattle.sn_model.specs.Machine.{Running}
-use Rattle.sn_model.specs.Settling.{dropped}
+use Rattle.sn_model.specs.Settling.{dropped, nameless_in}
 use Rattle.sn_model.specs.Steps.{asks_for_point, decision, with_caller}
 use Rattle.sn_model.specs.World.{World}
 use Rattle.sn_model.specs.Worlds.{IsCall, IsWorld}

@@ -3,7 +3,7 @@ use Rattle.std.proofs.Common.{◌≡◌, false, refl, sym, ap, subst, arith}
 use Rattle.std.specs.FinMap as map
 use Rattle.std.specs.Prelude.{None, replicate}
 use Rattle.sn_limits.specs.Versions.{limits_written}
-use Rattle.sn_model.specs.Settling.{settle, settled}
+use Rattle.sn_model.specs.Settling.{nameless_in, settle, settled}
 use Rattle.sn_model.specs.Tree.{Tree}
 use Rattle.sn_model.specs.World.{World}
 use Rattle.sn_model.specs.NameTree.{IsTree}
@@ -14,7 +14,6 @@ use Rattle.sn_held.specs.Events.{IsOfTree}
 use Rattle.sn_held.specs.Held.{CarriesOn, Held, Kept, RunsReady}
 use Rattle.sn_held.proofs.EventLemmas.{drops_ready}
 use Rattle.sn_overlay.specs.Layers.{Layer}
-use Rattle.sn_overlay.specs.Needs.{nameless_in}
 use Rattle.sn_room.specs.Rooms.{RoomCounts, dropping}
 use Rattle.sn_events.specs.Dropping.{DropsFiles}
 use Rattle.sn_events.proofs.CallLemmas.{figures}

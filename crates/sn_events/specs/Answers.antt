@@ -19,7 +19,7 @@ use Rattle.sn_model.specs.declared.reply.Reply.{Reply}
 use Rattle.sn_model.specs.declared.reply.Reply.TheVariants as answer
 use Rattle.sn_model.specs.Changes.{apply}
 use Rattle.sn_model.specs.Machine.{State, Running, Stopped, Mishap, Memory, Read, Write, Space, Age, EventStep}
-use Rattle.sn_model.specs.Settling.{dropped, settle}
+use Rattle.sn_model.specs.Settling.{dropped, nameless_in, settle}
 use Rattle.sn_model.specs.Steps.{AsksForPoint, decision, pointed, with_caller, with_live}
 use Rattle.sn_model.specs.Tree.{Tree}
 use Rattle.sn_model.specs.World.{World}
@@ -34,7 +34,7 @@ use Rattle.sn_held.specs.Held.{Going, Held, Kept, CarriesOn}
 use Rattle.sn_held.specs.Moments.{LastsOver}
 use Rattle.sn_held.specs.Room.{HasRoomOf}
 use Rattle.sn_overlay.specs.Layers.{Layer}
-use Rattle.sn_overlay.specs.Needs.{nameless_in, need}
+use Rattle.sn_overlay.specs.Needs.{need}
 use Rattle.sn_overlay.specs.Overlays.{no_changes}
 use Rattle.sn_room.specs.Rooms.{begun, done, dropping, fits, logged}
 use Rattle.sn_sound.specs.Logs.{HasAgeLeft}

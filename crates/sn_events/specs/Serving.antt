@@ -11,13 +11,12 @@ use Rattle.sn_live_world.specs.declared.fault.CallFault.{CallFault}
 use Rattle.sn_live_world.specs.declared.fault.CallFault.TheVariants as lack
 use Rattle.sn_block.specs.Counts.{FailsRead}
 use Rattle.sn_model.specs.Machine.{State, Mishap, Memory, Read, Write, Space, Age, refused}
-use Rattle.sn_model.specs.Settling.{dropped}
+use Rattle.sn_model.specs.Settling.{dropped, nameless_in}
 use Rattle.sn_model.specs.Steps.{decision, with_caller}
 use Rattle.sn_limits.specs.Versions.{limits_written}
 use Rattle.sn_core_files.specs.Decided.{MayLack}
 use Rattle.sn_model.specs.Worlds.{IsCall}
 use Rattle.sn_core.specs.Numbering.{gives_kept, has_closed}
-use Rattle.sn_overlay.specs.Needs.{nameless_in}
 use Rattle.sn_room.specs.Rooms.{dropping}
 use Rattle.sn_held.specs.Held.{Held}
 use Rattle.sn_cp_progress.specs.Meaning.{Means}

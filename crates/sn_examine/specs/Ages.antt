@@ -6,7 +6,7 @@ use Rattle.sn_model.specs.declared.fault.Damage.TheVariants.{Log}
 use Rattle.sn_model.specs.declared.fault.MountFault.{MountFault}
 use Rattle.sn_model.specs.declared.fault.MountFault.TheVariants as fault
 use Rattle.sn_model.specs.Tree.{Tree}
-use Rattle.sn_overlay.specs.Needs.{nameless_in}
+use Rattle.sn_model.specs.Settling.{nameless_in}
 use Rattle.sn_sound.specs.Logs.{HasAgeLeft, IsToRecover, half_block}
 
 -- something is to recover on top of the root, or nothing is

@@ -12,7 +12,7 @@ use Rattle.sn_ondisk.specs.Trees.{store_of}
 use Rattle.sn_log.specs.Positions.{LogPosition}
 use Rattle.sn_image.specs.Image.{image}
 use Rattle.sn_sound.specs.Disks.{IsFormatted}
-use Rattle.sn_overlay.specs.Needs.{nameless_in}
+use Rattle.sn_model.specs.Settling.{nameless_in}
 use Rattle.sn_room.specs.Rooms.{RoomCounts}
 use Rattle.sn_sound.specs.Logs.{HasAgeLeft}
 use Rattle.sn_held.specs.Held.{Kept}

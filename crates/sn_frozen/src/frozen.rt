@@ -16,6 +16,7 @@ pub trait HasSnapshots: Below {
     ghost use Rattle.sn_core_files.specs.Faults.{IfLookUp};
     ghost use Rattle.sn_frozen.specs.Frozen.{FrozenTrees, bytes_at, seen_at};
     ghost use Rattle.sn_model.specs.Seen.{names_if};
+    ghost use Rattle.sn_model.specs.Settling.{nameless_if};
 
     // the trees of the snapshots, by their names
     ghost frozen: { Self → FrozenTrees };
@@ -118,6 +119,16 @@ pub trait HasSnapshots: Below {
         ensures same { IsTrue Self.is_told → Self.shows self.new ≡ Self.shows self.old }
         ensures found { IsTrue Self.is_told → IfOk result (λ names. names ≡ names_if (map.get (frozen self.old) snapshot.now) directory) }
         ensures cause { IfLookUp result (λ f. Self.causes self.old self.new f) };
+
+    /// How many files of a frozen tree have no name.
+    fn frozen_nameless(&mut self, snapshot: &SnapshotName) -> Result<u32, Self::Fault>
+        requires holds { Self.holds self.old }
+        requires frozen { holds_frozen self.old }
+        ensures kept { Self.holds self.new }
+        ensures follows { Self.follows self.old self.new }
+        ensures same { IsTrue Self.is_told → Self.shows self.new ≡ Self.shows self.old }
+        ensures found { IsTrue Self.is_told → IfOk result (λ count. count ≡ nameless_if (map.get (frozen self.old) snapshot.now)) }
+        ensures cause { IfErr result (λ f. Self.causes self.old self.new f) };
 
     // look-ups leave the frozen trees, and what is needed for the next
     ghost frozen_stay: { (u v : Self) → IsTrue Self.is_told → Self.follows u v → frozen v ≡ frozen u };

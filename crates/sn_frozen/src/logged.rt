@@ -70,6 +70,10 @@ impl<'a, B: KeepsNames + HasSnapshots> HasSnapshots for LoggedTree<'a, B> {
         self.shown.frozen_names(alloc, snapshot, directory)
     }
 
+    fn frozen_nameless(&mut self, snapshot: &SnapshotName) -> Result<u32, B::Fault> {
+        self.shown.frozen_nameless(snapshot)
+    }
+
     ghost frozen_stay = { λ u v told p. B.frozen_stay u.shown.below.now v.shown.below.now told p.0 };
 
     ghost frozen_hold = { λ u v p. B.frozen_hold u.shown.below.now v.shown.below.now p.0 };

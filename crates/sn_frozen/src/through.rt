@@ -71,6 +71,10 @@ impl<'a, B: HasSnapshots> HasSnapshots for Through<'a, B> {
         self.below.frozen_names(alloc, snapshot, directory)
     }
 
+    fn frozen_nameless(&mut self, snapshot: &SnapshotName) -> Result<u32, B::Fault> {
+        self.below.frozen_nameless(snapshot)
+    }
+
     ghost frozen_stay = { λ u v told p. B.frozen_stay u.below.now v.below.now told p.0 };
 
     ghost frozen_hold = { λ u v p. B.frozen_hold u.below.now v.below.now p.0 };

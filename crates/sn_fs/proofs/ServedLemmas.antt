@@ -19,7 +19,7 @@ use Rattle.sn_model.specs.declared.call.Call.{Call}
 use Rattle.sn_model.specs.declared.change.Change.{Change}
 use Rattle.sn_model.specs.declared.outcome.Caller.{Caller}
 use Rattle.sn_model.specs.declared.outcome.Outcome.{Outcome}
-use Rattle.sn_overlay.specs.Needs.{nameless_in}
+use Rattle.sn_model.specs.Settling.{nameless_in}
 use Rattle.sn_record.specs.Payload.{IsSpelled}
 use Rattle.sn_events.specs.Answers.{HasAll, LacksFirst, is_fitting}
 use Rattle.sn_events.specs.Changing.{FailsChange, IsLogged, errno_of, stops}

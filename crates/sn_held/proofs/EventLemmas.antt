@@ -16,7 +16,7 @@ use Rattle.sn_model.specs.Changes.{apply}
 use Rattle.sn_model.specs.Charges.{charge_for}
 use Rattle.sn_model.specs.NameTree.{IsHierarchy, IsTree}
 use Rattle.sn_model.specs.Machine.{Running, Stopped}
-use Rattle.sn_model.specs.Settling.{dropped, is_held, settle, settled, without_nameless}
+use Rattle.sn_model.specs.Settling.{dropped, is_held, nameless_in, settle, settled, without_nameless}
 use Rattle.sn_model.specs.Steps.{with_caller, with_live}
 use Rattle.sn_model.specs.Tree.{Tree}
 use Rattle.sn_model.specs.World.{World}
@@ -34,7 +34,6 @@ use Rattle.sn_opening.proofs.LogLemmas.{of_position}
 use Rattle.sn_opening.proofs.OpeningLemmas.{opens_to_one}
 use Rattle.sn_opening.proofs.SpelledLemmas.{spelled_more}
 use Rattle.sn_ondisk.proofs.PlaceLemmas.{halves_apart}
-use Rattle.sn_overlay.specs.Needs.{nameless_in}
 use Rattle.sn_room.specs.Rooms.{dropping, logged}
 use Rattle.sn_sound.specs.Charges.{Fits}
 use Rattle.sn_sound.specs.Disks.{IsFormatted}

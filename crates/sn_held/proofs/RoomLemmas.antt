@@ -22,11 +22,10 @@ use Rattle.sn_model.specs.Chains.{◌>>=◌}
 use Rattle.sn_model.specs.Changes.{apply, apply_all}
 use Rattle.sn_model.specs.Charges.{charge_for}
 use Rattle.sn_model.specs.NameTree.{IsHierarchy}
-use Rattle.sn_model.specs.Settling.{is_nameless, settled, without_nameless}
+use Rattle.sn_model.specs.Settling.{is_nameless, nameless_in, settled, without_nameless}
 use Rattle.sn_model.specs.Tree.{Node, Tree}
 use Rattle.sn_model.proofs.ChainLemmas.{some_same}
 use Rattle.sn_model.specs.World.{new_root, new_tree}
-use Rattle.sn_overlay.specs.Needs.{nameless_in}
 use Rattle.sn_overlay_change.proofs.StayingLemmas.{staying_is_counted}
 use Rattle.sn_ondisk.specs.TreeLaws.{SameIn}
 use Rattle.sn_ondisk.specs.Trees.{Store}

@@ -8,7 +8,7 @@ use Rattle.sn_model.specs.declared.change.Change.{Change}
 use Rattle.sn_model.specs.Changes.{apply}
 use Rattle.sn_model.specs.Charges.{charge_for}
 use Rattle.sn_model.specs.NameTree.{IsHierarchy, IsTree}
-use Rattle.sn_model.specs.Settling.{settle, without_nameless}
+use Rattle.sn_model.specs.Settling.{nameless_in, settle, without_nameless}
 use Rattle.sn_model.specs.Tree.{Tree}
 use Rattle.sn_model.specs.World.{World}
 use Rattle.sn_ondisk.specs.LogHalf.{InHalf}
@@ -19,7 +19,6 @@ use Rattle.sn_held.specs.Events.{IsOfTree, LeavesEither, LeavesMore}
 use Rattle.sn_held.specs.Held.{CarriesOn, Held, Kept, Runs, RunsReady}
 use Rattle.sn_held.specs.Images.{IsImage}
 use Rattle.sn_held.specs.Room.{HasRoomFor}
-use Rattle.sn_overlay.specs.Needs.{nameless_in}
 use Rattle.sn_room.specs.Rooms.{dropping, logged}
 
 -- Contents are an image of one world.

@@ -13,7 +13,7 @@ use Rattle.sn_model.specs.declared.change.Change.TheVariants.{Make, AddLink, Rem
 use Rattle.sn_model.specs.declared.link.Link.{Link}
 use Rattle.sn_model.specs.Changes.{apply, node_with, put_link, put_node, replaced, resized, overwritten}
 use Rattle.sn_model.specs.NameTree.{IsTree}
-use Rattle.sn_model.specs.Settling.{is_nameless}
+use Rattle.sn_model.specs.Settling.{is_nameless, nameless_in}
 use Rattle.sn_model.specs.Tree.{Node, Tree, link_count, link_to, names_for}
 use Rattle.sn_model.proofs.ChainLemmas.{some_same}
 use Rattle.sn_model.proofs.CountLemmas.{count, count_fewer, count_none, once}
@@ -23,7 +23,6 @@ use Rattle.sn_model.proofs.LinkLemmas.{links_total}
 use Rattle.sn_model.proofs.MapLemmas.{get_inserted, get_left, get_removed, get_was, same_or_apart}
 use Rattle.sn_model.proofs.NameLemmas.{names_for_less}
 use Rattle.sn_model.proofs.PartLemmas.{IsRenamed, Renamed, Unlinked, cut_is, file_is, linked_is, made_is, owned_is, removed_is, renamed_is, replaced_is, unlinked_is, written_is}
-use Rattle.sn_overlay.specs.Needs.{nameless_in}
 use Rattle.sn_overlay_change.proofs.NamelessLemmas.{AreAlikeBut, bare, exchanged_names, linked_alike, made_alike, put_alike, same_bare, same_names, unlinked_alike}
 use Rattle.sn_overlay_change.proofs.StayingLemmas.{named_is_not}
 use Rattle.sn_live.specs.Nodes.{exchanging, losing, losing_node, losing_of, nameless_after, node_moves_of}

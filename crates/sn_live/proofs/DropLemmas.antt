@@ -13,7 +13,7 @@ use Rattle.sn_live.specs.Live.{IsLive, ShowsNameless, changes_of, point_of, show
 use Rattle.sn_live.specs.declared.live.LiveTree.{LiveTree}
 use Rattle.sn_model.specs.Changes.{take_node}
 use Rattle.sn_model.specs.NameTree.{HasKind, IsTree}
-use Rattle.sn_model.specs.Settling.{is_nameless}
+use Rattle.sn_model.specs.Settling.{is_nameless, nameless_in}
 use Rattle.sn_model.specs.Tree.{Node, Tree, names_for}
 use Rattle.sn_model.proofs.FewLemmas.{few_same}
 use Rattle.sn_model.proofs.MapLemmas.{get_left, get_removed, get_was}
@@ -27,7 +27,6 @@ use Rattle.sn_number_table.specs.Table.{TellsNumbers}
 use Rattle.sn_number_table.specs.declared.table.NumberTable.{NumberTable}
 use Rattle.sn_overlay.specs.Layers.{Layer, through}
 use Rattle.sn_overlay.specs.Merges.{merge}
-use Rattle.sn_overlay.specs.Needs.{nameless_in}
 use Rattle.sn_overlay.specs.Overlays.{gone, layer_of}
 use Rattle.sn_overlay.specs.Seen.{LiesOver}
 use Rattle.sn_overlay.specs.declared.overlay.Overlay.{Overlay}

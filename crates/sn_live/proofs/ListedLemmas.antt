@@ -7,10 +7,9 @@ use Rattle.std.proofs.lemmas.List.Elements.{Contains-append_left, Contains-get_o
 use Rattle.std.proofs.lemmas.List.Quantifiers.{all_pairs_push}
 use Rattle.sn_limits.specs.Versions.{limits_written}
 use Rattle.sn_model.specs.NameTree.{IsTree}
-use Rattle.sn_model.specs.Settling.{is_nameless, settled}
+use Rattle.sn_model.specs.Settling.{is_nameless, nameless_in, settled}
 use Rattle.sn_model.specs.Tree.{Node, Tree}
 use Rattle.sn_model.proofs.SettlingLemmas.{get_without}
-use Rattle.sn_overlay.specs.Needs.{nameless_in}
 use Rattle.sn_overlay_change.proofs.NamelessLemmas.{drops_are_counted}
 use Rattle.sn_changed.specs.declared.dropped.DroppedFile.{DroppedFile}
 use Rattle.sn_changed.specs.Dropped.{TellsGone, is_gone, numbers_of}

@@ -18,7 +18,7 @@ use Rattle.sn_model.specs.Tree.{Tree}
 use Rattle.sn_number_table.specs.Nameless.{TellsNameless, is_listed}
 use Rattle.sn_number_table.specs.Table.{TellsNumbers}
 use Rattle.sn_overlay.specs.Layers.{Layer, through}
-use Rattle.sn_overlay.specs.Needs.{nameless_in}
+use Rattle.sn_model.specs.Settling.{nameless_in}
 use Rattle.sn_overlay.specs.Overlays.{no_changes}
 use Rattle.sn_overlay.specs.Seen.{LiesOver}
 use Rattle.sn_live.proofs.BareLemmas.{listed_on_by}

@@ -10,7 +10,7 @@ use Rattle.sn_number_table.specs.Nameless.{TellsNameless}
 use Rattle.sn_number_table.specs.Table.{TellsNumbers, is_taken_in}
 use Rattle.sn_number_table.specs.declared.table.NumberTable.{NumberTable}
 use Rattle.sn_overlay.specs.Layers.{Layer, through}
-use Rattle.sn_overlay.specs.Needs.{nameless_in}
+use Rattle.sn_model.specs.Settling.{nameless_in}
 use Rattle.sn_overlay.specs.Overlays.{layer_of, no_changes}
 use Rattle.sn_overlay.specs.Seen.{LiesOver}
 use Rattle.sn_overlay.specs.declared.overlay.Overlay.{Overlay}

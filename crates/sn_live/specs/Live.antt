@@ -4,12 +4,11 @@ use Rattle.std.specs.FinMap as map
 use Rattle.sn_directories.specs.Told.{IsShown}
 use Rattle.sn_live.specs.Nodes.{KeepsBackAlike}
 use Rattle.sn_live.specs.declared.live.LiveTree.{LiveTree}
-use Rattle.sn_model.specs.Settling.{is_nameless}
+use Rattle.sn_model.specs.Settling.{is_nameless, nameless_in}
 use Rattle.sn_model.specs.Tree.{Tree}
 use Rattle.sn_number_table.specs.Nameless.{TellsNameless}
 use Rattle.sn_number_table.specs.Table.{TellsNumbers, kept_of, since_of}
 use Rattle.sn_overlay.specs.Layers.{Layer, through}
-use Rattle.sn_overlay.specs.Needs.{nameless_in}
 use Rattle.sn_overlay.specs.Overlays.{HasRoom, layer_of, no_changes}
 use Rattle.sn_overlay.specs.Seen.{LiesOver}
 

@@ -16,7 +16,7 @@ ghost use Rattle.sn_number_table.specs.Table.{TellsNumbers, kept_of, since_of};
 ghost use Rattle.sn_numbers.specs.Numbers.{kept_after, next_number, since_after};
 ghost use Rattle.sn_overlay.specs.Layers.{through};
 ghost use Rattle.sn_overlay.specs.Merges.{merge};
-ghost use Rattle.sn_overlay.specs.Needs.{nameless_in};
+ghost use Rattle.sn_model.specs.Settling.{nameless_in};
 ghost use Rattle.sn_overlay.specs.Overlays.{layer_of, no_changes};
 ghost use Rattle.sn_overlay_change.specs.ChangeLayers.{layer_of_change};
 ghost use Rattle.sn_overlay_change.specs.Faults.{IfBelow};

@@ -6,6 +6,7 @@ use crate::LiveView;
 use sn_applies::NamedTree;
 use sn_core_files::{FileFault, FileView};
 use sn_frozen::HasSnapshots;
+use sn_limits::SnapshotName;
 use sn_live_files::{HasContents, size};
 use sn_model::{Link, Names};
 use sn_walk::{Home, Object};
@@ -61,6 +62,10 @@ impl<'a, T: NamedTree + HasContents + HasSnapshots> FileView for LiveView<'a, T>
             }
             Home::Frozen(snapshot) => self.tree.frozen_names(alloc, snapshot, *number),
         }
+    }
+
+    fn count_nameless(&mut self, snapshot: &SnapshotName) -> Result<u32, T::Fault> {
+        self.tree.frozen_nameless(snapshot)
     }
 
     ghost bytes_stay = { λ u v told p. ap₂ (λ tree frozen. bytes_in (live_trees tree frozen)) (p.2 told) (T.frozen_stay u.tree.now v.tree.now told p.0) };

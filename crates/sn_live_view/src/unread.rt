@@ -130,5 +130,9 @@ impl<'a, B: HasSnapshots> FileView for UnreadView<'a, B> {
         Err(FileFault::View(Unread))
     }
 
+    fn count_nameless(&mut self, _snapshot: &SnapshotName) -> Result<u32, Unread> {
+        Err(Unread)
+    }
+
     ghost bytes_stay = { λ u v told e. ap (λ w. bytes_in (live_trees (shown_of w.live.now (B.shows w.root.now)) (B.frozen w.root.now))) e };
 }

@@ -4,7 +4,7 @@ ghost use Rattle.sn_desc.specs.InUse.{live_in};
 ghost use Rattle.sn_live.specs.Live as of_live;
 ghost use Rattle.sn_model.specs.Tree.{Tree};
 ghost use Rattle.sn_model.specs.World.{new_world};
-ghost use Rattle.sn_overlay.specs.Needs.{nameless_in};
+ghost use Rattle.sn_model.specs.Settling.{nameless_in};
 ghost use Rattle.sn_overlay.specs.Overlays.{layer_of};
 
 use sn_desc::Sessions;

@@ -14,7 +14,7 @@ use Rattle.sn_layout.specs.declared.geometry.Area.TheVariants.{Data}
 use Rattle.sn_layout.specs.declared.geometry.Slot.TheVariants.{A}
 use Rattle.sn_layout.specs.declared.tree.BlockTree.{BlockTree}
 use Rattle.sn_model.specs.Changes.{apply_all}
-use Rattle.sn_model.specs.Settling.{settled}
+use Rattle.sn_model.specs.Settling.{nameless_in, settled}
 use Rattle.sn_model.specs.Tree.{Tree}
 use Rattle.sn_model.specs.World.{new_world}
 use Rattle.sn_ondisk.specs.Gates.{IsClosed}
@@ -28,7 +28,6 @@ use Rattle.sn_image.specs.Reach.{reach}
 use Rattle.sn_image.specs.Sound.{IsSound}
 use Rattle.sn_opening.specs.Opens.{Opens}
 use Rattle.sn_opening.specs.Worlds.{StandsFor}
-use Rattle.sn_overlay.specs.Needs.{nameless_in}
 use Rattle.sn_sound.specs.Charges.{Fits, charges_from}
 use Rattle.sn_sound.specs.Disks.{IsFormatted, IsSoundDisk}
 use Rattle.sn_sound.specs.Logs.{AreReplayed, HasSoundLog}

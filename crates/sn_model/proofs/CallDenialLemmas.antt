@@ -29,7 +29,7 @@ use Rattle.sn_model.specs.Steps.{decision}
 use Rattle.sn_model.specs.Tests.{plain, flat, session_at, is_open, is_free, logged_in, logged_out, read_path, path_argument, mode_from_bits, new_mode_argument}
 use Rattle.sn_model.specs.World.{World, trees_of, viewed_trees}
 use Rattle.sn_model.specs.SnapshotCalls.{snapshot_argument}
-use Rattle.sn_model.proofs.SnapshotLemmas.{argument_other, create_other, delete_other}
+use Rattle.sn_model.proofs.SnapshotLemmas.{argument_other, create_other, delete_other, restore_other}
 use Rattle.sn_model.proofs.AccessDenialLemmas.{denies}
 use Rattle.sn_model.proofs.DecisionLemmas.{IsCalled, called}
 use Rattle.sn_model.proofs.DenialLemmas.{IsDeniedAt, bind_err, mkdir_denied, stat_denied}
@@ -160,6 +160,9 @@ module _ (world : World) (session : ℕ) (r : Refusal) (is : r.errno ≡ Eacces)
   ready_other (call.SnapDelete name) =
       behind_caller (λ s. snapshot_argument name >>= (λ old. ready_ok (calls.SnapDelete s old)))
       (λ s. chain_other (snapshot_argument name) (λ old. ready_ok (calls.SnapDelete s old)) r (λ h. argument_other r is name h) (λ old h. never_ok _ r h))
+  ready_other (call.SnapRestore name) =
+      behind_caller (λ s. snapshot_argument name >>= (λ old. ready_ok (calls.SnapRestore s old)))
+      (λ s. chain_other (snapshot_argument name) (λ old. ready_ok (calls.SnapRestore s old)) r (λ h. argument_other r is name h) (λ old h. never_ok _ r h))
   ready_other call.SnapList = behind_caller (λ _. ready_ok calls.SnapList) (λ s h. never_ok _ r h)
 
 read_ok : (p : Result (List (List ℕ)) PathFault) (names : List (List ℕ)) → read_path p ≡ Ok names → p ≡ Ok names
@@ -321,6 +324,12 @@ module _ (limits : Limits) (world : World) (session : ℕ) (r : Refusal) (is : r
       let n = bind_ok (snapshot_argument name) (λ old. ready_ok (calls.SnapDelete p.0 old)) x p.2 in
       absurd (delete_other world p.0 n.0 r is (goes_on (calls.SnapDelete p.0 n.0) x n.2 g))
 
+  snap_restore_denies : (name : List ℕ) → Denies (call.SnapRestore name)
+  snap_restore_denies name x f g =
+      let p = bind_ok (logged_in world session) (λ s. snapshot_argument name >>= (λ old. ready_ok (calls.SnapRestore s old))) x f in
+      let n = bind_ok (snapshot_argument name) (λ old. ready_ok (calls.SnapRestore p.0 old)) x p.2 in
+      absurd (restore_other limits world p.0 n.0 r is (goes_on (calls.SnapRestore p.0 n.0) x n.2 g))
+
   snap_list_denies : Denies call.SnapList
   snap_list_denies x f g = absurd (never_refused _ r (behind_session call.SnapList calls.SnapList x f g))
 
@@ -378,6 +387,7 @@ module _ (limits : Limits) (world : World) (session : ℕ) (r : Refusal) (is : r
   decided_denies call.Sync = sync_denies
   decided_denies (call.SnapCreate name) = snap_create_denies name
   decided_denies (call.SnapDelete name) = snap_delete_denies name
+  decided_denies (call.SnapRestore name) = snap_restore_denies name
   decided_denies call.SnapList = snap_list_denies
 
 pub access_denied : (limits : Limits) (world : World) (session : ℕ) (c : Call) (r : Refusal) → decision limits world session c ≡ Err r → r.errno ≡ Eacces → IsDenied world session c r

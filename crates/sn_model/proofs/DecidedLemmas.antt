@@ -36,7 +36,7 @@ use Rattle.sn_model.specs.declared.reply.Reply.{Reply}
 use Rattle.sn_model.specs.declared.reply.Reply.TheVariants as reply
 use Rattle.sn_limits.specs.declared.limits.Limits.{Limits}
 use Rattle.sn_model.specs.declared.change.Ownership.{Ownership}
-use Rattle.sn_model.specs.Outcomes.{AskedPoint, Plain, Freezes, Thaws, Nothing, Outcome, LogsIn, SetsUmask, Stays, points, tells}
+use Rattle.sn_model.specs.Outcomes.{AskedPoint, Plain, Freezes, Thaws, Restores, Nothing, Outcome, LogsIn, SetsUmask, Stays, points_for, tells}
 use Rattle.sn_model.specs.AccessCalls.{AclKind, acl_argument, id_argument, mode_bits_argument}
 use Rattle.sn_model.specs.declared.change.Change.TheVariants.{AddLink, Remove, Rename, SetAttributes}
 use Rattle.sn_model.specs.FileCalls.{OpenFlags, bytes_argument, count_argument, flags_argument, new_file}
@@ -44,8 +44,11 @@ use Rattle.sn_model.proofs.OpenLemmas.{opening_is, unlink_is}
 use Rattle.sn_model.proofs.SeatLemmas.{seat_of}
 use Rattle.sn_model.proofs.FileDecidedLemmas.{bytes_are, close_is, ftruncate_is, logout_is, reads_is, seek_is, write_is}
 use Rattle.sn_model.proofs.ChargeLemmas.{remove_pays}
-use Rattle.sn_model.proofs.OutcomeLemmas.{FitsPoint, IsAlone, IsAnswer, done, is_asked, told, turned}
-use Rattle.sn_model.proofs.SnapshotLemmas.{argument_is, create_is, delete_is}
+use Rattle.sn_model.proofs.OutcomeLemmas.{FitsPoint, IsAlone, IsAnswer, LeavesLive, done, is_asked, told, turned}
+use Rattle.sn_model.proofs.SnapshotLemmas.{argument_is, create_is, delete_is, restore_is}
+use Rattle.sn_model.specs.Charges.{point_charge}
+use Rattle.sn_model.specs.NameLaws.{changes_names}
+use Rattle.sn_model.specs.Settling.{nameless_if}
 use Rattle.sn_model.specs.SnapshotCalls.{snapshot_argument}
 pub use Rattle.sn_model.proofs.OutcomeLemmas.{IsDecided}
 use Rattle.sn_model.specs.AccessLaws.{GivesTo, SetsAcl, ShowsMode}
@@ -222,14 +225,14 @@ module _ (limits : Limits) (world : World) (session : ℕ) where
   tells_decided c alone o answer is e = subst (IsDecided limits world session c) (sym e) (told limits world session c alone answer is)
 
   -- a point that is asked for
-  asked : (c : Call) (o : Outcome) (p : AskedPoint) → is_asked p ≡ asks_for_point c → IsAlone p Nothing Stays → FitsPoint limits world p → TakesMemory c → points p ≡ o → IsDecided limits world session c o
-  asked c o p asks alone fits takes e = subst (IsDecided limits world session c) e (record {
+  asked : (c : Call) (o : Outcome) (charge : ℕ) (p : AskedPoint) → is_asked p ≡ asks_for_point c → IsAlone p Nothing Stays → (changes_names c ≡ false → LeavesLive p) → charge ≡ point_charge limits world p → FitsPoint limits world p → TakesMemory c → points_for charge p ≡ o → IsDecided limits world session c o
+  asked c o charge p asks alone leaves pays fits takes e = subst (IsDecided limits world session c) e (record {
     answers = λ refusal f. cc f;
     left = tt;
     of_old = tt;
-    keeps = λ h. tt;
+    keeps = λ h. (tt, leaves h);
     charged = λ h. tt;
-    pays = refl;
+    pays = omega (arith, pays);
     takes = tt;
     opens = λ f. cc f;
     applies = λ n l w f. refl;
@@ -262,7 +265,7 @@ module _ (limits : Limits) (world : World) (session : ℕ) where
         of_old = tt;
         keeps = λ h. cc h;
         charged = λ h. omega (arith, h);
-        pays = refl;
+        pays = omega arith;
         takes = tt;
         opens = λ f. cc f;
         applies = λ number some_links whole free.
@@ -355,7 +358,7 @@ module _ (limits : Limits) (world : World) (session : ℕ) where
         of_old = tt;
         keeps = λ h. cc h;
         charged = λ h. omega (arith, h);
-        pays = refl;
+        pays = omega arith;
         takes = tt;
         opens = λ f. cc f;
         applies = λ number some_links whole free. rename_applies limits world caller names others o some_links whole.live p (λ first more e. last_is others first more e (path_names new others read));
@@ -422,21 +425,28 @@ module _ (limits : Limits) (world : World) (session : ℕ) where
   sync_decided : (o : Outcome) → ReadyTo call.Sync o → IsDecided limits world session call.Sync o
   sync_decided o r =
       let k = seated (λ _. found.ok calls.Sync) r.0 r.1 in
-      asked call.Sync o Plain refl (refl, refl) tt tt (same_ok _ o (goes_on calls.Sync r.0 o k.2 r.2))
+      asked call.Sync o 0 Plain refl (refl, refl) (λ h. tt) refl tt tt (same_ok _ o (goes_on calls.Sync r.0 o k.2 r.2))
 
   snap_create_decided : (name : List ℕ) (o : Outcome) → ReadyTo (call.SnapCreate name) o → IsDecided limits world session (call.SnapCreate name) o
   snap_create_decided name o r =
       let p = bind_ok (logged_in world session) (λ s. snapshot_argument name >>= (λ new. found.ok (calls.SnapCreate s new))) r.0 r.1 in
       let n = bind_ok (snapshot_argument name) (λ new. found.ok (calls.SnapCreate p.0 new)) r.0 p.2 in
       let is = create_is limits world p.0 n.0 o (goes_on (calls.SnapCreate p.0 n.0) r.0 o n.2 r.2) in
-      asked (call.SnapCreate name) o (Freezes n.0) refl (refl, refl) (argument_is name n.0 n.1, is.1, is.2) tt is.0
+      asked (call.SnapCreate name) o 0 (Freezes n.0) refl (refl, refl) (λ h. tt) refl (argument_is name n.0 n.1, is.1, is.2) tt is.0
 
   snap_delete_decided : (name : List ℕ) (o : Outcome) → ReadyTo (call.SnapDelete name) o → IsDecided limits world session (call.SnapDelete name) o
   snap_delete_decided name o r =
       let p = bind_ok (logged_in world session) (λ s. snapshot_argument name >>= (λ old. found.ok (calls.SnapDelete s old))) r.0 r.1 in
       let n = bind_ok (snapshot_argument name) (λ old. found.ok (calls.SnapDelete p.0 old)) r.0 p.2 in
       let is = delete_is world p.0 n.0 o (goes_on (calls.SnapDelete p.0 n.0) r.0 o n.2 r.2) in
-      asked (call.SnapDelete name) o (Thaws n.0) refl (refl, refl) is.1 tt is.0
+      asked (call.SnapDelete name) o 0 (Thaws n.0) refl (refl, refl) (λ h. tt) refl is.1 tt is.0
+
+  snap_restore_decided : (name : List ℕ) (o : Outcome) → ReadyTo (call.SnapRestore name) o → IsDecided limits world session (call.SnapRestore name) o
+  snap_restore_decided name o r =
+      let p = bind_ok (logged_in world session) (λ s. snapshot_argument name >>= (λ old. found.ok (calls.SnapRestore s old))) r.0 r.1 in
+      let n = bind_ok (snapshot_argument name) (λ old. found.ok (calls.SnapRestore p.0 old)) r.0 p.2 in
+      let is = restore_is limits world p.0 n.0 o (goes_on (calls.SnapRestore p.0 n.0) r.0 o n.2 r.2) in
+      asked (call.SnapRestore name) o (limits.inode_charge * nameless_if (map.get world.frozen n.0)) (Restores n.0) refl (refl, refl) (λ h. cc h) refl (is.1, is.2) tt is.0
 
   snap_list_decided : (o : Outcome) → ReadyTo call.SnapList o → IsDecided limits world session call.SnapList o
   snap_list_decided o r =
@@ -468,6 +478,7 @@ module _ (limits : Limits) (world : World) (session : ℕ) where
   by_call call.Sync o r = sync_decided o r
   by_call (call.SnapCreate name) o r = snap_create_decided name o r
   by_call (call.SnapDelete name) o r = snap_delete_decided name o r
+  by_call (call.SnapRestore name) o r = snap_restore_decided name o r
   by_call call.SnapList o r = snap_list_decided o r
 
   pub decided_is : (c : Call) (o : Outcome) → decision limits world session c ≡ Ok o → IsDecided limits world session c o

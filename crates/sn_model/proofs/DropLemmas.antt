@@ -5,11 +5,11 @@ use Rattle.std.proofs.lemmas.Bool.{true≢false, false_from_ne_true}
 use Rattle.sn_limits.specs.declared.kind.Kind.TheVariants.{File, Directory}
 use Rattle.sn_model.specs.declared.link.Link.{Link}
 use Rattle.sn_limits.specs.declared.limits.Limits.{Limits}
-use Rattle.sn_model.specs.Tree.{Node, Tree, link_to}
-use Rattle.sn_model.specs.Settling.{is_nameless, without_nameless}
+use Rattle.sn_model.specs.Tree.{Node, Tree, link_to, names_for}
+use Rattle.sn_model.specs.Settling.{is_nameless, settled, without_nameless}
 use Rattle.sn_model.specs.NameTree.{HasKind, IsHierarchy, IsTree, Reaches, root, below}
 use Rattle.sn_model.proofs.NameLemmas.{is_unnamed}
-use Rattle.sn_model.proofs.SettlingLemmas.{nameless_is, get_without}
+use Rattle.sn_model.proofs.SettlingLemmas.{nameless_file, nameless_is, get_without}
 use Rattle.sn_model.proofs.MoveLemmas.{kind_at, some_node, is_kind, not_directory}
 use Rattle.sn_model.proofs.NodeLemmas.{nodes_part}
 use Rattle.sn_model.proofs.FewLemmas.{few_same}
@@ -66,3 +66,11 @@ dropping_tree limits tree held h = record {
   nodes = nodes_part limits tree h.nodes (without_nameless held tree) (λ n x e. without_was held tree n x e) (λ l n e. e);
   few = few_same limits tree (without_nameless held tree) h.few refl (λ n k. let s = some_node _ File k in is_kind tree n s.0 File (without_was held tree n s.0 s.1) s.2);
 }
+
+-- a settled tree has no file without a name
+pub all_named : (tree : Tree) (n : ℕ) → HasKind (settled tree) n File → names_for tree n ≡ 0 → ⊥
+all_named tree n k z =
+    let s = some_node _ File k in
+    let was = without_was (λ _. false) tree n s.0 s.1 in
+    let gone = get_without (λ _. false) tree n ∙ ap (λ (o : Option Node). cond (not (is_nameless tree n o) || false) o None) was ∙ ap (λ b. cond (not b || false) (Some s.0) None) (nameless_file tree n s.0 s.2 z) in
+    let never : Some s.0 ≡ None = sym s.1 ∙ gone in cc

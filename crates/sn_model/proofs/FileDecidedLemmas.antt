@@ -1,5 +1,5 @@
 -- What the calls on descriptors come to.
-use Rattle.std.proofs.Common.{◌≡◌, ℕ, zero, suc, ◌+◌, ◌-◌, ◌==◌, ◌<◌, ◌≤◌, Bool, true, false, cond, nat_le, nat_lt, List, [], ◌∷◌, Option, Some, None, Ok, Err, length, take, drop, is_some, refl, sym, ap, subst, ◌∙◌, arith, lt-ltb}
+use Rattle.std.proofs.Common.{◌≡◌, ℕ, zero, suc, ◌+◌, ◌==◌, ◌<◌, ◌≤◌, Bool, true, false, cond, nat_le, nat_lt, List, [], ◌∷◌, Option, Some, None, Ok, Err, length, take, drop, is_some, refl, sym, ap, subst, ◌∙◌, arith, lt-ltb}
 use Rattle.std.specs.Prelude.{IsSomeAnd}
 use Rattle.std.specs.FinMap as map
 use Rattle.std.specs.List.{list_all}
@@ -13,7 +13,7 @@ use Rattle.sn_walk.specs.Chains.{◌>>=◌}
 use Rattle.sn_walk.proofs.ChainLemmas.{bind_ok}
 use Rattle.sn_model.specs.declared.call.Call.{Call}
 use Rattle.sn_model.specs.declared.call.Call.TheVariants as call
-use Rattle.sn_model.specs.declared.change.Change.TheVariants.{SetSize, Write}
+use Rattle.sn_model.specs.declared.change.Change.TheVariants.{SetSize}
 use Rattle.sn_model.specs.declared.reply.Errno.TheVariants.{Ebadf, Efbig, Einval}
 use Rattle.sn_model.specs.declared.reply.Reply.TheVariants as reply
 use Rattle.sn_model.specs.Changes.{cut, is_file, written}
@@ -28,7 +28,7 @@ use Rattle.sn_model.specs.Worlds.{IsWorld}
 use Rattle.sn_model.proofs.ChainLemmas.{and_both}
 use Rattle.sn_model.proofs.DecisionLemmas.{ok, same_ok}
 use Rattle.sn_model.proofs.MoveLemmas.{some_node}
-use Rattle.sn_model.proofs.OutcomeLemmas.{IsDecided, done, told, turned}
+use Rattle.sn_model.proofs.OutcomeLemmas.{IsDecided, done, turned}
 use Rattle.sn_model.proofs.PartLemmas.{cut_of, is_file_at, written_of}
 
 -- ---- tests that have passed
@@ -179,9 +179,9 @@ module _ (limits : Limits) (world : World) (session : ℕ) where
         answers = λ r f. cc f;
         left = tt;
         of_old = are.few;
-        keeps = λ h. tt;
+        keeps = λ h. (tt, tt);
         charged = λ h. omega (arith, h);
-        pays = refl;
+        pays = omega arith;
         takes = tt;
         opens = λ f. cc f;
         applies = λ n l w f. write_applies d fd offset bytes are some few at is w;

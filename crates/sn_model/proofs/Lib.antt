@@ -27,12 +27,14 @@ pub mod DenialLemmas
 pub mod ChargeLemmas
 pub mod OutcomeLemmas
 pub mod SnapshotLemmas
+pub mod RestoreLemmas
 pub mod PointedLemmas
 pub mod SeatLemmas
 pub mod OpenLemmas
 pub mod FileDecidedLemmas
 pub mod DecidedLemmas
 pub mod WorldLemmas
+pub mod BroughtBackLemmas
 pub mod LoseLemmas
 pub mod MachineLemmas
 pub mod ExampleLemmas

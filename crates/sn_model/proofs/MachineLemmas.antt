@@ -1,9 +1,8 @@
 -- Events, runs and lives lead from worlds to worlds.
-use Rattle.std.proofs.Common.{◌≡◌, ◌≢◌, ℕ, ◌<◌, false, not, cond, ◌||◌, List, [], ◌∷◌, Option, Some, None, refl, sym, ap, subst, ◌∙◌, inl, inr, arith}
+use Rattle.std.proofs.Common.{◌≡◌, ◌≢◌, ℕ, ◌<◌, false, List, [], ◌∷◌, Option, Some, None, refl, sym, ap, subst, ◌∙◌, inl, inr, arith}
 use Rattle.std.specs.List.{AllByRecursion}
 use Rattle.std.proofs.lemmas.List.{length-replicate}
 use Rattle.std.specs.FinMap as map
-use Rattle.sn_limits.specs.declared.kind.Kind.TheVariants.{File}
 use Rattle.sn_limits.specs.declared.limits.Limits.{Limits}
 use Rattle.sn_limits.specs.Versions.{limits_written}
 use Rattle.sn_model.specs.declared.call.Call.{Call}
@@ -16,28 +15,18 @@ use Rattle.sn_model.specs.declared.reply.Reply.{Reply}
 use Rattle.sn_model.specs.declared.reply.Reply.TheVariants as answer
 use Rattle.sn_model.specs.declared.session.Session.{Session}
 use Rattle.sn_model.specs.Tests.{plain}
-use Rattle.sn_model.specs.Tree.{Tree, Node, names_for}
+use Rattle.sn_model.specs.Tree.{Tree, names_for}
 use Rattle.sn_model.specs.World.{World, descriptor_cmp, new_world}
-use Rattle.sn_model.specs.NameTree.{HasKind, IsTree}
-use Rattle.sn_model.specs.Settling.{is_nameless, settled, settle}
+use Rattle.sn_model.specs.NameTree.{IsTree}
+use Rattle.sn_model.specs.Settling.{settle}
 use Rattle.sn_model.specs.Steps.{decision}
 use Rattle.sn_model.specs.Machine as machine
 use Rattle.sn_model.specs.Machine.{State, Running, Stopped, Mishap, Anything, IsAnswered, IsCutOff, IsRefused, IsStopped, IsUnmounted, CallStep, EventStep, PointFails, PointStep, RestartStep, MountStep, Run, Left, LeftIn, CutRun, Life, refused}
 use Rattle.sn_model.specs.Worlds.{IsCall, IsEvent, IsFound, IsSettled, IsState, IsWorld}
-use Rattle.sn_model.proofs.MoveLemmas.{some_node}
-use Rattle.sn_model.proofs.SettlingLemmas.{nameless_file, get_without}
-use Rattle.sn_model.proofs.DropLemmas.{dropping_tree, without_was}
+use Rattle.sn_model.proofs.DropLemmas.{all_named, dropping_tree}
 use Rattle.sn_model.proofs.DecidedLemmas.{decided_is}
 use Rattle.sn_model.proofs.StepLemmas.{becomes_refused}
 use Rattle.sn_model.proofs.WorldLemmas.{becomes_world, comes_world, free_sessions, new_is_world}
-
--- a settled tree has no file without a name
-all_named : (tree : Tree) (n : ℕ) → HasKind (settled tree) n File → names_for tree n ≡ 0 → ⊥
-all_named tree n k z =
-    let s = some_node _ File k in
-    let was = without_was (λ _. false) tree n s.0 s.1 in
-    let gone = get_without (λ _. false) tree n ∙ ap (λ (o : Option Node). cond (not (is_nameless tree n o) || false) o None) was ∙ ap (λ b. cond (not b || false) (Some s.0) None) (nameless_file tree n s.0 s.2 z) in
-    let never : Some s.0 ≡ None = sym s.1 ∙ gone in cc
 
 -- a name tree in place of a world's live one, settled
 pub settle_tree : (limits : Limits) (world : World) (tree : Tree) → IsWorld limits world → IsTree limits tree → IsWorld limits (settle (record world { live = tree }))

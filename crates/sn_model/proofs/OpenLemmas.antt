@@ -316,7 +316,7 @@ module _ (limits : Limits) (world : World) (session : ℕ) (s : Session) (names 
         of_old = tt;
         keeps = λ h. cc h;
         charged = λ h. omega (arith, h);
-        pays = refl;
+        pays = omega arith;
         takes = tt;
         opens = λ _. tt;
         applies = λ number links whole free.

@@ -60,6 +60,6 @@ others_keep_names limits old new session c answer other (inl becomes) = told (de
     told (Ok o) e b =
         let k = b.1 in
         ap (λ (w : World). w.live.links) k.world
-        ∙ ap (λ (t : Tree). t.links) (pointed_live o.point (dropped (with_caller (with_live old k.tree) session (filled k.number o.caller))))
+        ∙ ap (λ (t : Tree). t.links) (pointed_live o.point ((decided_is limits old session c o e).keeps other).1 (dropped (with_caller (with_live old k.tree) session (filled k.number o.caller))))
         ∙ ap links_in (caller_live (with_live old k.tree) session _)
-        ∙ names_kept limits k.number o.change old.live k.tree ((decided_is limits old session c o e).keeps other) k.applied
+        ∙ names_kept limits k.number o.change old.live k.tree ((decided_is limits old session c o e).keeps other).0 k.applied

@@ -1,5 +1,5 @@
 -- What is so of whatever a call comes to.
-use Rattle.std.proofs.Common.{◌≡◌, ℕ, ◌<◌, ◌≤◌, Bool, true, false, Ok, length, refl, sym}
+use Rattle.std.proofs.Common.{◌≡◌, ℕ, ◌<◌, ◌≤◌, Bool, true, false, Ok, length, refl, sym, arith}
 use Rattle.std.specs.FinMap as map
 use Rattle.std.specs.Prelude.{IsSomeAnd, IsTrue, is_none, is_some}
 use Rattle.sn_limits.specs.declared.kind.Kind.TheVariants.{File}
@@ -17,8 +17,8 @@ use Rattle.sn_model.specs.Charges.{IsPaidFor, charge_for}
 use Rattle.sn_model.specs.Descriptors.{next_descriptor}
 use Rattle.sn_model.specs.NameLaws.{changes_names}
 use Rattle.sn_model.specs.NameTree.{HasKind}
-use Rattle.sn_model.specs.Outcomes.{Pending, Nothing, Makes, Does, Caller, Stays, LogsIn, SetsUmask, LogsOut, Opens, OpensNew, Closes, Moves, AskedPoint, Unasked, Plain, Freezes, Thaws, Outcome, does, is_opening, tells, asks}
-use Rattle.sn_model.specs.SnapshotCalls.{has_open_in}
+use Rattle.sn_model.specs.Outcomes.{Pending, Nothing, Makes, Does, Caller, Stays, LogsIn, SetsUmask, LogsOut, Opens, OpensNew, Closes, Moves, AskedPoint, Unasked, Plain, Freezes, Thaws, Restores, Outcome, does, is_opening, tells, asks}
+use Rattle.sn_model.specs.SnapshotCalls.{has_open_in, has_open_live}
 use Rattle.sn_model.specs.Steps.{IsNumberFor, TakesMemory, asks_for_point, changed}
 use Rattle.sn_model.specs.Tree.{Tree, least_unused}
 use Rattle.sn_model.specs.World.{World, tree_in, trees_of}
@@ -98,6 +98,7 @@ is_asked Unasked = false
 is_asked Plain = true
 is_asked (Freezes name) = true
 is_asked (Thaws name) = true
+is_asked (Restores name) = true
 
 -- then nothing else changes
 abbrev pub IsAlone : AskedPoint → Pending → Caller → Type 0
@@ -105,13 +106,23 @@ IsAlone Unasked change caller = Unit {0}
 IsAlone Plain change caller = (change ≡ Nothing) × (caller ≡ Stays)
 IsAlone (Freezes name) change caller = (change ≡ Nothing) × (caller ≡ Stays)
 IsAlone (Thaws name) change caller = (change ≡ Nothing) × (caller ≡ Stays)
+IsAlone (Restores name) change caller = (change ≡ Nothing) × (caller ≡ Stays)
 
--- what it makes of the snapshots keeps a world
+-- the live tree stays
+abbrev pub LeavesLive : AskedPoint → Type 0
+LeavesLive Unasked = Unit {0}
+LeavesLive Plain = Unit {0}
+LeavesLive (Freezes name) = Unit {0}
+LeavesLive (Thaws name) = Unit {0}
+LeavesLive (Restores name) = ⊥
+
+-- what it makes of the trees keeps a world
 abbrev pub FitsPoint : Limits → World → AskedPoint → Type 0
 FitsPoint limits world Unasked = Unit {0}
 FitsPoint limits world Plain = Unit {0}
 FitsPoint limits world (Freezes name) = IsTrue (is_snapshot_name name) × (map.contains_key world.frozen name ≡ false) × (map.len world.frozen < limits.snapshots)
 FitsPoint limits world (Thaws name) = has_open_in world.descriptors name ≡ false
+FitsPoint limits world (Restores name) = (map.contains_key world.frozen name ≡ true) × (has_open_live world.descriptors ≡ false)
 
 -- the point that a call asks for
 pub record IsPointing (limits : Limits) (world : World) (c : Call) (o : Outcome) : Type 0 where
@@ -124,9 +135,9 @@ pub record IsDecided (limits : Limits) (world : World) (session : ℕ) (c : Call
   pub answers : IsAnswer o.told
   pub left : HasLeft limits world.live o.change
   pub of_old : DoesToOld o.change
-  pub keeps : changes_names c ≡ false → KeepsNames o.change
+  pub keeps : changes_names c ≡ false → KeepsNames o.change × LeavesLive o.point
   pub charged : 0 < limits.inode_charge → OnChange (0 < o.charge) o.change
-  pub pays : IsPaidFor limits world.live o
+  pub pays : IsPaidFor limits world o
   pub takes : OnChange (TakesMemory c) o.change
   pub opens : is_opening o.caller ≡ true → TakesMemory c
   pub applies : (number : ℕ) → 0 < limits.links → IsWorld limits world → IsNumberFor limits world.live number o.change → is_some (changed limits number o.change world.live) ≡ true
@@ -136,7 +147,7 @@ pub record IsDecided (limits : Limits) (world : World) (session : ℕ) (c : Call
 module _ (limits : Limits) (world : World) (session : ℕ) (c : Call) (alone : asks_for_point c ≡ false) where
   -- a session or its descriptors change, and nothing else
   pub turned : (caller : Caller) (answer : Reply) → IsAnswer answer → (is_opening caller ≡ true → TakesMemory c) → (IsCall c → IsWorld limits world → FitsCaller limits world session Nothing caller) → IsDecided limits world session c (asks caller answer)
-  turned caller answer is opens fits = record { answers = is; left = tt; of_old = tt; keeps = λ h. tt; charged = λ h. tt; pays = refl; takes = tt; opens = opens; applies = λ n l w f. refl; fits = fits; points = record { asks = sym alone; alone = tt; fits = tt } }
+  turned caller answer is opens fits = record { answers = is; left = tt; of_old = tt; keeps = λ h. (tt, tt); charged = λ h. tt; pays = refl; takes = tt; opens = opens; applies = λ n l w f. refl; fits = fits; points = record { asks = sym alone; alone = tt; fits = tt } }
 
   -- nothing changes
   pub told : (answer : Reply) → IsAnswer answer → IsDecided limits world session c (tells answer)
@@ -148,9 +159,9 @@ module _ (limits : Limits) (world : World) (session : ℕ) (c : Call) (alone : a
     answers = λ r e. cc e;
     left = tt;
     of_old = old;
-    keeps = keeps;
+    keeps = λ h. (keeps h, tt);
     charged = charged;
-    pays = pays;
+    pays = omega (arith, pays);
     takes = takes;
     opens = λ f. cc f;
     applies = λ n l w f. applies w;

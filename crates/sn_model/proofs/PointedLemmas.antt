@@ -1,9 +1,8 @@
--- What a point that is asked for makes of a world: a snapshot is made of the live tree, or one goes.
-use Rattle.std.proofs.Common.{◌≡◌, ◌≢◌, ◌⊎◌, inl, inr, ℕ, ◌+◌, ◌-◌, ◌<◌, ◌≤◌, Bool, true, false, cond, IsTrue, List, Option, Some, None, is_some, refl, sym, ap, subst, ◌∙◌, arith, true≢false}
+-- What a point that is asked for makes of a world: a snapshot is made of the live tree, one goes, or one is brought back.
+use Rattle.std.proofs.Common.{◌≡◌, ◌≢◌, ◌⊎◌, inl, inr, ℕ, ◌+◌, ◌-◌, ◌≤◌, Bool, true, false, cond, IsTrue, List, Option, Some, None, is_some, refl, sym, ap, subst, ◌∙◌, arith, true≢false}
 use Rattle.std.specs.FinMap as map
 use Rattle.std.specs.Prelude.{IsSomeAnd}
-use Rattle.std.specs.Cmp.Lexicographic.{nat_list_cmp_total, slice_cmp}
-use Rattle.std.specs.Ordering.{nat_cmp}
+use Rattle.std.specs.Cmp.Lexicographic.{nat_list_cmp_total}
 use Rattle.std.proofs.lemmas.Bool.{lt-ltb}
 use Rattle.std.proofs.lemmas.Cmp.{nat_list_eq_equiv}
 use Rattle.std.proofs.lemmas.Map.Lookups.{exact_bytes}
@@ -15,24 +14,26 @@ use Rattle.sn_walk.specs.declared.object.Home.{Home}
 use Rattle.sn_walk.specs.declared.object.Home.TheVariants.{Live, Frozen}
 use Rattle.sn_model.specs.Descriptors.{Descriptors}
 use Rattle.sn_model.specs.NameTree.{HasKind, IsTree}
-use Rattle.sn_model.specs.Outcomes.{AskedPoint, Unasked, Plain, Freezes, Thaws}
+use Rattle.sn_model.specs.Outcomes.{AskedPoint, Unasked, Plain, Freezes, Thaws, Restores}
 use Rattle.sn_model.specs.SnapshotCalls.{has_open_in}
 use Rattle.sn_model.specs.Steps.{pointed}
 use Rattle.sn_model.specs.Tree.{Tree}
 use Rattle.sn_model.specs.World.{Descriptor, World, tree_in, trees_of}
-use Rattle.sn_model.specs.Worlds.{IsOpenFile, IsWorld}
+use Rattle.sn_model.specs.Worlds.{IsWorld}
 use Rattle.sn_model.proofs.ChainLemmas.{some_same}
 use Rattle.sn_model.proofs.CountLemmas.{count, count_some}
 use Rattle.sn_model.proofs.HeldLemmas.{any_counts, descriptors_total, exact_descriptors}
-use Rattle.sn_model.proofs.MapLemmas.{get_inserted, get_left, get_other, get_removed, get_was, same_or_apart}
-use Rattle.sn_model.proofs.OutcomeLemmas.{FitsPoint}
+use Rattle.sn_model.proofs.MapLemmas.{get_inserted, get_left, get_other, get_was, same_or_apart}
+use Rattle.sn_model.proofs.OutcomeLemmas.{FitsPoint, LeavesLive}
+use Rattle.sn_model.proofs.RestoreLemmas.{restored_world}
 
--- the live tree stays
-pub pointed_live : (p : AskedPoint) (w : World) → (pointed p w).live ≡ w.live
-pointed_live Unasked w = refl
-pointed_live Plain w = refl
-pointed_live (Freezes name) w = refl
-pointed_live (Thaws name) w = refl
+-- the live tree stays, but where a snapshot is brought back
+pub pointed_live : (p : AskedPoint) → LeavesLive p → (w : World) → (pointed p w).live ≡ w.live
+pointed_live Unasked leaves w = refl
+pointed_live Plain leaves w = refl
+pointed_live (Freezes name) leaves w = refl
+pointed_live (Thaws name) leaves w = refl
+pointed_live (Restores name) leaves w = absurd leaves
 
 abbrev OneOf : World → List ℕ → Tree → Type 0
 OneOf w name tree = map.get w.frozen name ≡ Some tree
@@ -125,10 +126,11 @@ module _ (limits : Limits) (w : World) (name : List ℕ) (whole : IsWorld limits
     held = whole.held;
   }
 
--- ---- either
+-- ---- any of them
 
 pub pointed_world : (limits : Limits) (w : World) (p : AskedPoint) → IsWorld limits w → FitsPoint limits w p → IsWorld limits (pointed p w)
 pointed_world limits w Unasked whole fits = whole
 pointed_world limits w Plain whole fits = whole
 pointed_world limits w (Freezes name) whole fits = freezes_world limits w name whole fits
 pointed_world limits w (Thaws name) whole fits = thaws_world limits w name whole fits
+pointed_world limits w (Restores name) whole fits = restored_world limits w name whole fits.1

@@ -1,5 +1,5 @@
 -- What the calls on snapshots come to, and what they are refused with.
-use Rattle.std.proofs.Common.{◌≡◌, ◌⊎◌, ℕ, ◌<◌, ◌==◌, Bool, true, false, cond, IsTrue, nat_le, List, Ok, Err, refl, sym, ap, ◌∙◌}
+use Rattle.std.proofs.Common.{◌≡◌, ℕ, ◌*◌, ◌<◌, ◌==◌, Bool, true, false, cond, IsTrue, nat_le, List, Ok, Err, refl, sym, ap, ◌∙◌}
 use Rattle.std.specs.FinMap as map
 use Rattle.std.proofs.lemmas.Bool.{leb-false}
 use Rattle.sn_acl.specs.Credential.{Credential}
@@ -11,8 +11,9 @@ use Rattle.sn_model.specs.declared.reply.Errno.TheVariants.{Eacces, Ebusy, Eexis
 use Rattle.sn_model.specs.declared.reply.Refusal.{Refusal}
 use Rattle.sn_model.specs.declared.reply.Rule.TheVariants as rule
 use Rattle.sn_model.specs.declared.session.Session.{Session}
-use Rattle.sn_model.specs.Outcomes.{Freezes, Outcome, Thaws, points}
-use Rattle.sn_model.specs.SnapshotCalls.{closed_snapshot, has_open_in, present_snapshot, room_for_snapshot, snap_create_outcome, snap_delete_outcome, snapshot_argument, user_0, vacant_snapshot}
+use Rattle.sn_model.specs.Outcomes.{Freezes, Outcome, Restores, Thaws, points, points_for}
+use Rattle.sn_model.specs.SnapshotCalls.{closed_live, closed_snapshot, has_open_in, has_open_live, present_snapshot, room_for_snapshot, snap_create_outcome, snap_delete_outcome, snap_restore_outcome, snapshot_argument, user_0, vacant_snapshot}
+use Rattle.sn_model.specs.Settling.{nameless_if}
 use Rattle.sn_model.specs.Tests.{forbidden, plain}
 use Rattle.sn_model.specs.World.{World, trees_of, viewed_trees}
 use Rattle.sn_model.proofs.DecisionLemmas.{ok, same_ok}
@@ -27,6 +28,13 @@ argument_is word name e = told (is_snapshot_name word) refl e
     told : (b : Bool) → is_snapshot_name word ≡ b → cond b (Ok word) (refuses (plain Einval)) ≡ Ok name → IsTrue (is_snapshot_name name)
     told true t f = let same : word ≡ name = cc in ap is_snapshot_name (sym same) ∙ t
     told false t f = cc
+
+pub argument_same : (word name : List ℕ) → snapshot_argument word ≡ Ok name → word ≡ name
+argument_same word name e = told (is_snapshot_name word) e
+  where
+    told : (b : Bool) → cond b (Ok word) (refuses (plain Einval)) ≡ Ok name → word ≡ name
+    told true f = cc
+    told false f = cc
 
 pub create_is : (limits : Limits) (world : World) (session : Session) (name : List ℕ) (o : Outcome) → snap_create_outcome limits world session name ≡ Ok o → (points (Freezes name) ≡ o) × (map.contains_key world.frozen name ≡ false) × (map.len world.frozen < limits.snapshots)
 unfolding snap_create_outcome
@@ -48,6 +56,26 @@ delete_is world session name o e =
     let c = bind_ok (closed_snapshot world name) (λ _. ok (points (Thaws name))) o b.2 in
     (same_ok _ o c.2, closed c.0 (has_open_in world.descriptors name) c.1)
   where
+    closed : (u : Unit {0}) (b : Bool) → cond b (refuses (plain Ebusy)) (Ok (tt {0})) ≡ Ok u → b ≡ false
+    closed u true f = cc
+    closed u false f = refl
+
+-- what a restore is charged for
+abbrev pub restores_at : Limits → World → List ℕ → Outcome
+restores_at limits world name = points_for (limits.inode_charge * nameless_if (map.get world.frozen name)) (Restores name)
+
+pub restore_is : (limits : Limits) (world : World) (session : Session) (name : List ℕ) (o : Outcome) → snap_restore_outcome limits world session name ≡ Ok o → (restores_at limits world name ≡ o) × (map.contains_key world.frozen name ≡ true) × (has_open_live world.descriptors ≡ false)
+unfolding snap_restore_outcome
+restore_is limits world session name o e =
+    let a = bind_ok (user_0 session.cred) (λ _. present_snapshot (viewed_trees (trees_of world)) name >>= (λ _. closed_live world >>= (λ _. ok (restores_at limits world name)))) o e in
+    let b = bind_ok (present_snapshot (viewed_trees (trees_of world)) name) (λ _. closed_live world >>= (λ _. ok (restores_at limits world name))) o a.2 in
+    let c = bind_ok (closed_live world) (λ _. ok (restores_at limits world name)) o b.2 in
+    (same_ok _ o c.2, present b.0 (map.contains_key world.frozen name) b.1, closed c.0 (has_open_live world.descriptors) c.1)
+  where
+    present : (u : Unit {0}) (b : Bool) → cond b (Ok (tt {0})) (refuses (plain Enoent)) ≡ Ok u → b ≡ true
+    present u true f = refl
+    present u false f = cc
+
     closed : (u : Unit {0}) (b : Bool) → cond b (refuses (plain Ebusy)) (Ok (tt {0})) ≡ Ok u → b ≡ false
     closed u true f = cc
     closed u false f = refl
@@ -79,12 +107,9 @@ module _ (r : Refusal) (is : r.errno ≡ Eacces) where
       told true f = plain_other {A = Unit {0}} Elimit r (λ q. cc q) f is
       told false f = cc f
 
-  closed_other : (world : World) (name : List ℕ) → closed_snapshot world name ≡ Err r → ⊥
-  closed_other world name e = told (has_open_in world.descriptors name) e
-    where
-      told : (b : Bool) → cond b (refuses (plain Ebusy)) (Ok (tt {0})) ≡ Err r → ⊥
-      told true f = plain_other {A = Unit {0}} Ebusy r (λ q. cc q) f is
-      told false f = cc f
+  busy_other : (b : Bool) → cond b (refuses (plain Ebusy)) (Ok (tt {0})) ≡ Err r → ⊥
+  busy_other true f = plain_other {A = Unit {0}} Ebusy r (λ q. cc q) f is
+  busy_other false f = cc f
 
 pub create_other : (limits : Limits) (world : World) (session : Session) (name : List ℕ) (r : Refusal) → r.errno ≡ Eacces → snap_create_outcome limits world session name ≡ Err r → ⊥
 unfolding snap_create_outcome
@@ -98,4 +123,11 @@ unfolding snap_delete_outcome
 delete_other world session name r is =
     chain_other (user_0 session.cred) (λ _. present_snapshot (viewed_trees (trees_of world)) name >>= (λ _. closed_snapshot world name >>= (λ _. ok (points (Thaws name))))) r (user_other r is session.cred)
     (λ _. chain_other (present_snapshot (viewed_trees (trees_of world)) name) (λ _. closed_snapshot world name >>= (λ _. ok (points (Thaws name)))) r (λ e. tested_other Enoent (λ q. cc q) (map.contains_key world.frozen name) tt r e is)
-    (λ _. chain_other (closed_snapshot world name) (λ _. ok (points (Thaws name))) r (closed_other r is world name) (λ _ e. never_refused _ r e)))
+    (λ _. chain_other (closed_snapshot world name) (λ _. ok (points (Thaws name))) r (busy_other r is (has_open_in world.descriptors name)) (λ _ e. never_refused _ r e)))
+
+pub restore_other : (limits : Limits) (world : World) (session : Session) (name : List ℕ) (r : Refusal) → r.errno ≡ Eacces → snap_restore_outcome limits world session name ≡ Err r → ⊥
+unfolding snap_restore_outcome
+restore_other limits world session name r is =
+    chain_other (user_0 session.cred) (λ _. present_snapshot (viewed_trees (trees_of world)) name >>= (λ _. closed_live world >>= (λ _. ok (restores_at limits world name)))) r (user_other r is session.cred)
+    (λ _. chain_other (present_snapshot (viewed_trees (trees_of world)) name) (λ _. closed_live world >>= (λ _. ok (restores_at limits world name))) r (λ e. tested_other Enoent (λ q. cc q) (map.contains_key world.frozen name) tt r e is)
+    (λ _. chain_other (closed_live world) (λ _. ok (restores_at limits world name)) r (busy_other r is (has_open_live world.descriptors)) (λ _ e. never_refused _ r e)))

@@ -26,7 +26,7 @@ use Rattle.sn_model.specs.NameTree.{HasKind, IsHierarchy, IsNode, IsTree, Reache
 use Rattle.sn_model.specs.Changes.{node_with}
 use Rattle.sn_limits.specs.declared.limits.Limits.{Limits}
 use Rattle.sn_model.specs.Descriptors.{Descriptors, at_offset, closed, descriptor_for, moved_if, opened, without_session}
-use Rattle.sn_model.specs.Outcomes.{AskedPoint, Unasked, Plain, Freezes, Thaws, Pending, Nothing, Makes, Does, Caller, Stays, LogsIn, SetsUmask, LogsOut, Opens, OpensNew, Closes, Moves, Outcome}
+use Rattle.sn_model.specs.Outcomes.{AskedPoint, Unasked, Plain, Freezes, Thaws, Restores, Pending, Nothing, Makes, Does, Caller, Stays, LogsIn, SetsUmask, LogsOut, Opens, OpensNew, Closes, Moves, Outcome}
 use Rattle.sn_model.specs.Steps.{Becomes, Comes, IsNumberFor, Step, changed, decision, filled, masked, with_caller, with_descriptors, with_live}
 use Rattle.sn_model.specs.Worlds.{IsSession, IsCall, IsOpenFile, IsWorld}
 use Rattle.sn_model.proofs.LinkLemmas.{exact_links, links_total}
@@ -248,6 +248,12 @@ module _ (limits : Limits) (old : World) (session : ℕ) (change : Pending) (tre
 abbrev pub called_world : World → ℕ → ℕ → Tree → Caller → World
 called_world old session number tree caller = with_caller (with_live old tree) session (filled number caller)
 
+-- behind a call that asks for a point the world is as it was, but for what that makes of the trees
+pub alone_same : (limits : Limits) (old : World) (session : ℕ) → IsWorld limits old → (number : ℕ) (tree : Tree) (change : Pending) (caller : Caller) → change ≡ Nothing → caller ≡ Stays → changed limits number change old.live ≡ Some tree → dropped (called_world old session number tree caller) ≡ old
+alone_same limits old session w number tree change caller none stays e =
+    let same = some_same _ _ (sym (ap (λ (p : Pending). changed limits number p old.live) none) ∙ e) in
+    ap (λ (x : Caller). dropped (called_world old session number tree x)) stays ∙ ap (λ (t : Tree). dropped (with_live old t)) (sym same) ∙ dropped_same limits old (all_held limits old w)
+
 module _ (limits : Limits) (old : World) (session : ℕ) (c : Call) (o : Outcome) (d : IsDecided limits old session c o) (numbers : IsCall c) (w : IsWorld limits old) where
   pub undropped_after : (number : ℕ) (tree : Tree) → IsNumberFor limits old.live number o.change → changed limits number o.change old.live ≡ Some tree → IsUndropped limits (called_world old session number tree o.caller)
   undropped_after number tree free e =
@@ -256,17 +262,12 @@ module _ (limits : Limits) (old : World) (session : ℕ) (c : Call) (o : Outcome
       (still_fits limits old session o.change tree number stays (λ is. made_file limits old.live tree number o.change is e) o.caller (d.fits numbers w))
       (with_tree limits old tree w (changed_tree limits old.live tree number o.change w.live e) stays)
 
-  -- behind a call that asks for a point the world is as it was, but for what that makes of the snapshots
-  alone_same : (number : ℕ) (tree : Tree) (change : Pending) (caller : Caller) → change ≡ Nothing → caller ≡ Stays → changed limits number change old.live ≡ Some tree → dropped (called_world old session number tree caller) ≡ old
-  alone_same number tree change caller none stays e =
-      let same = some_same _ _ (sym (ap (λ (p : Pending). changed limits number p old.live) none) ∙ e) in
-      ap (λ (x : Caller). dropped (called_world old session number tree x)) stays ∙ ap (λ (t : Tree). dropped (with_live old t)) (sym same) ∙ dropped_same limits old (all_held limits old w)
-
   fits_after : (number : ℕ) (tree : Tree) → changed limits number o.change old.live ≡ Some tree → (p : AskedPoint) → IsAlone p o.change o.caller → FitsPoint limits old p → FitsPoint limits (dropped (called_world old session number tree o.caller)) p
   fits_after number tree e Unasked alone fits = tt
   fits_after number tree e Plain alone fits = tt
-  fits_after number tree e (Freezes name) alone fits = subst (λ (x : World). FitsPoint limits x (Freezes name)) (sym (alone_same number tree o.change o.caller alone.0 alone.1 e)) fits
-  fits_after number tree e (Thaws name) alone fits = subst (λ (x : World). FitsPoint limits x (Thaws name)) (sym (alone_same number tree o.change o.caller alone.0 alone.1 e)) fits
+  fits_after number tree e (Freezes name) alone fits = subst (λ (x : World). FitsPoint limits x (Freezes name)) (sym (alone_same limits old session w number tree o.change o.caller alone.0 alone.1 e)) fits
+  fits_after number tree e (Thaws name) alone fits = subst (λ (x : World). FitsPoint limits x (Thaws name)) (sym (alone_same limits old session w number tree o.change o.caller alone.0 alone.1 e)) fits
+  fits_after number tree e (Restores name) alone fits = subst (λ (x : World). FitsPoint limits x (Restores name)) (sym (alone_same limits old session w number tree o.change o.caller alone.0 alone.1 e)) fits
 
   pub comes_world : (new : World) → Comes limits old session o new → IsWorld limits new
   comes_world new h =

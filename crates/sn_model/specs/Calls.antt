@@ -24,7 +24,7 @@ use Rattle.sn_model.specs.World.{World, trees_of, viewed_trees}
 use Rattle.sn_walk.specs.Views.{ViewedTrees}
 use Rattle.sn_model.specs.FileCalls.{OpenFlags, bytes_argument, close_outcome, count_argument, flags_argument, ftruncate_outcome, logout_outcome, open_outcome, read_outcome, seek_outcome, unlink_outcome, write_outcome}
 use Rattle.sn_model.specs.NameCalls.{link_outcome, readdir_outcome, rename_outcome, rmdir_outcome}
-use Rattle.sn_model.specs.SnapshotCalls.{snap_create_outcome, snap_delete_outcome, snap_list_outcome, snapshot_argument}
+use Rattle.sn_model.specs.SnapshotCalls.{snap_create_outcome, snap_delete_outcome, snap_list_outcome, snap_restore_outcome, snapshot_argument}
 pub use Rattle.sn_model.specs.Seen.{Seen, last_name, seen}
 use Rattle.sn_walk.specs.Chains.{◌>>=◌}
 use Rattle.sn_model.specs.Tests.{logged_in, logged_out, path_argument, new_mode_argument, prefix, full, not_present, live, writable_parent}
@@ -56,6 +56,7 @@ pub data Ready : Type 0 where
   Sync : Ready
   SnapCreate : Session → List ℕ → Ready
   SnapDelete : Session → List ℕ → Ready
+  SnapRestore : Session → List ℕ → Ready
   SnapList : Ready
 
 -- the umask of a new session, 0022
@@ -91,6 +92,7 @@ ready world session (call.Ftruncate fd size) = logged_in world session >>= (λ _
 ready world session call.Sync = logged_in world session >>= (λ _. Ok Sync)
 ready world session (call.SnapCreate name) = logged_in world session >>= (λ s. snapshot_argument name >>= (λ new. Ok (SnapCreate s new)))
 ready world session (call.SnapDelete name) = logged_in world session >>= (λ s. snapshot_argument name >>= (λ old. Ok (SnapDelete s old)))
+ready world session (call.SnapRestore name) = logged_in world session >>= (λ s. snapshot_argument name >>= (λ old. Ok (SnapRestore s old)))
 ready world session call.SnapList = logged_in world session >>= (λ _. Ok SnapList)
 
 -- a new directory: its owner is the caller's; its group and S_ISGID are a set-gid parent's, else the group is the caller's; its ACLs are inherited
@@ -158,4 +160,5 @@ outcome_of limits world (Ftruncate session fd size) = ftruncate_outcome limits w
 outcome_of limits world Sync = Ok (points Plain)
 outcome_of limits world (SnapCreate session name) = snap_create_outcome limits world session name
 outcome_of limits world (SnapDelete session name) = snap_delete_outcome world session name
+outcome_of limits world (SnapRestore session name) = snap_restore_outcome limits world session name
 outcome_of limits world SnapList = Ok (snap_list_outcome world)

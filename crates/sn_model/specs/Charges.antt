@@ -1,16 +1,16 @@
--- What a call is charged for its change: the blocks that a consistency point may take for it.
+-- What a call is charged for: the blocks that a consistency point may take for its change, or for the files without names of a snapshot that it brings back.
 use Rattle.std.specs.Prelude.{◌≡◌, ℕ, ◌+◌, ◌*◌, length, Option, None, Some, if◌then◌else◌}
 use Rattle.std.specs.FinMap as map
 use Rattle.sn_limits.specs.declared.limits.Limits.{Limits}
 use Rattle.sn_model.specs.declared.change.Change.{Change}
 use Rattle.sn_model.specs.declared.change.Change.TheVariants.{Make, AddLink, Remove, Rename, Write, SetSize, SetAttributes}
 use Rattle.sn_model.specs.declared.link.Link.{Link}
-use Rattle.sn_model.specs.declared.outcome.Outcome.{Outcome}
-use Rattle.sn_model.specs.declared.outcome.Pending.{Pending}
-use Rattle.sn_model.specs.declared.outcome.Pending.TheVariants.{Nothing, Makes, Does}
 use Rattle.sn_model.specs.Changes.{is_file}
 use Rattle.sn_model.specs.FileCalls.{blocks_spanned}
+use Rattle.sn_model.specs.Outcomes.{AskedPoint, Unasked, Plain, Freezes, Thaws, Restores, Pending, Nothing, Makes, Does, Outcome}
+use Rattle.sn_model.specs.Settling.{nameless_if}
 use Rattle.sn_model.specs.Tree.{Node, Tree, link_to}
+use Rattle.sn_model.specs.World.{World}
 
 -- a file that is found under a name, as a number
 abbrev pub file_under : Tree → Link → ℕ
@@ -40,6 +40,14 @@ charge_of limits tree Nothing = 0
 charge_of limits tree (Makes directory name kind o) = charge_for limits tree (Make directory name 0 kind o)
 charge_of limits tree (Does change) = charge_for limits tree change
 
--- an outcome is charged for its change in this tree
-abbrev pub IsPaidFor : Limits → Tree → Outcome → Type 0
-IsPaidFor limits tree o = o.charge ≡ charge_of limits tree o.change
+-- of the points that are asked for, one that restores a snapshot is charged for each file without names of its tree, the others for nothing
+abbrev pub point_charge : Limits → World → AskedPoint → ℕ
+point_charge limits world Unasked = 0
+point_charge limits world Plain = 0
+point_charge limits world (Freezes name) = 0
+point_charge limits world (Thaws name) = 0
+point_charge limits world (Restores name) = limits.inode_charge * nameless_if (map.get world.frozen name)
+
+-- an outcome is charged for its change in the live tree, and for its point
+abbrev pub IsPaidFor : Limits → World → Outcome → Type 0
+IsPaidFor limits world o = o.charge ≡ charge_of limits world.live o.change + point_charge limits world o.point

@@ -56,6 +56,7 @@ path_of (call.Ftruncate fd size) which = None
 path_of call.Sync which = None
 path_of (call.SnapCreate name) which = None
 path_of (call.SnapDelete name) which = None
+path_of (call.SnapRestore name) which = None
 path_of call.SnapList which = None
 
 -- the object at the denial's place has an ACL whose entry denies what was wanted

@@ -27,9 +27,9 @@ pub record OneMore (old new : Tree) (number : ℕ) (link : Link) (node : Node) :
 abbrev pub MakesOneMore : Type 0
 MakesOneMore = (tree : Tree) (number : ℕ) (link : Link) (node : Node) → OneMore tree (with_node tree number link node) number link node
 
--- What a call comes to is charged for its change.
+-- What a call comes to is charged for its change, and for its point.
 abbrev pub DecidedChangesPay : Type 0
-DecidedChangesPay = (limits : Limits) (world : World) (session : ℕ) (c : Call) (o : Outcome) → decision limits world session c ≡ Ok o → IsPaidFor limits world.live o
+DecidedChangesPay = (limits : Limits) (world : World) (session : ℕ) (c : Call) (o : Outcome) → decision limits world session c ≡ Ok o → IsPaidFor limits world o
 
 -- What a call has decided can be applied, whatever number the machine chooses.
 abbrev pub DecidedChangesApply : Type 0

@@ -27,3 +27,4 @@ pub mod FileLaws
 pub mod NameCalls
 pub mod SnapshotCalls
 pub mod NameLaws
+pub mod RestoreLaws

@@ -153,6 +153,7 @@ changes_names (call.Ftruncate fd size) = false
 changes_names call.Sync = false
 changes_names (call.SnapCreate name) = false
 changes_names (call.SnapDelete name) = false
+changes_names (call.SnapRestore name) = true
 changes_names call.SnapList = false
 
 -- Whatever another call answers, each name stands for what it stood for, and there is no other.

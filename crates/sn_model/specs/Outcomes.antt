@@ -12,7 +12,7 @@ pub use Rattle.sn_model.specs.declared.outcome.Pending.TheVariants.{Nothing, Mak
 pub use Rattle.sn_model.specs.declared.outcome.Caller.{Caller}
 pub use Rattle.sn_model.specs.declared.outcome.Caller.TheVariants.{Stays, LogsIn, SetsUmask, LogsOut, Opens, OpensNew, Closes, Moves}
 pub use Rattle.sn_model.specs.declared.outcome.AskedPoint.{AskedPoint}
-pub use Rattle.sn_model.specs.declared.outcome.AskedPoint.TheVariants.{Unasked, Plain, Freezes, Thaws}
+pub use Rattle.sn_model.specs.declared.outcome.AskedPoint.TheVariants.{Unasked, Plain, Freezes, Thaws, Restores}
 pub use Rattle.sn_model.specs.declared.outcome.Outcome.{Outcome}
 
 -- a descriptor is opened
@@ -46,6 +46,10 @@ opens session = record { charge = 0; change = Nothing; caller = LogsIn session; 
 abbrev pub makes : ℕ → Link → Kind → Ownership → Outcome
 makes charge link kind o = record { charge = charge; change = Makes link.directory link.name kind o; caller = Stays; told = reply.Done; point = Unasked }
 
--- a whole point is made, and nothing else changes but what it makes of the snapshots
+-- a whole point is made, at this charge, and nothing else changes but what it makes of the trees
+abbrev pub points_for : ℕ → AskedPoint → Outcome
+points_for charge asked = record { charge = charge; change = Nothing; caller = Stays; told = reply.Done; point = asked }
+
+-- it is charged for nothing
 abbrev pub points : AskedPoint → Outcome
-points asked = record { charge = 0; change = Nothing; caller = Stays; told = reply.Done; point = asked }
+points asked = points_for 0 asked

@@ -12,6 +12,7 @@ use Rattle.sn_model.specs.declared.reply.Errno.{Errno}
 use Rattle.sn_model.specs.declared.reply.Errno.TheVariants.{Elimit}
 use Rattle.sn_model.specs.declared.reply.Refusal.{Refusal}
 use Rattle.sn_model.specs.Changes.{directory_at, is_at_or_below}
+use Rattle.sn_model.specs.Settling.{nameless_if}
 use Rattle.sn_model.specs.Tests.{plain, has_room}
 use Rattle.sn_model.specs.Tree.{Tree, names_in}
 use Rattle.sn_model.specs.World.{Trees, World, tree_in, trees_of, viewed_trees}
@@ -37,12 +38,13 @@ listed trees object.Snapshots = map.keys trees.frozen
 abbrev pub is_below : Tree → ℕ → ℕ → Bool
 is_below tree top directory = is_some (directory_at tree directory) && is_at_or_below tree top directory
 
--- the names of the trees as calls ask for them: whether a directory of the live tree has none, and may get one more, of a node that is there; whether a directory of it is another one or is below it; and the names that a directory is listed with
+-- the names of the trees as calls ask for them: whether a directory of the live tree has none, and may get one more, of a node that is there; whether a directory of it is another one or is below it; the names that a directory is listed with; and how many files of a snapshot's tree have none
 pub record SeenNames : Type 0 where
   pub is_empty : ℕ → Bool
   pub room : ℕ → Result (Unit {0}) Refusal
   pub is_below : ℕ → ℕ → Bool
   pub listed : Object → List (List ℕ)
+  pub nameless : List ℕ → ℕ
 
 abbrev pub seen_names : Limits → Trees → SeenNames
 seen_names limits trees = record {
@@ -50,6 +52,7 @@ seen_names limits trees = record {
   room = has_room_for_name limits trees.live;
   is_below = is_below trees.live;
   listed = listed trees;
+  nameless = λ name. nameless_if (map.get trees.frozen name);
 }
 
 -- the trees, their names, and whether a directory of the live one may get one more name, of a new node

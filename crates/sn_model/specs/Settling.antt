@@ -1,5 +1,5 @@
 -- Files without names, and what a restart leaves of a world. POSIX.1-2017, unlink().
-use Rattle.std.specs.Prelude.{◌≡◌, ℕ, Bool, true, false, not, ◌&&◌, ◌||◌, ◌==◌, Option, None, Some, replicate, if◌then◌else◌}
+use Rattle.std.specs.Prelude.{◌≡◌, ℕ, Bool, true, false, not, ◌&&◌, ◌||◌, ◌==◌, Option, None, Some, count_by, replicate, if◌then◌else◌}
 use Rattle.std.specs.List.{list_any}
 use Rattle.std.specs.FinMap as map
 use Rattle.sn_limits.specs.declared.kind.Kind.{Kind}
@@ -26,6 +26,15 @@ without_nameless held tree = record tree { nodes = map.retain_keys tree.nodes (�
 
 abbrev pub settled : Tree → Tree
 settled tree = without_nameless (λ _. false) tree
+
+-- how many files of a tree have no name
+unfoldable pub nameless_in : Tree → ℕ
+nameless_in tree = count_by (λ (e : ℕ × Node). is_nameless tree e.0 (Some e.1)) (map.entries tree.nodes)
+
+-- a tree that isn't there has none
+abbrev pub nameless_if : Option Tree → ℕ
+nameless_if None = 0
+nameless_if (Some tree) = nameless_in tree
 
 abbrev pub is_of_live : ℕ → Home → ℕ → Bool
 is_of_live number Live other = other == number

@@ -1,5 +1,5 @@
 -- The calls on snapshots, each as the list of its tests, in their order, with what it comes to where all pass. They are this project's own; snapshots are those of Hitz, Lau and Malcolm 1994.
-use Rattle.std.specs.Prelude.{ℕ, ◌==◌, Bool, nat_le, List, Result, Ok, Err, if◌then◌else◌}
+use Rattle.std.specs.Prelude.{ℕ, ◌*◌, ◌==◌, Bool, nat_le, List, Result, Ok, Err, if◌then◌else◌}
 use Rattle.std.specs.FinMap as map
 use Rattle.std.specs.List.{list_any}
 use Rattle.sn_acl.specs.Credential.{Credential}
@@ -8,14 +8,15 @@ use Rattle.sn_limits.specs.declared.limits.Limits.{Limits}
 use Rattle.sn_walk.specs.Chains.{◌>>=◌}
 use Rattle.sn_walk.specs.Objects.{is_same}
 use Rattle.sn_walk.specs.Views.{ViewedTrees}
-use Rattle.sn_walk.specs.declared.object.Home.TheVariants.{Frozen}
+use Rattle.sn_walk.specs.declared.object.Home.TheVariants.{Live, Frozen}
 use Rattle.sn_model.specs.declared.reply.Errno.TheVariants.{Ebusy, Eexist, Einval, Elimit, Enoent}
 use Rattle.sn_model.specs.declared.reply.Refusal.{Refusal}
 use Rattle.sn_model.specs.declared.reply.Reply.TheVariants as reply
 use Rattle.sn_model.specs.declared.reply.Rule.TheVariants as rule
 use Rattle.sn_model.specs.declared.session.Session.{Session}
 use Rattle.sn_model.specs.Descriptors.{Descriptors}
-use Rattle.sn_model.specs.Outcomes.{Outcome, Freezes, Thaws, points, tells}
+use Rattle.sn_model.specs.Outcomes.{Outcome, Freezes, Thaws, Restores, points, points_for, tells}
+use Rattle.sn_model.specs.Settling.{nameless_if}
 use Rattle.sn_model.specs.Tests.{forbidden, plain}
 use Rattle.sn_model.specs.World.{World, trees_of, viewed_trees}
 
@@ -47,6 +48,14 @@ has_open_in table name = list_any (λ e. is_same (Frozen name) e.1.home) (map.en
 abbrev pub closed_snapshot : World → List ℕ → Result (Unit {0}) Refusal
 closed_snapshot world name = if has_open_in world.descriptors name then Err (plain Ebusy) else Ok tt
 
+-- whether any descriptor, of whatever session, has a file of the live tree
+abbrev pub has_open_live : Descriptors → Bool
+has_open_live table = list_any (λ e. is_same Live e.1.home) (map.entries table)
+
+-- nobody has a file of the live tree open
+abbrev pub closed_live : World → Result (Unit {0}) Refusal
+closed_live world = if has_open_live world.descriptors then Err (plain Ebusy) else Ok tt
+
 -- ---- the calls
 
 -- snap-create: user 0; vacant; room
@@ -64,6 +73,14 @@ snap_delete_outcome world session name = do
   _ ← present_snapshot (viewed_trees (trees_of world)) name
   _ ← closed_snapshot world name
   Ok (points (Thaws name))
+
+-- snap-restore: user 0; present; nothing of the live tree open; a charge for each file without names of the snapshot's tree
+unfoldable pub snap_restore_outcome : Limits → World → Session → List ℕ → Result Outcome Refusal
+snap_restore_outcome limits world session name = do
+  _ ← user_0 session.cred
+  _ ← present_snapshot (viewed_trees (trees_of world)) name
+  _ ← closed_live world
+  Ok (points_for (limits.inode_charge * nameless_if (map.get world.frozen name)) (Restores name))
 
 -- snap-list: the names of the snapshots, in the order of their bytes
 abbrev pub snap_list_outcome : World → Outcome

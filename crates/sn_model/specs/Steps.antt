@@ -16,8 +16,8 @@ use Rattle.sn_model.specs.Tree.{Tree}
 use Rattle.sn_model.specs.World.{World}
 use Rattle.sn_model.specs.Changes.{apply}
 use Rattle.sn_model.specs.Descriptors.{Descriptors, closed, descriptor_for, moved_to, opened, without_session}
-use Rattle.sn_model.specs.Outcomes.{Pending, Nothing, Makes, Does, Caller, Stays, LogsIn, SetsUmask, LogsOut, Opens, OpensNew, Closes, Moves, AskedPoint, Unasked, Plain, Freezes, Thaws, Outcome}
-use Rattle.sn_model.specs.Settling.{dropped}
+use Rattle.sn_model.specs.Outcomes.{Pending, Nothing, Makes, Does, Caller, Stays, LogsIn, SetsUmask, LogsOut, Opens, OpensNew, Closes, Moves, AskedPoint, Unasked, Plain, Freezes, Thaws, Restores, Outcome}
+use Rattle.sn_model.specs.Settling.{dropped, settled}
 use Rattle.sn_walk.specs.declared.object.Home.TheVariants.{Live}
 use Rattle.sn_walk.specs.Chains.{◌>>=◌}
 use Rattle.sn_model.specs.Tests.{plain, flat}
@@ -78,12 +78,18 @@ changed limits number Nothing tree = Some tree
 changed limits number (Makes directory name kind o) tree = apply limits (Make directory name number kind o) tree
 changed limits number (Does c) tree = apply limits c tree
 
--- what a point that is asked for makes of the snapshots: a new one has the live tree as it stands, files without names among it
+-- a snapshot's tree, without its files without names, takes the live one's place
+abbrev pub restored : Option Tree → World → World
+restored None world = world
+restored (Some tree) world = with_live world (settled tree)
+
+-- what a point that is asked for makes of the trees: a new snapshot has the live tree as it is, files without names among it
 abbrev pub pointed : AskedPoint → World → World
 pointed Unasked world = world
 pointed Plain world = world
 pointed (Freezes name) world = record world { frozen = map.insert world.frozen name world.live }
 pointed (Thaws name) world = record world { frozen = map.remove world.frozen name }
+pointed (Restores name) world = restored (map.get world.frozen name) world
 
 -- an outcome becomes a world; the machine chooses a new node's number, and a file that no name stands for and nobody has open goes
 pub record Comes (limits : Limits) (old : World) (session : ℕ) (o : Outcome) (new : World) : Type 0 where
@@ -124,9 +130,10 @@ TakesMemory (call.Ftruncate fd size) = Unit {0}
 TakesMemory call.Sync = Unit {0}
 TakesMemory (call.SnapCreate name) = Unit {0}
 TakesMemory (call.SnapDelete name) = Unit {0}
+TakesMemory (call.SnapRestore name) = Unit {0}
 TakesMemory call.SnapList = Unit {0}
 
--- the calls that ask for a whole consistency point; they are charged for nothing
+-- the calls that ask for a whole consistency point; of these one that restores a snapshot may be charged for something
 abbrev pub asks_for_point : Call → Bool
 asks_for_point (call.Login uid gid groups) = false
 asks_for_point (call.Umask mask) = false
@@ -152,6 +159,7 @@ asks_for_point (call.Ftruncate fd size) = false
 asks_for_point call.Sync = true
 asks_for_point (call.SnapCreate name) = true
 asks_for_point (call.SnapDelete name) = true
+asks_for_point (call.SnapRestore name) = true
 asks_for_point call.SnapList = false
 
 abbrev pub AsksForPoint : Call → Type 0

@@ -89,6 +89,7 @@ IsCall (call.Ftruncate fd size) = Unit {0}
 IsCall call.Sync = Unit {0}
 IsCall (call.SnapCreate name) = Unit {0}
 IsCall (call.SnapDelete name) = Unit {0}
+IsCall (call.SnapRestore name) = Unit {0}
 IsCall call.SnapList = Unit {0}
 
 abbrev pub IsEvent : Event → Type 0

@@ -118,6 +118,11 @@ pub enum Call {
     SnapDelete {
         name: Word,
     },
+    /// Makes the live tree what a snapshot has, but for its files without names, with a whole consistency point. The user 0
+    /// alone may do it, and while nobody has a file of the live tree open.
+    SnapRestore {
+        name: Word,
+    },
     /// The names of the snapshots, in the order of their bytes.
     SnapList,
 }
@@ -126,13 +131,17 @@ impl Call {
     ghost use Rattle.std.specs.Prelude.{◌≡◌};
     ghost use Rattle.sn_model.specs.Steps.{asks_for_point};
 
-    /// Whether the call asks for a whole consistency point, as `sync` does, and those that make a snapshot or let one go.
+    /// Whether the call asks for a whole consistency point, as `sync` does, and those that make a snapshot, let one
+    /// go, or bring one back.
     pub fn asks_for_point(&self) -> bool
         ensures { result ≡ asks_for_point self.now }
     {
         matches!(
             self,
-            Call::Sync | Call::SnapCreate { .. } | Call::SnapDelete { .. }
+            Call::Sync
+                | Call::SnapCreate { .. }
+                | Call::SnapDelete { .. }
+                | Call::SnapRestore { .. }
         )
     }
 }

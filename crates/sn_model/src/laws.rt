@@ -5,6 +5,7 @@ ghost use Rattle.sn_model.specs.Example.{Answers, Settles};
 ghost use Rattle.sn_model.specs.MachineLaws.{EventsKeepTheState, LivesKeepTheWorld, RefusedEventsChangeNothing, RestartsSettle, RunsKeepTheWorld, StoppedStays};
 ghost use Rattle.sn_model.specs.FileLaws.{AppendsGoToTheEnd, ReadsAskForNoRight, ReadsPastTheEndGiveNothing, WritesOfNothingDoNothing};
 ghost use Rattle.sn_model.specs.NameLaws.{FewCallsChangeNames, LinkGivesOneMoreName, ReaddirListsTheNames, RenameMovesTheName, RmdirTakesAnEmptyDirectory};
+ghost use Rattle.sn_model.specs.RestoreLaws.{RestoresBringBack, RestoresLeaveAWorld, RestoresStayBeside};
 ghost use Rattle.sn_model.specs.Laws.{DecidedChangesApply, DecidedChangesPay, MakesOneMore, RefusalsChangeNothing};
 
 /// Whatever a call is refused for, the world stays as it was.
@@ -23,7 +24,7 @@ pub fn decided_changes_apply()
 {}
 
 /// What a call has decided is charged for its change: a write by the blocks that its bytes lie in, and a
-/// remove as the name leads to a file or to a directory.
+/// remove as the name leads to a file or to a directory. A restore is charged for the snapshot's files without names.
 pub fn decided_changes_pay()
     ensures { DecidedChangesPay }
 {}
@@ -221,7 +222,15 @@ pub fn rename_moves_the_name()
     ensures { RenameMovesTheName }
 {}
 
-/// No call but mkdir, open, link, rename, unlink and rmdir changes which names are there.
+/// No call but mkdir, open, link, rename, unlink, rmdir and snap-restore changes which names are there.
 pub fn few_calls_change_names()
     ensures { FewCallsChangeNames }
+{}
+
+/// A call that restores a snapshot makes the live tree what the snapshot has, but for its files without
+/// names. Snapshots, sessions and what is open in snapshots stay.
+pub fn restores_bring_back()
+    ensures brings { RestoresBringBack }
+    ensures world { RestoresLeaveAWorld }
+    ensures beside { RestoresStayBeside }
 {}

@@ -18,7 +18,7 @@
 //! 9. `Steps`: what a call may answer and the world that it leaves, while nothing fails.
 //! 10. `Machine`: a mount that runs, or one that a failure has stopped; what it answers to an event and
 //!     the mishap that the event met with; runs, their ends, and lives of many crashes.
-//! 11. `Worlds`, `Laws`, `AccessLaws`, `NameLaws`, `FileLaws`, `ChangeLaws` and `MachineLaws`: what follows from these in
+//! 11. `Worlds`, `Laws`, `AccessLaws`, `NameLaws`, `FileLaws`, `RestoreLaws`, `ChangeLaws` and `MachineLaws`: what follows from these in
 //!     the subject's own words, each named by the contract of a function of `laws`.
 //! 12. `Example`: the machine on one small world.
 //! 13. `Texts`: how refusals, faults and their parts are printed.
@@ -60,8 +60,8 @@ pub use laws::{
     link_gives_one_more_name, lists_join, lists_keep_covers, lists_keep_the_tree,
     lives_keep_the_world, makes_one_more, readdir_lists_the_names, reads_ask_for_no_right,
     reads_past_the_end_give_nothing, refusals_change_nothing, refused_events_change_nothing,
-    rename_moves_the_name, restarts_settle, rmdir_takes_an_empty_directory, runs_keep_the_world,
-    setacl_sets_one_acl, stopped_stays, test_is_below, umask_sets_the_mask,
+    rename_moves_the_name, restarts_settle, restores_bring_back, rmdir_takes_an_empty_directory,
+    runs_keep_the_world, setacl_sets_one_acl, stopped_stays, test_is_below, umask_sets_the_mask,
     writes_of_nothing_do_nothing,
 };
 pub use link::Link;

@@ -58,6 +58,8 @@ pub enum AskedPoint {
     Freezes(SnapshotName),
     /// One with which the snapshot with this name goes.
     Thaws(SnapshotName),
+    /// One with which the live tree becomes that of the snapshot with this name, without its files without names.
+    Restores(SnapshotName),
 }
 
 /// What a call comes to once its tests have passed: fields that don't depend on one another.

@@ -27,7 +27,7 @@ use Rattle.sn_model.specs.declared.fault.MountFault.{MountFault}
 use Rattle.sn_model.specs.declared.fault.MountFault.TheVariants as fault
 use Rattle.sn_model.specs.Changes.{apply_all}
 use Rattle.sn_model.specs.NameTree.{IsTree}
-use Rattle.sn_model.specs.Settling.{is_nameless, settled}
+use Rattle.sn_model.specs.Settling.{is_nameless, nameless_in, settled}
 use Rattle.sn_model.specs.Tree.{Tree}
 use Rattle.sn_model.specs.World.{World, new_world}
 use Rattle.sn_model.proofs.DropLemmas.{dropping_tree}
@@ -43,7 +43,7 @@ use Rattle.sn_image.proofs.ByteLemmas.{data_whole}
 use Rattle.sn_image.proofs.SoundNameLemmas.{sound_tree}
 use Rattle.sn_opening.specs.Opens.{IsDisk, Opens, Shows}
 use Rattle.sn_opening.specs.Worlds.{found, frozen_of}
-use Rattle.sn_overlay.specs.Needs.{AreCharged, nameless_in}
+use Rattle.sn_overlay.specs.Needs.{AreCharged}
 use Rattle.sn_overlay.specs.Overlays.{no_changes}
 use Rattle.sn_overlay_change.proofs.NamelessLemmas.{drops_are_counted}
 use Rattle.sn_room.specs.Rooms.{RoomCounts}

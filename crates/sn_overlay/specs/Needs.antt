@@ -1,13 +1,12 @@
 -- The blocks that a consistency point takes for a layer, at most.
-use Rattle.std.specs.Prelude.{◌≡◌, ℕ, ◌+◌, ◌*◌, ◌≤◌, ◌==◌, length, Some, count_by, if◌then◌else◌}
+use Rattle.std.specs.Prelude.{◌≡◌, ℕ, ◌+◌, ◌*◌, ◌≤◌, ◌==◌, length, if◌then◌else◌}
 use Rattle.std.specs.FinMap as map
 use Rattle.sn_limits.specs.declared.limits.Limits.{Limits}
 use Rattle.sn_model.specs.declared.change.Change.{Change}
 use Rattle.sn_model.specs.declared.change.Change.TheVariants.{Make, AddLink, Remove, Rename, Write, SetSize, SetAttributes}
-use Rattle.sn_model.specs.Tree.{Node, Tree, link_to}
+use Rattle.sn_model.specs.Tree.{Tree, link_to}
 use Rattle.sn_model.specs.Charges.{file_under}
 use Rattle.sn_model.specs.FileCalls.{blocks_spanned}
-use Rattle.sn_model.specs.Settling.{is_nameless}
 use Rattle.sn_overlay.specs.Layers.{Layer}
 use Rattle.sn_overlay.specs.Overlays.{Counts}
 
@@ -37,10 +36,6 @@ counts_for (Rename old_directory old_name new_directory new_name) = counts 3 2 0
 counts_for (Write number offset bytes) = counts 1 0 (blocks_spanned offset (length bytes))
 counts_for (SetSize number size) = counts 1 0 1
 counts_for (SetAttributes number o) = counts 1 0 0
-
--- how many files of a tree have no name
-unfoldable pub nameless_in : Tree → ℕ
-nameless_in tree = count_by (λ (e : ℕ × Node). is_nameless tree e.0 (Some e.1)) (map.entries tree.nodes)
 
 -- how many more files a change may leave without names
 abbrev pub left_nameless : Tree → Change → ℕ

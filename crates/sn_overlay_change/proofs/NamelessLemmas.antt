@@ -17,7 +17,7 @@ use Rattle.sn_model.specs.declared.link.Link.{Link}
 use Rattle.sn_model.specs.Tree.{Node, Tree, link_to, names_for}
 use Rattle.sn_model.specs.Changes.{is_file, node_with, put_node, put_link, take_link, take_node, made, linked, removed, renamed, replaced, same_number, overwritten, resized, apply}
 use Rattle.sn_model.specs.NameTree.{IsHierarchy}
-use Rattle.sn_model.specs.Settling.{is_nameless}
+use Rattle.sn_model.specs.Settling.{is_nameless, nameless_in}
 use Rattle.sn_model.proofs.ChainLemmas.{some_same}
 use Rattle.sn_model.proofs.CountLemmas.{once, count_removed}
 use Rattle.sn_model.proofs.EntryLemmas.{share, total-remove, total-le}
@@ -26,7 +26,7 @@ use Rattle.sn_model.proofs.MapLemmas.{same_or_apart, get_inserted, get_other, ge
 use Rattle.sn_model.proofs.NameLemmas.{names_for_more, names_for_other}
 use Rattle.sn_model.proofs.PartLemmas.{made_is, linked_is, removed_is, renamed_is, replaced_is, unlinked_is, written_is, cut_is, owned_is, file_is, Unlinked, Moved, Renamed, IsRenamed}
 use Rattle.sn_model.specs.Charges.{file_under}
-use Rattle.sn_overlay.specs.Needs.{left_nameless, nameless_in}
+use Rattle.sn_overlay.specs.Needs.{left_nameless}
 use Rattle.sn_overlay_change.proofs.NamesLemmas.{fewer_other, moved_names}
 
 -- whether an entry is a file without names

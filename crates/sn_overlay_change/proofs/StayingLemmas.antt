@@ -12,14 +12,13 @@ use Rattle.sn_model.specs.declared.change.Change.TheVariants.{Make, AddLink, Rem
 use Rattle.sn_model.specs.declared.link.Link.{Link}
 use Rattle.sn_model.specs.Tree.{Node, Tree, link_to, names_for}
 use Rattle.sn_model.specs.Changes.{apply, node_with, overwritten, put_node, replaced, resized, take_link}
-use Rattle.sn_model.specs.Settling.{is_nameless}
+use Rattle.sn_model.specs.Settling.{is_nameless, nameless_in}
 use Rattle.sn_model.proofs.ChainLemmas.{some_same}
 use Rattle.sn_model.proofs.CountLemmas.{count, count_found, count_removed, once}
 use Rattle.sn_model.proofs.KeepLemmas.{vacant_absent}
 use Rattle.sn_model.proofs.MapLemmas.{same_or_apart, get_inserted, get_left, get_was}
 use Rattle.sn_model.proofs.NameLemmas.{names_for_less}
 use Rattle.sn_model.proofs.PartLemmas.{IsRenamed, Renamed, Unlinked, cut_is, file_is, linked_is, made_is, owned_is, removed_is, renamed_is, replaced_is, unlinked_is, written_is}
-use Rattle.sn_overlay.specs.Needs.{nameless_in}
 use Rattle.sn_overlay_change.specs.FirstNames.{GivesNoFirstName, StayNameless}
 use Rattle.sn_overlay_change.proofs.NamelessLemmas.{AreAlikeBut, bare, exchanged_names, has_name, linked_alike, made_alike, put_alike, same_bare, same_names, unlinked_alike}
 

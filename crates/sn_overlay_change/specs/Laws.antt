@@ -9,7 +9,7 @@ use Rattle.sn_model.specs.declared.change.Ownership.{Ownership}
 use Rattle.sn_model.specs.declared.link.Link.{Link}
 use Rattle.sn_model.specs.Tree.{Tree}
 use Rattle.sn_model.specs.NameTree.{IsHierarchy, HasKind}
-use Rattle.sn_model.specs.Settling.{is_nameless}
+use Rattle.sn_model.specs.Settling.{is_nameless, nameless_in}
 use Rattle.sn_model.specs.Changes.{made, linked, removed, renamed, written, owned, cut, resized, overwritten, take_node, apply}
 use Rattle.sn_overlay.specs.Pieces.{piece}
 use Rattle.sn_overlay_change.specs.Blocks.{zeroed, spliced, part_in}
@@ -17,7 +17,7 @@ use Rattle.sn_overlay_change.specs.FirstNames.{GivesNoFirstName, StayNameless}
 use Rattle.sn_overlay.specs.Layers.{IsLayer, Fits, through}
 use Rattle.sn_overlay_change.specs.ChangeLayers.{make_layer, link_layer, remove_layer, rename_layer, write_layer, ownership_layer, size_layer, layer_of_change}
 use Rattle.sn_overlay.specs.Seen.{CountsNames, LiesOver}
-use Rattle.sn_overlay.specs.Needs.{need, need_of, counts, counts_for, left_nameless, nameless_in}
+use Rattle.sn_overlay.specs.Needs.{need, need_of, counts, counts_for, left_nameless}
 use Rattle.sn_overlay.specs.Overlays.{gone}
 
 -- Through the layer of a change, the tree is what the change makes of it.

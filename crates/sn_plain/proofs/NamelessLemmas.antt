@@ -8,11 +8,10 @@ use Rattle.std.proofs.lemmas.List.Sums.{sum_by-cons}
 use Rattle.std.proofs.lemmas.Map.Lookups.{exact_unsigned}
 use Rattle.sn_limits.specs.declared.kind.Kind.{Kind}
 use Rattle.sn_limits.specs.declared.kind.Kind.TheVariants as kind
-use Rattle.sn_model.specs.Settling.{is_nameless}
+use Rattle.sn_model.specs.Settling.{is_nameless, nameless_in}
 use Rattle.sn_model.specs.Tree.{Node, Tree, names_for}
 use Rattle.sn_model.proofs.CountLemmas.{once}
 use Rattle.sn_model.proofs.EntryLemmas.{total-le}
-use Rattle.sn_overlay.specs.Needs.{nameless_in}
 use Rattle.sn_nodes.specs.declared.nodes.StoredNode.{StoredNode}
 use Rattle.sn_nodes.specs.Stored.{node_of}
 use Rattle.sn_nodes.specs.Tally.{bare_in, is_kept}

@@ -11,13 +11,12 @@ use Rattle.sn_device.specs.declared.status.Status.{Status}
 use Rattle.sn_image.specs.Image.{image}
 use Rattle.sn_layout.specs.declared.tree.BlockTree.{BlockTree}
 use Rattle.sn_limits.specs.declared.limits.Limits.{Limits}
-use Rattle.sn_model.specs.Settling.{is_nameless}
+use Rattle.sn_model.specs.Settling.{is_nameless, nameless_in}
 use Rattle.sn_model.specs.Tree.{Node, Tree}
 use Rattle.sn_model.proofs.CountLemmas.{count, count_none, once}
 use Rattle.sn_model.proofs.EntryLemmas.{share, total-le, total-remove}
 use Rattle.sn_model.proofs.MapLemmas.{get_was}
 use Rattle.sn_ondisk.specs.Trees.{store_of}
-use Rattle.sn_overlay.specs.Needs.{nameless_in}
 use Rattle.sn_rooted.specs.Roots.{IsSoundRoot}
 use Rattle.sn_rooted_tree.proofs.LookLemmas.{stays_sound}
 

@@ -5,6 +5,7 @@ ghost use Rattle.sn_rooted.specs.Roots.{file_in};
 ghost use Rattle.sn_walk.specs.declared.object.Home.TheVariants.{Frozen};
 
 use crate::RootedTree;
+use crate::nameless::nameless_of;
 use crate::rooted::fault_of;
 use crate::seeing::seen_node;
 use sn_acl::Acl;
@@ -175,6 +176,18 @@ impl<'a, D: Device> HasSnapshots for RootedTree<'a, D> {
             Ok(names) => Ok(names_alone(alloc, names)?),
             Err(fault) => Err(FileFault::View(fault)),
         }
+    }
+
+    fn frozen_nameless(&mut self, snapshot: &SnapshotName) -> Result<u32, TreeFault> {
+        if let Some(fault) = self.fault {
+            return Err(fault);
+        }
+        let Some(file) = frozen_file(self.root, snapshot) else {
+            return Ok(0);
+        };
+        let answer = nameless_of(self.blocks, &self.root.limits, &file);
+        self.fault = fault_of(&answer);
+        answer
     }
 
     ghost frozen_stay = { λ u v told p. frozen-stay D.tells_bytes (D.status (device_of u.blocks.now)) (D.status (device_of v.blocks.now))

@@ -1,7 +1,7 @@
 //! The files of a root's tree without names.
 ghost use Rattle.std.specs.Prelude.{◌≡◌, ℕ, Option as TheOption, Err, IsTrue, IfOk};
 ghost use Rattle.sn_block.specs.Lending.{device_of};
-ghost use Rattle.sn_overlay.specs.Needs.{nameless_in};
+ghost use Rattle.sn_model.specs.Settling.{nameless_in};
 ghost use Rattle.sn_rooted.specs.Roots.{IsSoundOn, tree_on};
 ghost use Rattle.sn_tree_read.specs.Counts.{CountsTree};
 ghost use Rattle.sn_tree_read.specs.declared.fault.TreeFault.TheVariants.{Damaged};

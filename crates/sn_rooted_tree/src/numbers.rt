@@ -3,7 +3,7 @@ ghost use Rattle.std.specs.Prelude.{◌≡◌, ℕ, false, Option as TheOption, 
 ghost use Rattle.sn_block.specs.Lending.{device_of};
 ghost use Rattle.sn_number_table.specs.Nameless.{TellsNameless};
 ghost use Rattle.sn_number_table.specs.Table.{TellsNumbers, kept_of, since_of};
-ghost use Rattle.sn_overlay.specs.Needs.{nameless_in};
+ghost use Rattle.sn_model.specs.Settling.{nameless_in};
 ghost use Rattle.sn_rooted.specs.Roots.{IsSoundOn, tree_on};
 ghost use Rattle.sn_rooted_tree.specs.Numbering.{HasUse, KeepsNone, NotesNone, NotesUse, use_of};
 ghost use Rattle.sn_tree_read.specs.Counts.{CountsTree};

@@ -13,10 +13,9 @@ use Rattle.sn_model.specs.declared.reply.Refusal.{Refusal}
 use Rattle.sn_model.specs.declared.reply.Reply.{Reply}
 use Rattle.sn_model.specs.declared.reply.Reply.TheVariants as answer
 use Rattle.sn_model.specs.Machine.{State, Running, Stopped, Mishap, Memory, Read, Write, Space, Age, EventStep, RunBy, refused}
-use Rattle.sn_model.specs.Settling.{settle}
+use Rattle.sn_model.specs.Settling.{nameless_in, settle}
 use Rattle.sn_model.specs.Steps.{AsksForPoint, Becomes, decision}
 use Rattle.sn_model.specs.World.{World}
-use Rattle.sn_overlay.specs.Needs.{nameless_in}
 use Rattle.sn_room.specs.Rooms.{done, fits}
 use Rattle.sn_held.specs.Held.{Going, Held, RunsReady}
 use Rattle.sn_cp_progress.specs.Meaning.{Means, RunsWith, progress_over}

@@ -15,10 +15,10 @@ use Rattle.sn_run.specs.Runs.{Goes, ShowsCut, Standing}
 use Rattle.sn_device.specs.Disk.{Always}
 use Rattle.sn_layout.specs.Geometry.{map_blocks}
 use Rattle.sn_model.specs.declared.call.Call.{Call}
-use Rattle.sn_model.specs.Settling.{settle}
+use Rattle.sn_model.specs.Settling.{nameless_in, settle}
 use Rattle.sn_model.specs.Steps.{AsksForPoint}
 use Rattle.sn_model.specs.declared.outcome.Outcome.{Outcome}
-use Rattle.sn_overlay.specs.Needs.{nameless_in, need}
+use Rattle.sn_overlay.specs.Needs.{need}
 use Rattle.sn_room.specs.Rooms.{done, fits}
 use Rattle.sn_held.specs.Held.{Going, Held}
 use Rattle.sn_cp_progress.specs.Meaning.{Means}

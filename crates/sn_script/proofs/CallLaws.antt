@@ -268,7 +268,8 @@ module _ (name : List ℕ) (arguments : List (List ℕ)) (c : Call) where
       picked (codes "sync") (bare_of call.Sync arguments) _ (bare_takes call.Sync arguments c refl tt)
       (picked (codes "snap-create") _ _ (made (codes "snap-create") (path_of arguments) (λ p. call.SnapCreate p) (λ p e. let t = path_takes arguments p e in (refl, t.0, t.1)))
       (picked (codes "snap-delete") _ _ (made (codes "snap-delete") (path_of arguments) (λ p. call.SnapDelete p) (λ p e. let t = path_takes arguments p e in (refl, t.0, t.1)))
-      (picked (codes "snap-list") (bare_of call.SnapList arguments) (name_call_of name arguments) (bare_takes call.SnapList arguments c refl tt) name_call_takes)))
+      (picked (codes "snap-restore") _ _ (made (codes "snap-restore") (path_of arguments) (λ p. call.SnapRestore p) (λ p e. let t = path_takes arguments p e in (refl, t.0, t.1)))
+      (picked (codes "snap-list") (bare_of call.SnapList arguments) (name_call_of name arguments) (bare_takes call.SnapList arguments c refl tt) name_call_takes))))
 
   pub call_takes : call_of name arguments ≡ Some c → Reads name arguments c
   unfolding call_of
@@ -284,6 +285,7 @@ call_again call.Logout h = refl
 call_again call.Sync h = refl
 call_again (call.SnapCreate name) h = rw (word_again name h) refl
 call_again (call.SnapDelete name) h = rw (word_again name h) refl
+call_again (call.SnapRestore name) h = rw (word_again name h) refl
 call_again call.SnapList h = refl
 call_again (call.Umask mask) h = rw (octal_again mask h) refl
 call_again (call.Mkdir path mode) h = rw (word_again path h.0, octal_again mode h.1) refl

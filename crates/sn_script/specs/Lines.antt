@@ -34,6 +34,7 @@ name_of (call.Ftruncate fd size) = codes "ftruncate"
 name_of call.Sync = codes "sync"
 name_of (call.SnapCreate name) = codes "snap-create"
 name_of (call.SnapDelete name) = codes "snap-delete"
+name_of (call.SnapRestore name) = codes "snap-restore"
 name_of call.SnapList = codes "snap-list"
 
 abbrev pub arguments_of : Call → List (List ℕ)
@@ -61,6 +62,7 @@ arguments_of (call.Ftruncate fd size) = decimal fd ∷ decimal size ∷ []
 arguments_of call.Sync = []
 arguments_of (call.SnapCreate name) = name ∷ []
 arguments_of (call.SnapDelete name) = name ∷ []
+arguments_of (call.SnapRestore name) = name ∷ []
 arguments_of call.SnapList = []
 
 abbrev pub words_of : Event → List (List ℕ)
@@ -98,6 +100,7 @@ IsCall (call.Ftruncate fd size) = (fd < 2 ^ 32) × (size < 2 ^ 64)
 IsCall call.Sync = Unit {0}
 IsCall (call.SnapCreate name) = IsTrue (is_word name)
 IsCall (call.SnapDelete name) = IsTrue (is_word name)
+IsCall (call.SnapRestore name) = IsTrue (is_word name)
 IsCall call.SnapList = Unit {0}
 
 -- the events that have a line

@@ -146,6 +146,7 @@ point_call_of name arguments =
     if bytes_eq name (codes "sync") then bare_of call.Sync arguments else
     if bytes_eq name (codes "snap-create") then (path_of arguments >>= (λ p. Some (call.SnapCreate p))) else
     if bytes_eq name (codes "snap-delete") then (path_of arguments >>= (λ p. Some (call.SnapDelete p))) else
+    if bytes_eq name (codes "snap-restore") then (path_of arguments >>= (λ p. Some (call.SnapRestore p))) else
     if bytes_eq name (codes "snap-list") then bare_of call.SnapList arguments else name_call_of name arguments
 
 unfoldable pub call_of : List ℕ → List (List ℕ) → Option Call

@@ -61,6 +61,8 @@ const SNAP_CREATE: &[u8] = b"snap-create";
 
 const SNAP_DELETE: &[u8] = b"snap-delete";
 
+const SNAP_RESTORE: &[u8] = b"snap-restore";
+
 const SNAP_LIST: &[u8] = b"snap-list";
 
 const STEP: &[u8] = b"step";
@@ -291,6 +293,10 @@ fn point_call(alloc: Global, name: &[u8], arguments: &[&[u8]]) -> Result<Call, S
     if name == SNAP_DELETE {
         let name = path(alloc, arguments)?;
         return Ok(Call::SnapDelete { name });
+    }
+    if name == SNAP_RESTORE {
+        let name = path(alloc, arguments)?;
+        return Ok(Call::SnapRestore { name });
     }
     if name == SNAP_LIST {
         return bare(Call::SnapList, arguments);

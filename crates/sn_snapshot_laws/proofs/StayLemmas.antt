@@ -1,41 +1,40 @@
 -- A frozen tree stays what it is until its snapshot is deleted.
-use Rattle.std.proofs.Common.{◌≡◌, ◌≢◌, inl, inr, ℕ, Bool, true, false, cond, List, [], ◌∷◌, Option, None, Some, Result, Ok, Err, is_some, refl, sym, ap, subst, ◌∙◌}
+use Rattle.std.proofs.Common.{◌≡◌, ◌≢◌, inl, inr, ℕ, false, List, [], ◌∷◌, Option, None, Some, Result, Ok, Err, is_some, refl, sym, ap, subst, ◌∙◌}
 use Rattle.std.specs.FinMap as map
 use Rattle.std.specs.Cmp.Lexicographic.{nat_list_cmp_total}
 use Rattle.std.specs.List.{AllByRecursion}
 use Rattle.std.proofs.lemmas.Bool.{true≢false}
 use Rattle.std.proofs.lemmas.Map.Lookups.{exact_bytes}
 use Rattle.sn_limits.specs.declared.limits.Limits.{Limits}
-use Rattle.sn_limits.specs.SnapshotName.{is_snapshot_name}
 use Rattle.sn_walk.specs.Chains.{◌>>=◌}
 use Rattle.sn_walk.proofs.ChainLemmas.{bind_ok}
 use Rattle.sn_model.specs.declared.call.Call.{Call}
 use Rattle.sn_model.specs.declared.call.Call.TheVariants as call
 use Rattle.sn_model.specs.declared.call.Event.{Event}
 use Rattle.sn_model.specs.declared.call.Event.TheVariants as event
-use Rattle.sn_model.specs.declared.reply.Errno.TheVariants.{Einval}
 use Rattle.sn_model.specs.declared.reply.Refusal.{Refusal}
 use Rattle.sn_model.specs.declared.reply.Reply.{Reply}
 use Rattle.sn_model.specs.Calls as calls
 use Rattle.sn_model.specs.Calls.{outcome_of, ready}
 use Rattle.sn_model.specs.Machine.{State, Running, Stopped, Mishap, Memory, Read, Write, Space, Age, Anything, CallStep, CutRun, EventStep, Left, LeftIn, Life, MountStep, PointFails, PointStep, RestartStep, Run}
 use Rattle.sn_model.specs.declared.outcome.AskedPoint.{AskedPoint}
-use Rattle.sn_model.specs.declared.outcome.AskedPoint.TheVariants.{Unasked, Plain, Freezes, Thaws}
+use Rattle.sn_model.specs.declared.outcome.AskedPoint.TheVariants.{Unasked, Plain, Freezes, Thaws, Restores}
 use Rattle.sn_model.specs.declared.outcome.Caller.{Caller}
 use Rattle.sn_model.specs.declared.outcome.Caller.TheVariants.{Stays, LogsIn, SetsUmask, LogsOut, Opens, OpensNew, Closes, Moves}
 use Rattle.sn_model.specs.declared.outcome.Outcome.{Outcome}
-use Rattle.sn_model.specs.Outcomes.{points}
+use Rattle.sn_model.specs.Outcomes.{points, points_for}
 use Rattle.sn_model.specs.Settling.{settle}
 use Rattle.sn_model.specs.SnapshotCalls.{snapshot_argument}
 use Rattle.sn_model.specs.Steps.{Becomes, Comes, asks_for_point, decision, pointed, with_caller}
-use Rattle.sn_model.specs.Tests.{logged_in, plain}
+use Rattle.sn_model.specs.Tests.{logged_in}
 use Rattle.sn_model.specs.Tree.{Tree}
 use Rattle.sn_model.specs.World.{World}
 use Rattle.sn_model.proofs.DecidedLemmas.{decided_is}
 use Rattle.sn_model.proofs.DecisionLemmas.{ok, same_ok}
 use Rattle.sn_model.proofs.MapLemmas.{get_left, get_other}
 use Rattle.sn_model.proofs.OutcomeLemmas.{FitsPoint, is_asked}
-use Rattle.sn_model.proofs.SnapshotLemmas.{create_is, delete_is}
+use Rattle.sn_model.proofs.RestoreLemmas.{restored_beside}
+use Rattle.sn_model.proofs.SnapshotLemmas.{argument_same, create_is, delete_is, restore_is}
 use Rattle.sn_snapshot_laws.specs.Staying.{HasFrozen, HasTree, Spares}
 
 -- ---- which name a point lets go
@@ -47,15 +46,11 @@ LetsGo c p = (name : List ℕ) → p ≡ Thaws name → c ≡ call.SnapDelete na
 unasked : {A : Type 0} (p : AskedPoint) (name : List ℕ) → is_asked p ≡ false → p ≡ Thaws name → A
 unasked p name alone is = absurd (true≢false (ap is_asked (sym is) ∙ alone))
 
-argument_same : (word name : List ℕ) → snapshot_argument word ≡ Ok name → word ≡ name
-argument_same word name e = told (is_snapshot_name word) e
-  where
-    told : (b : Bool) → cond b (Ok word) (Err (plain Einval)) ≡ Ok name → word ≡ name
-    told true f = cc
-    told false f = cc
-
 freezes_thaws : {A : Type 0} (a b : List ℕ) → Freezes a ≡ Thaws b → A
 freezes_thaws a b e = cc
+
+restores_thaws : {A : Type 0} (a b : List ℕ) → Restores a ≡ Thaws b → A
+restores_thaws a b e = cc
 
 plain_thaws : {A : Type 0} (b : List ℕ) → Plain ≡ Thaws b → A
 plain_thaws b e = cc
@@ -63,7 +58,7 @@ plain_thaws b e = cc
 thaws_same : (a b : List ℕ) → Thaws a ≡ Thaws b → a ≡ b
 thaws_same a b e = cc
 
-point_of : {p : AskedPoint} (o : Outcome) → points p ≡ o → p ≡ o.point
+point_of : {charge : ℕ} {p : AskedPoint} (o : Outcome) → points_for charge p ≡ o → p ≡ o.point
 point_of o is = ap (λ (x : Outcome). x.point) is
 
 module _ (limits : Limits) (w : World) (session : ℕ) where
@@ -90,6 +85,14 @@ module _ (limits : Limits) (w : World) (session : ℕ) where
       let came = delete_is w s.0 n.0 o (subst (λ (x : calls.Ready). outcome_of limits w x ≡ Ok o) (sym (same_ok (calls.SnapDelete s.0 n.0) r.0 n.2)) r.2) in
       ap call.SnapDelete (argument_same word n.0 n.1 ∙ thaws_same n.0 name (point_of o came.0 ∙ is))
 
+  by_restore : (word : List ℕ) (o : Outcome) → decision limits w session (call.SnapRestore word) ≡ Ok o → LetsGo (call.SnapRestore word) o.point
+  by_restore word o e name is =
+      let r = bind_ok (ready w session (call.SnapRestore word)) (outcome_of limits w) o e in
+      let s = bind_ok (logged_in w session) (λ s. snapshot_argument word >>= (λ old. ok (calls.SnapRestore s old))) r.0 r.1 in
+      let n = bind_ok (snapshot_argument word) (λ old. ok (calls.SnapRestore s.0 old)) r.0 s.2 in
+      let came = restore_is limits w s.0 n.0 o (subst (λ (x : calls.Ready). outcome_of limits w x ≡ Ok o) (sym (same_ok (calls.SnapRestore s.0 n.0) r.0 n.2)) r.2) in
+      restores_thaws n.0 name (point_of o came.0 ∙ is)
+
   by_call : (c : Call) (o : Outcome) → is_asked o.point ≡ asks_for_point c → decision limits w session c ≡ Ok o → LetsGo c o.point
   by_call (call.Login uid gid groups) o alone e name is = unasked o.point name alone is
   by_call (call.Umask mask) o alone e name is = unasked o.point name alone is
@@ -115,6 +118,7 @@ module _ (limits : Limits) (w : World) (session : ℕ) where
   by_call call.Sync o alone e name is = by_sync o e name is
   by_call (call.SnapCreate word) o alone e name is = by_create word o e name is
   by_call (call.SnapDelete word) o alone e name is = by_delete word o e name is
+  by_call (call.SnapRestore word) o alone e name is = by_restore word o e name is
   by_call call.SnapList o alone e name is = unasked o.point name alone is
 
 -- ---- a call
@@ -140,6 +144,7 @@ module _ (name : List ℕ) (tree : Tree) where
       other : name ≢ new
       other is = true≢false (sym (ap is_some has) ∙ ap (map.contains_key old.frozen) is ∙ fits.1)
   point_keeps limits old w (Thaws gone) same fits spares has = get_left nat_list_cmp_total exact_bytes w.frozen gone name (λ is. spares (ap Thaws (sym is))) ∙ ap (λ f. map.get f name) same ∙ has
+  point_keeps limits old w (Restores other) same fits spares has = ap (λ f. map.get f name) ((restored_beside w other).frozen ∙ same) ∙ has
 
   comes_keep : (limits : Limits) (old : World) (session : ℕ) (c : Call) (o : Outcome) (new : World) → Spares name (event.Call session c) → HasTree name tree old → decision limits old session c ≡ Ok o → Comes limits old session o new → HasTree name tree new
   comes_keep limits old session c o new spares has decided comes =

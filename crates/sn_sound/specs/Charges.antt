@@ -5,7 +5,7 @@ use Rattle.sn_model.specs.declared.change.Change.{Change}
 use Rattle.sn_model.specs.Changes.{apply}
 use Rattle.sn_model.specs.Tree.{Tree}
 use Rattle.sn_model.specs.Charges.{charge_for}
-use Rattle.sn_overlay.specs.Needs.{nameless_in}
+use Rattle.sn_model.specs.Settling.{nameless_in}
 
 abbrev pub after_change : (Tree → ℕ) → Option Tree → ℕ
 after_change rest None = 0

@@ -16,7 +16,7 @@ use Rattle.sn_log.specs.Positions.{LogPosition, IsBehind, base_at, payloads_of}
 use Rattle.sn_log.specs.Replaying.{Finds}
 use Rattle.sn_log.specs.declared.replay.NextRecord.TheVariants as found
 use Rattle.sn_opening.specs.Spelled.{AreSpelled}
-use Rattle.sn_overlay.specs.Needs.{nameless_in}
+use Rattle.sn_model.specs.Settling.{nameless_in}
 use Rattle.sn_sound.specs.Charges.{Fits}
 
 -- The records of an epoch spell these changes, all of them, which make this tree of another.

@@ -82,6 +82,7 @@ fn push_snapshot_call(text: &mut String, call: &Call) -> Result<()> {
     match call {
         Call::SnapCreate { name } => push_word(text, "snap-create, name", name),
         Call::SnapDelete { name } => push_word(text, "snap-delete, name", name),
+        Call::SnapRestore { name } => push_word(text, "snap-restore, name", name),
         Call::SnapList => push(text, "snap-list"),
         _ => bail!("another call"),
     }

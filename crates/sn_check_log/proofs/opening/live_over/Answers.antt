@@ -5,7 +5,7 @@ use Rattle.sn_image.specs.Image.{image}
 use Rattle.sn_number_table.specs.Nameless.{TellsNameless}
 use Rattle.sn_number_table.specs.Table.{TellsNumbers}
 use Rattle.sn_ondisk.specs.Trees.{store_of}
-use Rattle.sn_overlay.specs.Needs.{nameless_in}
+use Rattle.sn_model.specs.Settling.{nameless_in}
 use Rattle.sn_rooted_tree.proofs.SeenLemmas.{root_tree}
 use Rattle.sn_check_log.proofs.opening.live_over.Goals as goal
 

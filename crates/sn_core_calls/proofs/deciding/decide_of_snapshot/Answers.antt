@@ -21,6 +21,16 @@ returns-in-SnapDelete g c = record {
   numbers = rw c.in-SnapDelete.is (if_any c.decide_snap_delete.result);
 }
 
+pub returns-in-SnapRestore : goal.returns-in-SnapRestore
+returns-in-SnapRestore g c = record {
+  kept = c.decide_snap_restore.ensures.kept;
+  follows = c.decide_snap_restore.ensures.follows;
+  same = λ told. c.decide_snap_restore.ensures.same told;
+  decided = λ told world shows. rw c.in-SnapRestore.is (c.decide_snap_restore.ensures.decided told world shows);
+  cause = c.decide_snap_restore.ensures.cause;
+  numbers = rw c.in-SnapRestore.is (if_any c.decide_snap_restore.result);
+}
+
 pub returns-in-SnapList : goal.returns-in-SnapList
 returns-in-SnapList g c = record {
   kept = c.decide_snap_list.ensures.kept;

@@ -7,7 +7,7 @@ use Rattle.sn_model.specs.Tree.{Tree}
 use Rattle.sn_ondisk.specs.MapCopy.{HasMap}
 use Rattle.sn_ondisk.specs.Trees.{store_of}
 use Rattle.sn_overlay.specs.Layers.{Layer}
-use Rattle.sn_overlay.specs.Needs.{nameless_in}
+use Rattle.sn_model.specs.Settling.{nameless_in}
 use Rattle.sn_overlay.specs.Overlays.{no_changes}
 use Rattle.sn_held.specs.Held.{Kept}
 use Rattle.sn_check_log.specs.Trying.{changes_if, tree_of}
