@@ -1,11 +1,11 @@
 -- Calls that close nothing: who held a file holds it still.
-use Rattle.std.proofs.Common.{◌≡◌, ◌⊎◌, inl, inr, ℕ, zero, suc, ◌+◌, Bool, true, false, not, ◌||◌, cond, Option, Some, None, Ok, is_some, refl, sym, ap, subst, ◌∙◌, true≢false}
+use Rattle.std.proofs.Common.{◌≡◌, ◌⊎◌, inl, inr, ℕ, Bool, true, false, not, ◌||◌, cond, Option, Some, None, Ok, is_some, refl, sym, ap, subst, ◌∙◌, true≢false}
 use Rattle.std.specs.FinMap as map
 use Rattle.std.specs.Prelude.{IsSomeAnd}
 use Rattle.sn_limits.specs.declared.kind.Kind.TheVariants.{File}
 use Rattle.sn_limits.specs.declared.limits.Limits.{Limits}
 use Rattle.sn_walk.specs.declared.object.Home.TheVariants.{Live}
-use Rattle.sn_model.specs.Descriptors.{Descriptors, at_offset, descriptor_for, first_without, given, is_held_in, moved_if, moved_to, next_descriptor, opened}
+use Rattle.sn_model.specs.Descriptors.{Descriptors, at_offset, descriptor_for, given, is_held_in, moved_if, moved_to, next_descriptor, opened}
 use Rattle.sn_model.specs.declared.outcome.Caller.{Caller}
 use Rattle.sn_model.specs.declared.outcome.Caller.TheVariants.{Closes, LogsIn, LogsOut, Moves, Opens, OpensNew, SetsUmask, Stays}
 use Rattle.sn_model.specs.Settling.{dropped, is_held, is_nameless, without_nameless}
@@ -20,6 +20,7 @@ use Rattle.sn_model.proofs.HeldLemmas.{descriptors_total, exact_descriptors, hel
 use Rattle.sn_model.proofs.MapLemmas.{get_inserted, get_other, same_or_apart}
 use Rattle.sn_model.proofs.MoveLemmas.{is_kind}
 use Rattle.sn_model.proofs.OtherCallLemmas.{caller_live}
+use Rattle.sn_model.proofs.SearchLemmas.{is_found}
 use Rattle.sn_model.proofs.SettlingLemmas.{get_without, nameless_is}
 use Rattle.sn_overlay_change.specs.FirstNames.{StayNameless}
 use Rattle.sn_changed.specs.Decided.{KeepsOpen}
@@ -71,22 +72,12 @@ moved_holds table session fd offset n held = told (map.get table (session, fd)) 
             let x = some_descriptor (map.get table (b.0, b.1)) b.2 in
             held_at (opened table session fd (at_offset offset d)) n b.0 b.1 x.0 (get_other descriptors_total exact_descriptors table (session, fd) (at_offset offset d) (b.0, b.1) apart ∙ x.1) x.2.0 x.2.1
 
--- the next descriptor isn't open yet
-unused : (used : ℕ → Bool) (first many fd : ℕ) → first_without used first many ≡ Some fd → used fd ≡ false
-unfolding first_without
-unused used first zero fd e = cc
-unused used first (suc many) fd e = told (used first) refl (unused used (first + 1) many fd) e
-  where
-    told : (b : Bool) → used first ≡ b → (first_without used (first + 1) many ≡ Some fd → used fd ≡ false) → cond b (first_without used (first + 1) many) (Some first) ≡ Some fd → used fd ≡ false
-    told true t more f = more f
-    told false t more f = ap used (sym (some_same first fd f)) ∙ t
-
 given_is : (o : Option ℕ) (fd : ℕ) → given o ≡ Ok fd → o ≡ Some fd
 given_is None fd e = cc
 given_is (Some n) fd e = ap (λ (k : ℕ). Some k) (same_ok n fd e)
 
 pub next_vacant : (table : Descriptors) (session fd : ℕ) → next_descriptor table session ≡ Ok fd → map.get table (session, fd) ≡ None
-next_vacant table session fd e = told (map.get table (session, fd)) (unused (λ n. is_some (map.get table (session, n))) 0 64 fd (given_is _ fd e))
+next_vacant table session fd e = told (map.get table (session, fd)) ((is_found (λ n. is_some (map.get table (session, n))) 0 64 fd (given_is _ fd e)).0)
   where
     told : (o : Option Descriptor) → is_some o ≡ false → o ≡ None
     told None f = refl

@@ -31,14 +31,11 @@ IsLogged (Does c) = Unit {0}
 
 -- a caller closes nothing, and what it opens gets its session's next descriptor
 abbrev pub KeepsOpen : Descriptors → ℕ → Caller → Type 0
-KeepsOpen table session Stays = Unit {0}
-KeepsOpen table session (LogsIn s) = Unit {0}
-KeepsOpen table session (SetsUmask mask) = Unit {0}
 KeepsOpen table session LogsOut = ⊥
 KeepsOpen table session (Opens fd home number flags) = next_descriptor table session ≡ Ok fd
 KeepsOpen table session (OpensNew fd flags) = next_descriptor table session ≡ Ok fd
 KeepsOpen table session (Closes fd) = ⊥
-KeepsOpen table session (Moves fd offset) = Unit {0}
+KeepsOpen table session outcome = Unit {0}
 
 -- Whatever a call decides, no file without names gets one by it: what it names was found under a name, and what it makes is new.
 abbrev pub DecidedGiveNoFirstName : Type 0

@@ -35,8 +35,4 @@ IsOfLog n c root free damage block = (damage ≡ Log) × IsLogFault n c root fre
 -- more is charged than is free, which is a damage of the log, told of the half of the root's epoch
 abbrev pub IsOver : MountFault → ℕ → RootBody → ℕ → ℕ → ℕ → Type 0
 IsOver (fault.Damaged damage block) n root free charges dropped = (damage ≡ Log) × (is_covered root.limits (mounted free charges dropped) ≡ false) × (block ≡ half_block n root.epoch)
-IsOver fault.NotFormatted n root free charges dropped = ⊥
-IsOver fault.Version n root free charges dropped = ⊥
-IsOver fault.NoRoot n root free charges dropped = ⊥
-IsOver fault.Memory n root free charges dropped = ⊥
-IsOver fault.Device n root free charges dropped = ⊥
+IsOver cause n root free charges dropped = ⊥

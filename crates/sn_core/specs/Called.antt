@@ -13,14 +13,8 @@ HasRoom caller room = is_opening caller ≡ true → 0 < room
 
 -- the same of a file that is opened with its number: a new one gets that first
 abbrev pub HasRoomNow : Caller → ℕ → Type 0
-HasRoomNow Stays room = Unit {0}
-HasRoomNow (LogsIn s) room = Unit {0}
-HasRoomNow (SetsUmask mask) room = Unit {0}
-HasRoomNow LogsOut room = Unit {0}
 HasRoomNow (Opens fd home number flags) room = 0 < room
-HasRoomNow (OpensNew fd flags) room = Unit {0}
-HasRoomNow (Closes fd) room = Unit {0}
-HasRoomNow (Moves fd offset) room = Unit {0}
+HasRoomNow outcome room = Unit {0}
 
 -- what is opened gets the session's next descriptor, and there is room for it
 pub record IsNext (table : Descriptors) (room session fd : ℕ) : Type 0 where
@@ -29,14 +23,8 @@ pub record IsNext (table : Descriptors) (room session fd : ℕ) : Type 0 where
   pub next : next_descriptor table session ≡ Ok fd
 
 abbrev pub CanTurn : Descriptors → ℕ → ℕ → Caller → Type 0
-CanTurn table room session Stays = Unit {0}
-CanTurn table room session (LogsIn s) = Unit {0}
-CanTurn table room session (SetsUmask mask) = Unit {0}
-CanTurn table room session LogsOut = Unit {0}
 CanTurn table room session (Opens fd home number flags) = IsNext table room session fd
-CanTurn table room session (OpensNew fd flags) = Unit {0}
-CanTurn table room session (Closes fd) = Unit {0}
-CanTurn table room session (Moves fd offset) = Unit {0}
+CanTurn table room session outcome = Unit {0}
 
 -- the live files that had a descriptor and have none any more are among these
 abbrev pub TellsReleased : World → World → List ℕ → Type 0

@@ -18,12 +18,7 @@ pub record GivesOut (old new : World) (number : ℕ) : Type 0 where
 -- a change gives a new node a number that is kept back
 abbrev pub gives_kept : Change → (ℕ → Bool) → Bool
 gives_kept (Make directory name number kind o) kept = kept number
-gives_kept (AddLink directory name number) kept = false
-gives_kept (Remove directory name) kept = false
-gives_kept (Rename old_directory old_name new_directory new_name) kept = false
-gives_kept (Write number offset bytes) kept = false
-gives_kept (SetSize number size) kept = false
-gives_kept (SetAttributes number o) kept = false
+gives_kept change kept = false
 
 -- a new node has the least number that no node has and that isn't kept back, or where there is no other the least that no node has
 abbrev pub TakesNext : World → (ℕ → Bool) → World → Type 0

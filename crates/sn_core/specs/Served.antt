@@ -47,11 +47,8 @@ Decides world session c (Err e) = HasNone e world session c
 
 -- a run in memory keeps no tree but the live one, as if it found no memory for a snapshot's
 abbrev pub memory_for : AskedPoint → Result (Unit {0}) WorldError
-memory_for Unasked = Ok tt
-memory_for Plain = Ok tt
 memory_for (Freezes name) = Err Memory
-memory_for (Thaws name) = Ok tt
-memory_for (Restores name) = Ok tt
+memory_for asked = Ok tt
 
 -- a number is left for a node that is to be made
 abbrev pub HasNumber : Tree → Pending → Type 0

@@ -56,12 +56,9 @@ pub record ShowsNext (w : Work) (s : Store) (root : RootBody) (third fourth : Li
 
 -- before the gate is opened
 abbrev pub IsBeforeOpening : Stage → Type 0
-IsBeforeOpening (Blocks k) = Unit {0}
-IsBeforeOpening (MapBlocks k) = Unit {0}
-IsBeforeOpening Stored = Unit {0}
-IsBeforeOpening Shut = Unit {0}
 IsBeforeOpening Bodied = ⊥
 IsBeforeOpening Done = ⊥
+IsBeforeOpening stage = Unit {0}
 
 -- The point of a root, with the records of the next epoch for its own: two epochs on replay finds nothing yet, where the half of the root's epoch begins with none later.
 abbrev pub OrdinaryPointsShow : Type 0

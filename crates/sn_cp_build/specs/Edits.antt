@@ -27,10 +27,8 @@ IsEdited (edit.Restore bit) old new = SnapshotsStay old new
 
 -- the bit that tells what a build begins from: that of a snapshot that is brought back, and else the live tree's
 abbrev pub base_bit : SnapshotEdit → ℕ
-base_bit edit.None = 0
-base_bit (edit.Freeze bit) = 0
-base_bit (edit.Thaw bit) = 0
 base_bit (edit.Restore bit) = bit
+base_bit edit = 0
 
 -- Bit 0 becomes the bit of what the build begins from. The bits of snapshots are what they were.
 pub record TakesBase (edit : SnapshotEdit) (old new : List ℕ) : Type 0 where

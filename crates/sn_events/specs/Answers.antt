@@ -207,11 +207,9 @@ pub record HasAll (h : Held) (change : Change) (o : Outcome) : Type 0 where
 
 -- It was refused, and nothing has changed but what the device counts of a read that failed.
 abbrev pub IsUnchanged : Mishap → Held → Held → Type 0
-IsUnchanged Memory old new = new ≡ old
 IsUnchanged Read old new = (new ≡ record old { status = new.status }) × FailsRead old.status new.status
 IsUnchanged Write old new = ⊥
-IsUnchanged Space old new = new ≡ old
-IsUnchanged Age old new = new ≡ old
+IsUnchanged m old new = new ≡ old
 
 -- with a change that makes this tree, and its record, with the writes and the two syncs of that
 abbrev pub with_record : Held → Change → ℕ → Tree → Disk → Held

@@ -181,11 +181,8 @@ errno_of_point Device = Eio
 
 -- a failure of the device stops the mount
 abbrev pub stops_for : PointFault → Bool
-stops_for Memory = false
-stops_for Age = false
-stops_for Read = false
-stops_for Damaged = false
 stops_for Device = true
+stops_for cause = false
 
 abbrev pub stops_point : {T : Type 0} → Result T PointFault → Bool
 stops_point (Ok _) = false

@@ -21,8 +21,4 @@ TellsByNumbers recovers root logged nameless = (changes : List Change) (tree : T
 -- something is, and the root has no age left for that, which is told of the half of its epoch
 abbrev pub IsAged : MountFault → ℕ → RootBody → Bool → Type 0
 IsAged (fault.Damaged damage block) n root recovers = (damage ≡ Log) × (recovers ≡ true) × (HasAgeLeft root → ⊥) × (block ≡ half_block n root.epoch)
-IsAged fault.NotFormatted n root recovers = ⊥
-IsAged fault.Version n root recovers = ⊥
-IsAged fault.NoRoot n root recovers = ⊥
-IsAged fault.Memory n root recovers = ⊥
-IsAged fault.Device n root recovers = ⊥
+IsAged cause n root recovers = ⊥

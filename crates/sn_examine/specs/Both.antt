@@ -37,8 +37,6 @@ pub data BreaksBoth (limits : Limits) (c : Contents) (from : Tree) (n epoch bloc
 -- It fails for memory, for the device, or for a record that breaks the log of both, in the block of its gate.
 abbrev pub BothBreak : Limits → MountFault → Contents → Tree → ℕ → ℕ → Type 0
 BothBreak limits (fault.Damaged damage block) c from n epoch = (damage ≡ Log) × BreaksBoth limits c from n epoch block
-BothBreak limits fault.NotFormatted c from n epoch = ⊥
-BothBreak limits fault.Version c from n epoch = ⊥
-BothBreak limits fault.NoRoot c from n epoch = ⊥
 BothBreak limits fault.Memory c from n epoch = Unit {0}
 BothBreak limits fault.Device c from n epoch = Unit {0}
+BothBreak limits cause c from n epoch = ⊥

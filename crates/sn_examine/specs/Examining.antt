@@ -25,26 +25,18 @@ root_fault (root.Read f) = read_fault f
 -- a damage that is told is one of the roots
 abbrev pub IsOfRoots : MountFault → Type 0
 IsOfRoots (fault.Damaged damage block) = damage ≡ Root
-IsOfRoots fault.NotFormatted = Unit {0}
-IsOfRoots fault.Version = Unit {0}
-IsOfRoots fault.NoRoot = Unit {0}
-IsOfRoots fault.Memory = Unit {0}
-IsOfRoots fault.Device = Unit {0}
+IsOfRoots cause = Unit {0}
 
 -- a record of an epoch later than this one stands first in the half, which is told of its first block; or that couldn't be read
 abbrev pub IsLaterIn : MountFault → Contents → ℕ → LogHalf → ℕ → Type 0
 IsLaterIn (fault.Damaged damage block) c n half epoch = (damage ≡ Log) × (HasNoLater c (half_base n half) epoch → ⊥) × (block ≡ start_of n (area.Log half))
-IsLaterIn fault.NotFormatted c n half epoch = ⊥
-IsLaterIn fault.Version c n half epoch = ⊥
-IsLaterIn fault.NoRoot c n half epoch = ⊥
 IsLaterIn fault.Memory c n half epoch = Unit {0}
 IsLaterIn fault.Device c n half epoch = Unit {0}
+IsLaterIn cause c n half epoch = ⊥
 
 -- the same of the half of some epoch
 abbrev pub SomeIsLater : MountFault → Contents → ℕ → ℕ → Type 0
 SomeIsLater (fault.Damaged damage block) c n epoch = (damage ≡ Log) × ((e : ℕ) × (HasNoLater c (base_of n e) epoch → ⊥) × (block ≡ half_block n e))
-SomeIsLater fault.NotFormatted c n epoch = ⊥
-SomeIsLater fault.Version c n epoch = ⊥
-SomeIsLater fault.NoRoot c n epoch = ⊥
 SomeIsLater fault.Memory c n epoch = Unit {0}
 SomeIsLater fault.Device c n epoch = Unit {0}
+SomeIsLater cause c n epoch = ⊥

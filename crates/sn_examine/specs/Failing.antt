@@ -35,11 +35,7 @@ read_fault read.Memory = Memory
 -- the device is told to have failed where it has, or has come to its end, and nowhere else
 abbrev pub IsSoOf : MountFault → Status → Status → Type 0
 IsSoOf Device old new = HasFailed old new
-IsSoOf NotFormatted old new = HasNotFailed old new
-IsSoOf Version old new = HasNotFailed old new
-IsSoOf NoRoot old new = HasNotFailed old new
-IsSoOf (Damaged damage block) old new = HasNotFailed old new
-IsSoOf Memory old new = HasNotFailed old new
+IsSoOf cause old new = HasNotFailed old new
 
 abbrev pub FailsAs : {T : Type 0} → Result T MountFault → Status → Status → Type 0
 FailsAs result old new = IfErr result (λ fault. IsSoOf fault old new)

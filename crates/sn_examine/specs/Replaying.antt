@@ -27,11 +27,9 @@ pub record HasReplayed (limits : Limits) (c : Contents) (from : Tree) (at : LogP
 -- It fails for memory, for the device, or where a record stands that is misspelt or whose change can't be made, in the block of its gate.
 abbrev pub Breaks : Limits → MountFault → Contents → Tree → ℕ → ℕ → Type 0
 Breaks limits (fault.Damaged damage block) c from n epoch = (damage ≡ Log) × BreaksAt c limits from n epoch block
-Breaks limits fault.NotFormatted c from n epoch = ⊥
-Breaks limits fault.Version c from n epoch = ⊥
-Breaks limits fault.NoRoot c from n epoch = ⊥
 Breaks limits fault.Memory c from n epoch = Unit {0}
 Breaks limits fault.Device c from n epoch = Unit {0}
+Breaks limits cause c from n epoch = ⊥
 
 -- the next record was replayed, or there is none
 abbrev pub IsNext : Limits → Bool → Contents → Tree → LogPosition → Tree → ℕ → LogPosition → Tree → ℕ → Type 0

@@ -27,11 +27,9 @@ pub record LacksRoom (n : ℕ) (c : Contents) (slot : Slot) (root : RootBody) (c
 -- or that couldn't be read
 abbrev pub IsUncovered : MountFault → ℕ → Contents → Slot → RootBody → ℕ → ℕ → Type 0
 IsUncovered (fault.Damaged damage block) n c slot root charges dropped = (damage ≡ Log) × LacksRoom n c slot root charges dropped block
-IsUncovered fault.NotFormatted n c slot root charges dropped = ⊥
-IsUncovered fault.Version n c slot root charges dropped = ⊥
-IsUncovered fault.NoRoot n c slot root charges dropped = ⊥
 IsUncovered fault.Memory n c slot root charges dropped = Unit {0}
 IsUncovered fault.Device n c slot root charges dropped = Unit {0}
+IsUncovered cause n c slot root charges dropped = ⊥
 
 -- memory was refused, or the device failed
 abbrev pub IsNoDamage : MountFault → Type 0

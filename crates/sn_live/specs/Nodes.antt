@@ -47,9 +47,7 @@ node_moves_of tree (Make directory name number kind o) = making tree number
 node_moves_of tree (AddLink directory name number) = linking tree number
 node_moves_of tree (Remove directory name) = losing tree (map.get tree.links (link_to directory name))
 node_moves_of tree (Rename old_directory old_name new_directory new_name) = renaming tree (link_to old_directory old_name) (link_to new_directory new_name)
-node_moves_of tree (Write number offset bytes) = Stay
-node_moves_of tree (SetSize number size) = Stay
-node_moves_of tree (SetAttributes number o) = Stay
+node_moves_of tree change = Stay
 
 -- A node has the number now. Where that was kept back, no number is any more.
 pub record NotesMade (number : ℕ) (old new : NumberTable) : Type 0 where
@@ -93,8 +91,5 @@ listed_after (Unname number) listed n = n == number || listed n
 
 -- the file that loses its last name, if one does
 abbrev pub lost_of : NodeMoves → Option ℕ
-lost_of Stay = None
-lost_of (Come number replaces) = None
-lost_of (Go number) = None
-lost_of (Name number) = None
 lost_of (Unname number) = Some number
+lost_of move = None

@@ -22,6 +22,4 @@ moves_of tree (Make directory name number kind o) = Gain directory number
 moves_of tree (AddLink directory name number) = Gain directory number
 moves_of tree (Remove directory name) = Lose directory
 moves_of tree (Rename old_directory old_name new_directory new_name) = renaming tree (link_to old_directory old_name) (link_to new_directory new_name)
-moves_of tree (Write number offset bytes) = Stay
-moves_of tree (SetSize number size) = Stay
-moves_of tree (SetAttributes number o) = Stay
+moves_of tree change = Stay

@@ -10,35 +10,18 @@ use Rattle.std.proofs.lemmas.Map.Lookups.{exact_unsigned}
 use Rattle.sn_limits.specs.declared.kind.Kind.{Kind}
 use Rattle.sn_limits.specs.declared.kind.Kind.TheVariants.{Directory}
 use Rattle.sn_model.specs.declared.link.Link.{Link}
-use Rattle.sn_model.specs.Tree.{Tree, Node, link_to, unused_from, least_unused, with_node}
+use Rattle.sn_model.specs.Tree.{Tree, Node, link_to, least_unused, with_node}
 use Rattle.sn_limits.specs.declared.limits.Limits.{Limits}
 use Rattle.sn_model.specs.Steps.{IsNumber}
 use Rattle.sn_model.specs.NameTree.{Reaches, root, below, HasKind, IsHierarchy}
 use Rattle.sn_model.proofs.LinkLemmas.{exact_links, links_total}
 use Rattle.sn_model.proofs.MapLemmas.{same_or_apart, get_inserted, get_other}
+use Rattle.sn_model.proofs.SearchLemmas.{is_found}
 
--- the unused number has no node, and isn't below the first
-found_unused : (nodes : map.FinMap nat_cmp Node) (first more number : ℕ) → unused_from nodes first more ≡ Some number → map.get nodes number ≡ None
-unfolding unused_from
-found_unused nodes first zero number e = cc
-found_unused nodes first (suc more) number e = looked (map.get nodes first) refl (found_unused nodes (first + 1) more number) e
-  where
-    looked : (o : Option Node) → map.get nodes first ≡ o → (unused_from nodes (first + 1) more ≡ Some number → map.get nodes number ≡ None) → cond (is_some (map.get nodes first)) (unused_from nodes (first + 1) more) (Some first) ≡ Some number → map.get nodes number ≡ None
-    looked None a further h =
-        let here : Some first ≡ Some number = rw a at h in
-        let same : first ≡ number = cc in
-        ap (map.get nodes) (sym same) ∙ a
-    looked (Some n) a further h = further (rw a at h)
-
--- and lies among those that were looked at
-found_among : (nodes : map.FinMap nat_cmp Node) (first more number : ℕ) → unused_from nodes first more ≡ Some number → (first ≤ number) × (number < first + more)
-unfolding unused_from
-found_among nodes first zero number e = cc
-found_among nodes first (suc more) number e = looked (is_some (map.get nodes first)) (found_among nodes (first + 1) more number) e
-  where
-    looked : (b : Bool) → (unused_from nodes (first + 1) more ≡ Some number → (first + 1 ≤ number) × (number < first + 1 + more)) → cond b (unused_from nodes (first + 1) more) (Some first) ≡ Some number → (first ≤ number) × (number < first + suc more)
-    looked true further h = let k = further h in (omega (arith, k.0), omega (arith, k.1))
-    looked false further h = let same : first ≡ number = cc in (omega (arith, same), omega (arith, same))
+-- what is there is told as such
+no_node : (o : Option Node) → is_some o ≡ false → o ≡ None
+no_node None e = refl
+no_node (Some n) e = absurd (true≢false e)
 
 -- what is there isn't what isn't
 has_not_none : (o : Option Node) (P : Node → Type 0) → IsSomeAnd o P → o ≢ None
@@ -48,10 +31,10 @@ has_not_none (Some n) P h e = cc
 pub least_is_number : (limits : Limits) (tree : Tree) (number : ℕ) → HasKind tree 2 Directory → 1 ≤ limits.largest_number → least_unused limits tree ≡ Some number → IsNumber limits tree number
 unfolding least_unused
 least_is_number limits tree number kind some e =
-    let k = found_among tree.nodes 2 (limits.largest_number - 1) number e in
-    let unused = found_unused tree.nodes 2 (limits.largest_number - 1) number e in
+    let found = is_found (λ k. is_some (map.get tree.nodes k)) 2 (limits.largest_number - 1) number e in
+    let unused = no_node (map.get tree.nodes number) found.0 in
     let apart : number ≢ 2 = (λ same. has_not_none _ _ kind (ap (map.get tree.nodes) (sym same) ∙ unused)) in
-    record { first = omega (arith, k.0, apart); within = omega (arith, k.1, some); unused = unused }
+    record { first = omega (arith, found.1, apart); within = omega (arith, found.2, some); unused = unused }
 
 some_not_none : {A : Type 0} (o : Option A) (x : A) → o ≡ Some x → o ≢ None
 some_not_none o x e f = let never : Some x ≡ None = sym e ∙ f in cc

@@ -36,7 +36,7 @@ use Rattle.sn_model.specs.AccessCalls.{live_if}
 use Rattle.sn_model.specs.Calls.{seen}
 use Rattle.sn_model.specs.Changes.{cut, is_file, made, removed, take_link}
 use Rattle.sn_model.specs.Charges.{charge_for}
-use Rattle.sn_model.specs.Descriptors.{first_without, given, next_descriptor}
+use Rattle.sn_model.specs.Descriptors.{given, next_descriptor}
 use Rattle.sn_model.specs.FileCalls.{OpenFlags, access_of, are_flags, creating, file, file_of, flags_argument, new_file, no_directory, not_exclusive, open_absent, open_found, open_outcome, open_there, opens_new, opens_there, or_not, unlink_outcome, unlinks}
 use Rattle.sn_model.specs.NameTree.{HasKind}
 use Rattle.sn_model.specs.Outcomes.{Outcome, Opens}
@@ -52,6 +52,7 @@ use Rattle.sn_model.proofs.MoveLemmas.{is_kind, some_node}
 use Rattle.sn_model.proofs.ChargeLemmas.{remove_pays}
 use Rattle.sn_model.proofs.OutcomeLemmas.{IsDecided, IsOpening, done, turned}
 use Rattle.sn_model.proofs.PartLemmas.{cut_of, is_file_at, removed_of, unlinked_of}
+use Rattle.sn_model.proofs.SearchLemmas.{is_found}
 use Rattle.sn_model.proofs.SeatLemmas.{seat_of}
 
 -- ---- what a walk found
@@ -168,15 +169,6 @@ module _ (limits : Limits) (world : World) (session : ℕ) (s : Session) (names 
   -- ---- open
 
   -- a session that is logged in gets a descriptor
-  below : (used : ℕ → Bool) (first many fd : ℕ) → first_without used first many ≡ Some fd → fd < first + many
-  unfolding first_without
-  below used first zero fd e = cc
-  below used first (suc many) fd e = told (used first) (below used (first + 1) many fd) e
-    where
-      told : (b : Bool) → (first_without used (first + 1) many ≡ Some fd → fd < first + 1 + many) → cond b (first_without used (first + 1) many) (Some first) ≡ Some fd → fd < first + suc many
-      told true more f = omega (arith, more f)
-      told false more f = let same : first ≡ fd = cc in omega (arith, same)
-
   given_is : (o : Option ℕ) (fd : ℕ) → given o ≡ Ok fd → o ≡ Some fd
   given_is None fd e = cc
   given_is (Some n) fd e = ap (λ (k : ℕ). Some k) (same_ok n fd e)
@@ -185,7 +177,7 @@ module _ (limits : Limits) (world : World) (session : ℕ) (s : Session) (names 
   opening fd by e = record {
     caller = subst (λ (o : Option (Option Session)). IsSomeAnd o (λ (x : Option Session). is_some x ≡ true)) (sym (seat_of world session s by)) refl;
     next = e;
-    number = below (λ n. is_some (map.get world.descriptors (session, n))) 0 64 fd (given_is _ fd e);
+    number = (is_found (λ n. is_some (map.get world.descriptors (session, n))) 0 64 fd (given_is _ fd e)).2;
   }
 
   -- what is opened is a file

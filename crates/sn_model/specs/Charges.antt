@@ -42,11 +42,8 @@ charge_of limits tree (Does change) = charge_for limits tree change
 
 -- of the points that are asked for, one that restores a snapshot is charged for each file without names of its tree, the others for nothing
 abbrev pub point_charge : Limits → World → AskedPoint → ℕ
-point_charge limits world Unasked = 0
-point_charge limits world Plain = 0
-point_charge limits world (Freezes name) = 0
-point_charge limits world (Thaws name) = 0
 point_charge limits world (Restores name) = limits.inode_charge * nameless_if (map.get world.frozen name)
+point_charge limits world asked = 0
 
 -- an outcome is charged for its change in the live tree, and for its point
 abbrev pub IsPaidFor : Limits → World → Outcome → Type 0

@@ -32,8 +32,6 @@ at_place trees names place = led_to trees root (take place names)
 
 -- a call's path: 1 is its first
 abbrev pub path_of : Call → ℕ → Option (List ℕ)
-path_of (call.Login uid gid groups) which = None
-path_of (call.Umask mask) which = None
 path_of (call.Mkdir path mode) which = if which == 1 then Some path else None
 path_of (call.Chmod path mode) which = if which == 1 then Some path else None
 path_of (call.Chown path uid gid) which = if which == 1 then Some path else None
@@ -46,18 +44,8 @@ path_of (call.Unlink path) which = if which == 1 then Some path else None
 path_of (call.Link old new) which = if which == 1 then Some old else (if which == 2 then Some new else None)
 path_of (call.Rename old new) which = if which == 1 then Some old else (if which == 2 then Some new else None)
 path_of (call.Readdir path) which = if which == 1 then Some path else None
-path_of call.Logout which = None
 path_of (call.Open path flags mode) which = if which == 1 then Some path else None
-path_of (call.Close fd) which = None
-path_of (call.Read fd count) which = None
-path_of (call.Write fd bytes) which = None
-path_of (call.Seek fd offset) which = None
-path_of (call.Ftruncate fd size) which = None
-path_of call.Sync which = None
-path_of (call.SnapCreate name) which = None
-path_of (call.SnapDelete name) which = None
-path_of (call.SnapRestore name) which = None
-path_of call.SnapList which = None
+path_of c which = None
 
 -- the object at the denial's place has an ACL whose entry denies what was wanted
 pub record IsByRule (trees : ViewedTrees) (cred : Credential) (names : List (List ℕ)) (denial : Denial) : Type 0 where

@@ -1,5 +1,5 @@
 -- What calls do to descriptors, and the tests of them: POSIX.1-2017, open(), close(), lseek() and 2.14, File Descriptor Allocation. That a session has 64 descriptors at the most is a rule of this project.
-use Rattle.std.specs.Prelude.{ℕ, zero, suc, ◌+◌, ◌==◌, Bool, not, nat_le, Option, None, Some, Result, Ok, Err, is_some, if◌then◌else◌}
+use Rattle.std.specs.Prelude.{ℕ, ◌+◌, ◌==◌, Bool, not, nat_le, Option, None, Some, Result, Ok, Err, is_some, if◌then◌else◌}
 use Rattle.std.specs.List.{list_any}
 use Rattle.std.specs.FinMap as map
 use Rattle.sn_limits.specs.declared.limits.Limits.{Limits}
@@ -11,6 +11,7 @@ use Rattle.sn_model.specs.declared.reply.Errno.TheVariants.{Einval, Emfile, Ebad
 use Rattle.sn_model.specs.declared.reply.Refusal.{Refusal}
 use Rattle.sn_model.specs.Settling.{is_of_live}
 use Rattle.sn_model.specs.Tests.{plain}
+use Rattle.sn_model.specs.Tree.{first_without}
 use Rattle.sn_model.specs.World.{Descriptor, descriptor_cmp}
 
 -- what is open, by session and number of the descriptor
@@ -20,11 +21,6 @@ Descriptors = map.FinMap descriptor_cmp Descriptor
 -- a descriptor of a file: its rights are those that it is opened for
 abbrev pub descriptor_for : OpenFlags → Home → ℕ → Descriptor
 descriptor_for flags home number = record { home = home; number = number; readable = flags.read; writable = flags.write; appends = flags.append; offset = 0 }
-
--- the least number from a first one on that doesn't pass a test, among so many
-unfoldable pub first_without : (ℕ → Bool) → ℕ → ℕ → Option ℕ
-first_without used first zero = None
-first_without used first (suc more) = if used first then first_without used (first + 1) more else Some first
 
 abbrev pub given : Option ℕ → Result ℕ Refusal
 given None = Err (plain Emfile)

@@ -129,32 +129,14 @@ RenameMovesTheName = (limits : Limits) (world : World) (s : Session) (names othe
 
 -- the calls that change which names are there
 abbrev pub changes_names : Call → Bool
-changes_names (call.Login uid gid groups) = false
-changes_names (call.Umask mask) = false
 changes_names (call.Mkdir path mode) = true
-changes_names (call.Chmod path mode) = false
-changes_names (call.Chown path uid gid) = false
-changes_names (call.Stat path) = false
-changes_names (call.Access path want) = false
-changes_names (call.GetAcl path kind) = false
-changes_names (call.SetAcl path kind acl) = false
 changes_names (call.Rmdir path) = true
 changes_names (call.Unlink path) = true
 changes_names (call.Link old new) = true
 changes_names (call.Rename old new) = true
-changes_names (call.Readdir path) = false
-changes_names call.Logout = false
 changes_names (call.Open path flags mode) = true
-changes_names (call.Close fd) = false
-changes_names (call.Read fd count) = false
-changes_names (call.Write fd bytes) = false
-changes_names (call.Seek fd offset) = false
-changes_names (call.Ftruncate fd size) = false
-changes_names call.Sync = false
-changes_names (call.SnapCreate name) = false
-changes_names (call.SnapDelete name) = false
 changes_names (call.SnapRestore name) = true
-changes_names call.SnapList = false
+changes_names c = false
 
 -- Whatever another call answers, each name stands for what it stood for, and there is no other.
 abbrev pub FewCallsChangeNames : Type 0

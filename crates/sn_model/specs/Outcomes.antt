@@ -17,14 +17,9 @@ pub use Rattle.sn_model.specs.declared.outcome.Outcome.{Outcome}
 
 -- a descriptor is opened
 abbrev pub is_opening : Caller → Bool
-is_opening Stays = false
-is_opening (LogsIn s) = false
-is_opening (SetsUmask mask) = false
-is_opening LogsOut = false
 is_opening (Opens fd home number flags) = true
 is_opening (OpensNew fd flags) = true
-is_opening (Closes fd) = false
-is_opening (Moves fd offset) = false
+is_opening effect = false
 
 -- nothing changes
 abbrev pub tells : Reply → Outcome

@@ -46,13 +46,9 @@ is_held world number = list_any (λ e. is_of_live number e.1.home e.1.number) (m
 
 -- the number that a change takes a name of
 abbrev pub loses : Change → Tree → Option ℕ
-loses (Make directory name number kind o) tree = None
-loses (AddLink directory name number) tree = None
 loses (Remove directory name) tree = map.get tree.links (link_to directory name)
 loses (Rename old_directory old_name new_directory new_name) tree = map.get tree.links (link_to new_directory new_name)
-loses (Write number offset bytes) tree = None
-loses (SetSize number size) tree = None
-loses (SetAttributes number o) tree = None
+loses change tree = None
 
 -- a live file in no link and no descriptor
 abbrev pub is_abandoned : World → ℕ → Bool

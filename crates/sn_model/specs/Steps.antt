@@ -108,59 +108,18 @@ Becomes limits world session (Ok o) reply new = (reply ≡ o.told) × Comes limi
 abbrev pub TakesMemory : Call → Type 0
 TakesMemory (call.Login uid gid groups) = ⊥
 TakesMemory (call.Umask mask) = ⊥
-TakesMemory (call.Mkdir path mode) = Unit {0}
-TakesMemory (call.Chmod path mode) = Unit {0}
-TakesMemory (call.Chown path uid gid) = Unit {0}
-TakesMemory (call.Stat path) = Unit {0}
-TakesMemory (call.Access path want) = Unit {0}
-TakesMemory (call.GetAcl path kind) = Unit {0}
-TakesMemory (call.SetAcl path kind acl) = Unit {0}
-TakesMemory (call.Rmdir path) = Unit {0}
-TakesMemory (call.Unlink path) = Unit {0}
-TakesMemory (call.Link old new) = Unit {0}
-TakesMemory (call.Rename old new) = Unit {0}
-TakesMemory (call.Readdir path) = Unit {0}
 TakesMemory call.Logout = ⊥
-TakesMemory (call.Open path flags mode) = Unit {0}
 TakesMemory (call.Close fd) = ⊥
-TakesMemory (call.Read fd count) = Unit {0}
-TakesMemory (call.Write fd bytes) = Unit {0}
 TakesMemory (call.Seek fd offset) = ⊥
-TakesMemory (call.Ftruncate fd size) = Unit {0}
-TakesMemory call.Sync = Unit {0}
-TakesMemory (call.SnapCreate name) = Unit {0}
-TakesMemory (call.SnapDelete name) = Unit {0}
-TakesMemory (call.SnapRestore name) = Unit {0}
-TakesMemory call.SnapList = Unit {0}
+TakesMemory c = Unit {0}
 
 -- the calls that ask for a whole consistency point; of these one that restores a snapshot may be charged for something
 abbrev pub asks_for_point : Call → Bool
-asks_for_point (call.Login uid gid groups) = false
-asks_for_point (call.Umask mask) = false
-asks_for_point (call.Mkdir path mode) = false
-asks_for_point (call.Chmod path mode) = false
-asks_for_point (call.Chown path uid gid) = false
-asks_for_point (call.Stat path) = false
-asks_for_point (call.Access path want) = false
-asks_for_point (call.GetAcl path kind) = false
-asks_for_point (call.SetAcl path kind acl) = false
-asks_for_point (call.Rmdir path) = false
-asks_for_point (call.Unlink path) = false
-asks_for_point (call.Link old new) = false
-asks_for_point (call.Rename old new) = false
-asks_for_point (call.Readdir path) = false
-asks_for_point call.Logout = false
-asks_for_point (call.Open path flags mode) = false
-asks_for_point (call.Close fd) = false
-asks_for_point (call.Read fd count) = false
-asks_for_point (call.Write fd bytes) = false
-asks_for_point (call.Seek fd offset) = false
-asks_for_point (call.Ftruncate fd size) = false
 asks_for_point call.Sync = true
 asks_for_point (call.SnapCreate name) = true
 asks_for_point (call.SnapDelete name) = true
 asks_for_point (call.SnapRestore name) = true
-asks_for_point call.SnapList = false
+asks_for_point c = false
 
 abbrev pub AsksForPoint : Call → Type 0
 AsksForPoint c = IsTrue (asks_for_point c)

@@ -72,14 +72,14 @@ viewed tree = record {
   default_acl = λ number. option_and_then (λ node. node.default_acl) (map.get tree.nodes number);
 }
 
--- the least number from a first one on that no node has, among so many
-unfoldable pub unused_from : map.FinMap nat_cmp Node → ℕ → ℕ → Option ℕ
-unused_from nodes first zero = None
-unused_from nodes first (suc more) = if is_some (map.get nodes first) then unused_from nodes (first + 1) more else Some first
+-- the least number from a first one on that isn't used, among so many
+unfoldable pub first_without : (ℕ → Bool) → ℕ → ℕ → Option ℕ
+first_without used first zero = None
+first_without used first (suc more) = if used first then first_without used (first + 1) more else Some first
 
 -- the least unused number, from the root's on
 unfoldable pub least_unused : Limits → Tree → Option ℕ
-least_unused limits tree = unused_from tree.nodes 2 (limits.largest_number - 1)
+least_unused limits tree = first_without (λ number. is_some (map.get tree.nodes number)) 2 (limits.largest_number - 1)
 
 -- the tree with a new node under a new name
 abbrev pub with_node : Tree → ℕ → Link → Node → Tree

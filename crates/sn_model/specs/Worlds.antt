@@ -66,31 +66,7 @@ IsState limits (Stopped before after) = IsFound limits before × IsFound limits 
 -- the numbers of a call are those of its types
 abbrev pub IsCall : Call → Type 0
 IsCall (call.Login uid gid groups) = (uid < 2 ^ 32) × (gid < 2 ^ 32)
-IsCall (call.Umask mask) = Unit {0}
-IsCall (call.Mkdir path mode) = Unit {0}
-IsCall (call.Chmod path mode) = Unit {0}
-IsCall (call.Chown path uid gid) = Unit {0}
-IsCall (call.Stat path) = Unit {0}
-IsCall (call.Access path want) = Unit {0}
-IsCall (call.GetAcl path kind) = Unit {0}
-IsCall (call.SetAcl path kind acl) = Unit {0}
-IsCall (call.Rmdir path) = Unit {0}
-IsCall (call.Unlink path) = Unit {0}
-IsCall (call.Link old new) = Unit {0}
-IsCall (call.Rename old new) = Unit {0}
-IsCall (call.Readdir path) = Unit {0}
-IsCall call.Logout = Unit {0}
-IsCall (call.Open path flags mode) = Unit {0}
-IsCall (call.Close fd) = Unit {0}
-IsCall (call.Read fd count) = Unit {0}
-IsCall (call.Write fd bytes) = Unit {0}
-IsCall (call.Seek fd offset) = Unit {0}
-IsCall (call.Ftruncate fd size) = Unit {0}
-IsCall call.Sync = Unit {0}
-IsCall (call.SnapCreate name) = Unit {0}
-IsCall (call.SnapDelete name) = Unit {0}
-IsCall (call.SnapRestore name) = Unit {0}
-IsCall call.SnapList = Unit {0}
+IsCall c = Unit {0}
 
 abbrev pub IsEvent : Event → Type 0
 IsEvent (event.Call session c) = IsCall c

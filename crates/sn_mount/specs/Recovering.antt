@@ -54,12 +54,9 @@ KeepsTheWorld old new world = Touches Nowhere old new ⊎ LeavesTheWorld old new
 
 -- A mount that finds that it can't be one has written nothing; one that was refused memory, or whose device failed, may have written beside the root.
 abbrev pub WritesAtFault : MountFault → ℕ → Disk → Disk → Type 0
-WritesAtFault (fault.Damaged damage block) sectors old new = Touches Nowhere old new
-WritesAtFault fault.NotFormatted sectors old new = Touches Nowhere old new
-WritesAtFault fault.Version sectors old new = Touches Nowhere old new
-WritesAtFault fault.NoRoot sectors old new = Touches Nowhere old new
 WritesAtFault fault.Memory sectors old new = Touches Nowhere old new ⊎ KeepsTheRoot sectors old new
 WritesAtFault fault.Device sectors old new = Touches Nowhere old new ⊎ KeepsTheRoot sectors old new
+WritesAtFault cause sectors old new = Touches Nowhere old new
 
 -- of a disk that is an image of a world
 abbrev pub OfImage : Disk → (World → Type 0) → Type 0

@@ -48,8 +48,6 @@ MakesRoot result n k recovers old new = (world : World) (im : IsImage (reads old
 -- why no root is made: memory was refused, the device failed, or root and map can't be used, which comes before anything is written
 abbrev pub IsNoRoot : MountFault → ℕ → Kept → Disk → Disk → Type 0
 IsNoRoot (fault.Damaged damage block) n k old new = (damage ≡ MapWord) × (block ≡ start_of n (MapCopy k.slot)) × (new ≡ old) × (CanBeBuilt n (store_of (reads old)) k → ⊥)
-IsNoRoot fault.NotFormatted n k old new = ⊥
-IsNoRoot fault.Version n k old new = ⊥
-IsNoRoot fault.NoRoot n k old new = ⊥
 IsNoRoot fault.Memory n k old new = Unit {0}
 IsNoRoot fault.Device n k old new = Unit {0}
+IsNoRoot cause n k old new = ⊥

@@ -20,34 +20,17 @@ use Rattle.sn_model.specs.Steps.{IsNumber}
 use Rattle.sn_model.specs.declared.reply.Errno.TheVariants.{Elimit}
 use Rattle.sn_model.specs.declared.reply.Refusal.{Refusal}
 use Rattle.sn_model.specs.Tests.{has_room, plain}
-use Rattle.sn_model.specs.Tree.{Node, Tree, least_unused, link_to, names_in, unused_from}
+use Rattle.sn_model.specs.Tree.{Node, Tree, first_without, least_unused, link_to, names_in}
 use Rattle.sn_model.proofs.ChainLemmas.{some_same}
 use Rattle.sn_model.proofs.HierarchyLemmas.{least_is_number}
 use Rattle.sn_model.proofs.MapLemmas.{same_or_apart, get_inserted, get_left}
 use Rattle.sn_model.proofs.MoveLemmas.{some_node}
 use Rattle.sn_model.proofs.PartLemmas.{Unlinked, IsRenamed, cut_is, linked_is, made_is, owned_is, removed_is, renamed_is, replaced_is, unlinked_is, written_is}
-use Rattle.sn_numbers.specs.Numbers.{AreTaken, free_from, is_taken, least_free, next_after, next_number}
+use Rattle.sn_model.proofs.SearchLemmas.{first_found, is_found, none_without}
+use Rattle.sn_numbers.specs.Numbers.{AreTaken, is_taken, next_after, next_number}
 
 -- ---- the search
 module _ (tree : Tree) (kept : ℕ → Bool) where
-  free_from_next : (first n more : ℕ) → ((k : ℕ) → first ≤ k → k < first + n → is_taken tree kept k ≡ true) → is_taken tree kept (first + n) ≡ false → n < more → free_from tree kept first more ≡ Some (first + n)
-  unfolding free_from
-  free_from_next first n zero taken free lt = absurd (omega arith)
-  free_from_next first zero (suc more) taken free lt =
-      let here : is_taken tree kept first ≡ false = ap (is_taken tree kept) (sym (add-zero first)) ∙ free in
-      rw here (ap (λ k. Some k) (sym (add-zero first)))
-  free_from_next first (suc n) (suc more) taken free lt =
-      let here : is_taken tree kept first ≡ true = taken first (omega arith) (omega arith) in
-      let shift : first + 1 + n ≡ first + suc n = omega arith in
-      rw here (free_from_next (first + 1) n more (λ k low high. taken k (omega arith) (omega arith)) (ap (is_taken tree kept) shift ∙ free) (omega arith) ∙ ap (λ k. Some k) shift)
-
-  none_free_from : (first more : ℕ) → ((k : ℕ) → first ≤ k → k < first + more → is_taken tree kept k ≡ true) → free_from tree kept first more ≡ None
-  unfolding free_from
-  none_free_from first zero taken = refl
-  none_free_from first (suc more) taken =
-      let here : is_taken tree kept first ≡ true = taken first (omega arith) (omega arith) in
-      rw here (none_free_from (first + 1) more (λ k low high. taken k (omega arith) (omega arith)))
-
   -- what a search from the next number on passes over is taken, and so is what lies below
   pub taken_below : (next end : ℕ) → AreTaken tree kept next → ((k : ℕ) → next ≤ k → k < end → is_taken tree kept k ≡ true) → (k : ℕ) → 2 ≤ k → k < end → is_taken tree kept k ≡ true
   taken_below next end h passed k low high = told (nat_lt k next) refl
@@ -57,47 +40,34 @@ module _ (tree : Tree) (kept : ℕ → Bool) where
       told false e = passed k (ltb-false k next e) high
 
   pub next_is : (limits : Limits) (number : ℕ) → ((k : ℕ) → 2 ≤ k → k < number → is_taken tree kept k ≡ true) → is_taken tree kept number ≡ false → 2 ≤ number → number ≤ limits.largest_number → next_number limits tree kept ≡ Some number
-  unfolding least_free
   next_is limits number taken free low high =
       let sum : 2 + (number - 2) ≡ number = omega arith in
-      let found : free_from tree kept 2 (limits.largest_number - 1) ≡ Some number = free_from_next 2 (number - 2) (limits.largest_number - 1) (λ k l h. taken k l (omega (arith, sum))) (ap (is_taken tree kept) sum ∙ free) (omega (arith, sum)) ∙ ap (λ k. Some k) sum in
+      let found : first_without (is_taken tree kept) 2 (limits.largest_number - 1) ≡ Some number = first_found (is_taken tree kept) 2 (number - 2) (limits.largest_number - 1) (λ k l h. taken k l (omega (arith, sum))) (ap (is_taken tree kept) sum ∙ free) (omega (arith, sum)) ∙ ap (λ k. Some k) sum in
       rw found refl
 
   pub next_of_kept : (limits : Limits) (end : ℕ) → ((k : ℕ) → 2 ≤ k → k < end → is_taken tree kept k ≡ true) → limits.largest_number < end → next_number limits tree kept ≡ least_unused limits tree
-  unfolding least_free
   next_of_kept limits end taken all =
-      let none : free_from tree kept 2 (limits.largest_number - 1) ≡ None = none_free_from 2 (limits.largest_number - 1) (λ k low high. taken k low (omega (arith, all))) in
+      let none : first_without (is_taken tree kept) 2 (limits.largest_number - 1) ≡ None = none_without (is_taken tree kept) 2 (limits.largest_number - 1) (λ k low high. taken k low (omega (arith, all))) in
       rw none refl
 
-  free_is_unused : (first more : ℕ) → is_some (free_from tree kept first more) ≡ true → is_some (unused_from tree.nodes first more) ≡ true
-  unfolding free_from unused_from
+  free_is_unused : (first more : ℕ) → is_some (first_without (is_taken tree kept) first more) ≡ true → is_some (first_without (λ k. is_some (map.get tree.nodes k)) first more) ≡ true
+  unfolding first_without
   free_is_unused first zero e = e
   free_is_unused first (suc more) e = told (free_is_unused (first + 1) more) (is_some (map.get tree.nodes first)) refl e
     where
-      told : (is_some (free_from tree kept (first + 1) more) ≡ true → is_some (unused_from tree.nodes (first + 1) more) ≡ true) → (b : Bool) → is_some (map.get tree.nodes first) ≡ b
-          → is_some (cond (b || kept first) (free_from tree kept (first + 1) more) (Some first)) ≡ true → is_some (cond b (unused_from tree.nodes (first + 1) more) (Some first)) ≡ true
+      told : (is_some (first_without (is_taken tree kept) (first + 1) more) ≡ true → is_some (first_without (λ k. is_some (map.get tree.nodes k)) (first + 1) more) ≡ true) → (b : Bool) → is_some (map.get tree.nodes first) ≡ b
+          → is_some (cond (b || kept first) (first_without (is_taken tree kept) (first + 1) more) (Some first)) ≡ true → is_some (cond b (first_without (λ k. is_some (map.get tree.nodes k)) (first + 1) more) (Some first)) ≡ true
       told again true t f = again f
       told again false t f = refl
 
   -- a number is left where one is unused: what is kept back isn't in use
   pub some_next : (limits : Limits) → is_some (least_unused limits tree) ≡ is_some (next_number limits tree kept)
-  unfolding least_free least_unused
-  some_next limits = told (free_from tree kept 2 (limits.largest_number - 1)) refl
+  unfolding least_unused
+  some_next limits = told (first_without (is_taken tree kept) 2 (limits.largest_number - 1)) refl
     where
-      told : (o : Option ℕ) → free_from tree kept 2 (limits.largest_number - 1) ≡ o → is_some (unused_from tree.nodes 2 (limits.largest_number - 1)) ≡ is_some (option_or o (unused_from tree.nodes 2 (limits.largest_number - 1)))
+      told : (o : Option ℕ) → first_without (is_taken tree kept) 2 (limits.largest_number - 1) ≡ o → is_some (first_without (λ k. is_some (map.get tree.nodes k)) 2 (limits.largest_number - 1)) ≡ is_some (option_or o (first_without (λ k. is_some (map.get tree.nodes k)) 2 (limits.largest_number - 1)))
       told None e = refl
       told (Some n) e = free_is_unused 2 (limits.largest_number - 1) (ap is_some e)
-
-  -- a number that was found is free, and lies among those that were looked at
-  found_free : (first more number : ℕ) → free_from tree kept first more ≡ Some number → (is_taken tree kept number ≡ false) × (first ≤ number) × (number < first + more)
-  unfolding free_from
-  found_free first zero number e = cc
-  found_free first (suc more) number e = looked (is_taken tree kept first) refl (found_free (first + 1) more number) e
-    where
-      looked : (b : Bool) → is_taken tree kept first ≡ b → (free_from tree kept (first + 1) more ≡ Some number → (is_taken tree kept number ≡ false) × (first + 1 ≤ number) × (number < first + 1 + more))
-          → cond b (free_from tree kept (first + 1) more) (Some first) ≡ Some number → (is_taken tree kept number ≡ false) × (first ≤ number) × (number < first + suc more)
-      looked true t further f = let k = further f in (k.0, omega (arith, k.1), omega (arith, k.2))
-      looked false t further f = let same : first ≡ number = some_same first number f in (ap (is_taken tree kept) (sym same) ∙ t, omega (arith, same), omega (arith, same))
 
 -- what is free has no node
 no_node : (o : Option Node) (b : Bool) → (is_some o || b) ≡ false → o ≡ None
@@ -106,13 +76,12 @@ no_node (Some x) b e = absurd (true≢false e)
 
 -- the next number is one that a new node can get
 pub next_is_number : (limits : Limits) (tree : Tree) (kept : ℕ → Bool) (number : ℕ) → HasKind tree 2 Directory → 1 ≤ limits.largest_number → next_number limits tree kept ≡ Some number → IsNumber limits tree number
-unfolding least_free
-next_is_number limits tree kept number kind some e = told (free_from tree kept 2 (limits.largest_number - 1)) refl e
+next_is_number limits tree kept number kind some e = told (first_without (is_taken tree kept) 2 (limits.largest_number - 1)) refl e
   where
-    told : (o : Option ℕ) → free_from tree kept 2 (limits.largest_number - 1) ≡ o → option_or o (least_unused limits tree) ≡ Some number → IsNumber limits tree number
+    told : (o : Option ℕ) → first_without (is_taken tree kept) 2 (limits.largest_number - 1) ≡ o → option_or o (least_unused limits tree) ≡ Some number → IsNumber limits tree number
     told None f g = least_is_number limits tree number kind some g
     told (Some n) f g =
-        let found = found_free tree kept 2 (limits.largest_number - 1) number (f ∙ g) in
+        let found = is_found (is_taken tree kept) 2 (limits.largest_number - 1) number (f ∙ g) in
         let unused : map.get tree.nodes number ≡ None = no_node (map.get tree.nodes number) (kept number) found.0 in
         let there = some_node _ Directory kind in
         let apart : number ≢ 2 = (λ same. let never : Some there.0 ≡ None = sym there.1 ∙ ap (map.get tree.nodes) (sym same) ∙ unused in cc) in

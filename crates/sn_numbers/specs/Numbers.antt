@@ -1,11 +1,11 @@
 -- Which number a new node gets, where some are kept back.
-use Rattle.std.specs.Prelude.{◌≡◌, ℕ, zero, suc, ◌+◌, ◌-◌, ◌<◌, ◌≤◌, Bool, true, false, not, ◌&&◌, ◌||◌, Option, None, Some, is_some, min, max, slice_index_or, if◌then◌else◌}
+use Rattle.std.specs.Prelude.{◌≡◌, ℕ, ◌-◌, ◌<◌, ◌≤◌, Bool, true, false, not, ◌&&◌, ◌||◌, Option, None, Some, is_some, min, max, slice_index_or, if◌then◌else◌}
 use Rattle.std.specs.Option.{option_or}
 use Rattle.std.specs.FinMap as map
 use Rattle.sn_limits.specs.declared.limits.Limits.{Limits}
 use Rattle.sn_model.specs.declared.change.Change.{Change}
-use Rattle.sn_model.specs.declared.change.Change.TheVariants.{Make, AddLink, Remove, Rename, Write, SetSize, SetAttributes}
-use Rattle.sn_model.specs.Tree.{Tree, least_unused}
+use Rattle.sn_model.specs.declared.change.Change.TheVariants.{Make}
+use Rattle.sn_model.specs.Tree.{Tree, first_without, least_unused}
 use Rattle.sn_numbers.specs.declared.kept_back.KeptBack.{KeptBack}
 use Rattle.sn_numbers.specs.declared.kept_back.Mark.TheVariants.{Free}
 use Rattle.sn_numbers.specs.Marks.{is_kept, is_since}
@@ -22,37 +22,19 @@ since_of k number = is_since (slice_index_or k.marks.items number Free)
 abbrev pub is_taken : Tree → (ℕ → Bool) → ℕ → Bool
 is_taken tree kept number = is_some (map.get tree.nodes number) || kept number
 
--- the least number from a first one on that isn't, among so many
-unfoldable pub free_from : Tree → (ℕ → Bool) → ℕ → ℕ → Option ℕ
-free_from tree kept first zero = None
-free_from tree kept first (suc more) = if is_taken tree kept first then free_from tree kept (first + 1) more else Some first
-
-unfoldable pub least_free : Limits → Tree → (ℕ → Bool) → Option ℕ
-least_free limits tree kept = free_from tree kept 2 (limits.largest_number - 1)
-
--- the number of a new node: where all that are unused are kept back, the least of those
+-- the number of a new node: the least that isn't taken, and where all that are unused are kept back, the least of those
 abbrev pub next_number : Limits → Tree → (ℕ → Bool) → Option ℕ
-next_number limits tree kept = option_or (least_free limits tree kept) (least_unused limits tree)
+next_number limits tree kept = option_or (first_without (is_taken tree kept) 2 (limits.largest_number - 1)) (least_unused limits tree)
 
 -- What stays kept back by a change. A number that is kept back is given out where no other is left, and then none is kept back any more.
 abbrev pub kept_after : Change → (ℕ → Bool) → ℕ → Bool
 kept_after (Make directory name number kind o) kept n = kept n && not (kept number)
-kept_after (AddLink directory name number) kept n = kept n
-kept_after (Remove directory name) kept n = kept n
-kept_after (Rename old_directory old_name new_directory new_name) kept n = kept n
-kept_after (Write number offset bytes) kept n = kept n
-kept_after (SetSize number size) kept n = kept n
-kept_after (SetAttributes number o) kept n = kept n
+kept_after change kept n = kept n
 
 -- The same of those that are kept back since the consistency point in progress began.
 abbrev pub since_after : Change → (ℕ → Bool) → (ℕ → Bool) → ℕ → Bool
 since_after (Make directory name number kind o) kept since n = since n && not (kept number)
-since_after (AddLink directory name number) kept since n = since n
-since_after (Remove directory name) kept since n = since n
-since_after (Rename old_directory old_name new_directory new_name) kept since n = since n
-since_after (Write number offset bytes) kept since n = since n
-since_after (SetSize number size) kept since n = since n
-since_after (SetAttributes number o) kept since n = since n
+since_after change kept since n = since n
 
 -- each number below the next one is taken
 pub record AreTaken (tree : Tree) (kept : ℕ → Bool) (next : ℕ) : Type 0 where

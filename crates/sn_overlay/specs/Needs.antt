@@ -39,13 +39,9 @@ counts_for (SetAttributes number o) = counts 1 0 0
 
 -- how many more files a change may leave without names
 abbrev pub left_nameless : Tree → Change → ℕ
-left_nameless tree (Make directory name number kind o) = 0
-left_nameless tree (AddLink directory name number) = 0
 left_nameless tree (Remove directory name) = file_under tree (link_to directory name)
 left_nameless tree (Rename old_directory old_name new_directory new_name) = 1
-left_nameless tree (Write number offset bytes) = 0
-left_nameless tree (SetSize number size) = 0
-left_nameless tree (SetAttributes number o) = 0
+left_nameless tree change = 0
 
 -- The figures of a version pay for what changes need.
 pub record AreCharged (limits : Limits) : Type 0 where

@@ -10,11 +10,7 @@ use Rattle.sn_model.specs.Tree.{Tree}
 abbrev pub GivesNoFirstName : Tree → Change → Type 0
 GivesNoFirstName tree (Make directory name number kind o) = is_nameless tree number (map.get tree.nodes number) ≡ false
 GivesNoFirstName tree (AddLink directory name number) = is_nameless tree number (map.get tree.nodes number) ≡ false
-GivesNoFirstName tree (Remove directory name) = Unit {0}
-GivesNoFirstName tree (Rename old_directory old_name new_directory new_name) = Unit {0}
-GivesNoFirstName tree (Write number offset bytes) = Unit {0}
-GivesNoFirstName tree (SetSize number size) = Unit {0}
-GivesNoFirstName tree (SetAttributes number o) = Unit {0}
+GivesNoFirstName tree change = Unit {0}
 
 -- Each file without names has none afterwards, too.
 abbrev pub StayNameless : Tree → Tree → Type 0

@@ -35,11 +35,7 @@ fault_in (Err why) = Some why
 abbrev pub IsOfFile : ProgramFault → Type 0
 IsOfFile (fault.File which error) = Unit {0}
 IsOfFile fault.Memory = Unit {0}
-IsOfFile fault.Usage = ⊥
-IsOfFile (fault.Script why) = ⊥
-IsOfFile (fault.Mount why) = ⊥
-IsOfFile (fault.Format why) = ⊥
-IsOfFile fault.Stopped = ⊥
+IsOfFile cause = ⊥
 
 -- a script's file failed, or memory did, also in the reading of its lines
 abbrev pub IsUnread : ProgramFault → Type 0

@@ -125,10 +125,8 @@ abbrev pub HasBegun : List (List ℕ) → Option (List ℕ) → Option (List ℕ
 HasBegun words old new = Keeps old new ⊎ ((asked : Task) × AsksFor words asked × Begins asked old new)
 
 abbrev pub IsStop : Task → Type 0
-IsStop (task.Run image script) = ⊥
-IsStop (task.Mkfs image blocks) = ⊥
 IsStop (task.StopAt cut how image script out) = Unit {0}
-IsStop (task.Check image) = ⊥
+IsStop task = ⊥
 
 -- the words ask for a run that is cut short
 abbrev pub AsksToStop : List (List ℕ) → Type 0

@@ -28,13 +28,8 @@ parked room nameless = nameless + room.dropped
 
 -- the changes that go without the reserve
 abbrev pub removes : Change → Bool
-removes (Make directory name number kind o) = false
-removes (AddLink directory name number) = false
 removes (Remove directory name) = true
-removes (Rename old_directory old_name new_directory new_name) = false
-removes (Write number offset bytes) = false
-removes (SetSize number size) = false
-removes (SetAttributes number o) = false
+removes change = false
 
 abbrev pub gives_back : Pending → Bool
 gives_back Nothing = false

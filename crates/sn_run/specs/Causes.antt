@@ -17,12 +17,9 @@ use Rattle.sn_run.specs.Runs.{Goes, RunsTo, Served, Standing, start}
 
 -- a read, a write or a sync failed
 abbrev pub IsFailure : Option Mishap → Type 0
-IsFailure None = ⊥
-IsFailure (Some Memory) = ⊥
 IsFailure (Some Read) = Unit {0}
 IsFailure (Some Write) = Unit {0}
-IsFailure (Some Space) = ⊥
-IsFailure (Some Age) = ⊥
+IsFailure met = ⊥
 
 -- An event leads from one standing to the next, and where it met with a failure the device has come to its end.
 pub record GoesOrEnds (old : Standing) (e : Event) (reply : Reply) (new : Standing) : Type 0 where

@@ -51,7 +51,5 @@ end_for _ = ending.Stopped
 
 -- an unmount tells of no mount that failed
 abbrev pub IsLastEnd : End → Type 0
-IsLastEnd ending.Clean = Unit {0}
-IsLastEnd ending.Memory = Unit {0}
-IsLastEnd ending.Stopped = Unit {0}
 IsLastEnd (ending.Mount fault) = ⊥
+IsLastEnd end = Unit {0}

@@ -45,12 +45,9 @@ LivesAreLives = (c last : Contents) (runs : List (List Event × List Reply)) (fi
 
 -- no read, no write and no sync of a device failed
 abbrev pub Unfailing : Option Mishap → Type 0
-Unfailing None = Unit {0}
-Unfailing (Some Memory) = Unit {0}
-Unfailing (Some Space) = Unit {0}
 Unfailing (Some Read) = ⊥
 Unfailing (Some Write) = ⊥
-Unfailing (Some Age) = Unit {0}
+Unfailing met = Unit {0}
 
 -- Where the device failed in none of the events, and isn't at its end, they are a run in which no failure was met with: none is invented.
 abbrev pub NoFailureIsInvented : Type 0

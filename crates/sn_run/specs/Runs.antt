@@ -126,6 +126,4 @@ abbrev pub LacksRoot : ℕ → Contents → MountFault → Type 0
 LacksRoot sectors c fault.NotFormatted = HasNoVerdict sectors c fault.NotFormatted
 LacksRoot sectors c fault.NoRoot = HasNoVerdict sectors c fault.NoRoot
 LacksRoot sectors c fault.Version = HasNoVerdict sectors c fault.Version
-LacksRoot sectors c (fault.Damaged damage block) = ⊥
-LacksRoot sectors c fault.Memory = ⊥
-LacksRoot sectors c fault.Device = ⊥
+LacksRoot sectors c cause = ⊥
