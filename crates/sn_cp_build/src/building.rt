@@ -6,7 +6,6 @@ ghost use Rattle.sn_device.specs.Disk.{reads};
 ghost use Rattle.sn_image.specs.Reach.{reach};
 ghost use Rattle.sn_block.specs.Lending.{device_of};
 ghost use Rattle.sn_layout.specs.Geometry.{start_of};
-ghost use Rattle.sn_layout.specs.RootBody.{IsRootBody};
 ghost use Rattle.sn_layout.specs.declared.geometry.Area.TheVariants.{Data};
 ghost use Rattle.sn_limits.specs.Versions.{limits_of};
 ghost use Rattle.sn_ondisk.specs.Trees.{store_of};
@@ -28,7 +27,7 @@ use sn_alloc::BlockAllocator;
 use sn_block::Blocks;
 use sn_device::Device;
 use sn_inode::{inode_laws, is_inode_file, with};
-use sn_layout::{Area, BlockTree, Geometry, RootBody};
+use sn_layout::{Area, BlockTree, Geometry};
 use sn_limits::Limits;
 use sn_map::Map;
 use sn_overlay::Overlay;
@@ -101,32 +100,34 @@ fn finished(build: Build, inode_file: BlockTree, edit: SnapshotEdit) -> Result<B
     })
 }
 
-/// Builds the tree that is seen through an overlay over that of a root: its new blocks, and the map in which bit 0
-/// tells what it reaches. Of the bits of snapshots only the edited one changes: a snapshot that is frozen reaches what
-/// the new tree does. To bring a snapshot back, the root is given its inode file. It only reads. `Full` comes where there are too few free blocks, over a sound root only where
-/// they are fewer than the overlay needs, and `Damaged` where what was read can't be used, over a sound root never: one
-/// whose blocks lie on the device, with a map that tells in bit 0, or in that of the snapshot that is brought back, what it
-/// reaches. What a snapshot alone reaches that goes isn't free yet, nor what the live tree alone reaches that gives way to one. After an error there is nothing to undo.
+/// Builds the tree that is seen through an overlay over that of an inode file, the live one or that of the snapshot that is
+/// brought back: its new blocks, and the map in which bit 0 tells what it reaches. Of the bits of snapshots only the edited
+/// one changes: a snapshot that is frozen reaches what the new tree does. It only reads. `Full` comes where there are too few
+/// free blocks, over a sound inode file only where they are fewer than the overlay needs, and `Damaged` where what was read
+/// can't be used, over a sound one never: one whose blocks lie on the device, with a map that tells in its bit what it
+/// reaches. What a snapshot alone reaches that goes isn't free yet, nor what the live tree alone reaches where a snapshot
+/// takes its place. After an error there is nothing to undo.
 pub fn build<D: Device>(
     alloc: Global,
     blocks: &mut Blocks<D>,
     geometry: Geometry,
-    root: &RootBody,
+    limits: &Limits,
+    file: &BlockTree,
     map: &Map,
     mut changes: Overlay,
     edit: SnapshotEdit,
 ) -> Result<Built, PlanFault>
-    requires root { IsRootBody root.now }
+    requires version { limits_of limits.now.version ≡ Some limits.now }
     requires words { length map.now ≡ geometry }
-    ensures well { IfOk result (IsWellBuilt geometry root.now.limits map.now (layer_of changes) edit) }
-    ensures builds { IsTrue D.tells_bytes → IfOk result (Builds geometry root.now.limits
-        (store_of (reads (D.disk (device_of blocks.old)))) root.now.inode_file (base_bit edit) map.now (layer_of changes)) }
-    ensures full { IsTrue D.tells_bytes → result ≡ Err Full → IsGround root.now.limits geometry
-        (store_of (reads (D.disk (device_of blocks.old)))) root.now.inode_file (layer_of changes)
-        → need root.now.limits (layer_of changes) ≤ free_data map.now (start_of geometry Data) → ⊥ }
-    ensures damaged { IsTrue D.tells_bytes → (block : TheOption ℕ) → result ≡ Err (Tree (Damaged block)) → IsGround root.now.limits geometry
-        (store_of (reads (D.disk (device_of blocks.old)))) root.now.inode_file (layer_of changes)
-        → TellsBit (base_bit edit) map.now (reach (store_of (reads (D.disk (device_of blocks.old)))) root.now.inode_file)
+    ensures well { IfOk result (IsWellBuilt geometry limits.now map.now (layer_of changes) edit) }
+    ensures builds { IsTrue D.tells_bytes → IfOk result (Builds geometry limits.now
+        (store_of (reads (D.disk (device_of blocks.old)))) file.now (base_bit edit) map.now (layer_of changes)) }
+    ensures full { IsTrue D.tells_bytes → result ≡ Err Full → IsGround limits.now geometry
+        (store_of (reads (D.disk (device_of blocks.old)))) file.now (layer_of changes)
+        → need limits.now (layer_of changes) ≤ free_data map.now (start_of geometry Data) → ⊥ }
+    ensures damaged { IsTrue D.tells_bytes → (block : TheOption ℕ) → result ≡ Err (Tree (Damaged block)) → IsGround limits.now geometry
+        (store_of (reads (D.disk (device_of blocks.old)))) file.now (layer_of changes)
+        → TellsBit (base_bit edit) map.now (reach (store_of (reads (D.disk (device_of blocks.old)))) file.now)
         → 8 * geometry ≤ (D.status (device_of blocks.old)).sectors → ⊥ }
     ensures same { IsTrue D.tells_bytes → D.disk (device_of blocks.new) ≡ D.disk (device_of blocks.old) }
     ensures counts { CountsPlan result (D.status (device_of blocks.old)) (D.status (device_of blocks.new)) }
@@ -135,13 +136,6 @@ pub fn build<D: Device>(
     geometry.blocks();
     let first = geometry.start(Area::Data);
     let mut build = Build::new(alloc, BlockAllocator::new(alloc, map.try_clone()?, first));
-    let inode_file = plan_tree(
-        alloc,
-        &mut build,
-        blocks,
-        &root.limits,
-        &root.inode_file,
-        &mut changes,
-    )?;
+    let inode_file = plan_tree(alloc, &mut build, blocks, limits, file, &mut changes)?;
     finished(build, inode_file, edit)
 }

@@ -9,6 +9,7 @@ use Rattle.sn_layout.specs.RootBody.{IsRootBody}
 use Rattle.sn_layout.specs.declared.gate.Gate.{Gate}
 use Rattle.sn_layout.specs.declared.geometry.Area.TheVariants.{Data}
 use Rattle.sn_layout.specs.declared.root.RootBody.{RootBody}
+use Rattle.sn_layout.specs.declared.tree.BlockTree.{BlockTree}
 use Rattle.sn_limits.specs.Versions.{limits_written}
 use Rattle.sn_image.specs.Image.{image}
 use Rattle.sn_image.specs.Reach.{reach}
@@ -17,6 +18,8 @@ use Rattle.sn_ondisk.specs.Trees.{Store, store_of}
 use Rattle.sn_opening.specs.Points.{HoldsAll, IsBuilt, Plan, Written}
 use Rattle.sn_opening.specs.Worlds.{all_reach, frozen_of}
 use Rattle.sn_model.specs.declared.outcome.AskedPoint.{AskedPoint}
+use Rattle.sn_model.specs.declared.outcome.AskedPoint.TheVariants.{Restores}
+use Rattle.sn_model.specs.Settling.{nameless_in}
 use Rattle.sn_model.specs.World.{World}
 use Rattle.sn_overlay.specs.Layers.{Layer, through}
 use Rattle.sn_overlay.specs.Needs.{need}
@@ -28,26 +31,28 @@ use Rattle.sn_sound.specs.Logs.{HasAgeLeft}
 use Rattle.sn_sound.specs.Maps.{IsSoundRoot, free_blocks}
 use Rattle.sn_held.specs.Held.{Held, Kept, RunsReady}
 use Rattle.sn_cp_nodes.specs.Built.{IsGround}
-use Rattle.sn_cp_build.specs.Bits.{TellsBlocks}
+use Rattle.sn_cp_build.specs.Bits.{TellsBit}
 use Rattle.sn_cp_build.specs.Building.{Builds, IsWellBuilt}
+use Rattle.sn_cp_build.specs.Edits.{base_bit}
 use Rattle.sn_cp_build.specs.declared.building.Built.{Built}
 use Rattle.sn_cp.specs.Points.{Work, written_by}
-use Rattle.sn_cp_held.specs.Snapshots.{FollowsBy, edit_for, trees_behind}
-use Rattle.sn_cp_held.specs.Wholes.{IsOfLive}
+use Rattle.sn_cp_held.specs.Snapshots.{BeginsFrom, FollowsBy, KeepsLive, edit_for, trees_built}
+use Rattle.sn_cp_held.specs.Wholes.{CanBeRestored, IsOfLive}
 
 -- what is written of it, with the root that follows
 abbrev pub plan_of : Built → RootBody → Plan
 plan_of built next = record { blocks = map written_by built.blocks.items; words = built.map; next = next }
 
--- A build over a root that can be written, sound with its snapshots and its map, of a layer that shows a name tree, under that root's limits, and the root that follows on it under the written ones, with the new inode file and the snapshots that are asked for.
-pub record IsOfBuild (n : ℕ) (s : Store) (root : RootBody) (words : List ℕ) (layer : Layer) (asked : AskedPoint) (bit : ℕ) (built : Built) (next : RootBody) : Type 0 where
+-- A build over an inode file of a root that can be written, sound with its snapshots and its map, of a layer that shows a name tree, under that root's limits, and the root that follows on it under the written ones, with the new inode file and the snapshots that are asked for.
+pub record IsOfBuild (n : ℕ) (s : Store) (root : RootBody) (words : List ℕ) (file : BlockTree) (layer : Layer) (asked : AskedPoint) (bit : ℕ) (built : Built) (next : RootBody) : Type 0 where
   pub root_body : IsRootBody root
   pub sound : IsSoundRoot n s root (slice_index words)
   pub count : length words ≡ n
-  pub tells : TellsBlocks words (reach s root.inode_file)
-  pub ground : IsGround root.limits n s root.inode_file layer
+  pub begins : BeginsFrom asked bit root file
+  pub tells : TellsBit (base_bit (edit_for asked bit)) words (reach s file)
+  pub ground : IsGround root.limits n s file layer
   pub well : IsWellBuilt n root.limits words layer (edit_for asked bit) built
-  pub builds : Builds n root.limits s root.inode_file words layer built
+  pub builds : Builds n root.limits s file (base_bit (edit_for asked bit)) words layer built
   pub numbers : (block : ℕ) → slice_index built.map block < 2 ^ 32
   pub whole : (b : Written) → Contains (map written_by built.blocks.items) b → length b.1 ≡ 4096
   pub body : IsRootBody next
@@ -61,16 +66,21 @@ abbrev pub LeavesAge : PointKind → RootBody → Type 0
 LeavesAge Ordinary next = HasAgeLeft next
 LeavesAge Recovery next = Unit {0}
 
--- What `build` tells of a live tree on a disk of n blocks with these contents, and the root that follows on it under the written limits, with the new inode file, for a point of this kind that makes of the snapshots what is asked for.
-pub record IsBuiltOf (n : ℕ) (c : Contents) (kind : PointKind) (k : Kept) (asked : AskedPoint) (bit : ℕ) (built : Built) (next : RootBody) : Type 0 where
+-- What `build` tells of a tree over an inode file on a disk of n blocks with these contents, and the root that follows on it under the written limits, with the new inode file, for a point of this kind that makes of the snapshots what is asked for.
+pub record IsBuiltOf (n : ℕ) (c : Contents) (kind : PointKind) (k : Kept) (file : BlockTree) (asked : AskedPoint) (bit : ℕ) (built : Built) (next : RootBody) : Type 0 where
+  pub begins : BeginsFrom asked bit k.root file
   pub well : IsWellBuilt n k.root.limits k.words k.changed (edit_for asked bit) built
-  pub builds : Builds n k.root.limits (store_of c) k.root.inode_file k.words k.changed built
+  pub builds : Builds n k.root.limits (store_of c) file (base_bit (edit_for asked bit)) k.words k.changed built
   pub numbers : AreNumbers 4 built.map
   pub whole : (b : Written) → Contains (map written_by built.blocks.items) b → length b.1 ≡ 4096
   pub body : IsRootBody next
   pub is : next ≡ record (following kind limits_written k.root) { inode_file = built.inode_file; snapshots = next.snapshots }
   pub snapshots : FollowsBy asked bit k.root next
   pub age : LeavesAge kind next
+
+-- what is kept of a root, with another layer
+abbrev pub over_layer : Layer → Kept → Kept
+over_layer layer k = record k { changed = layer }
 
 -- the point that writes it into the other slot, whose gate is so
 abbrev pub work_for : ℕ → Kept → Gate → Built → RootBody → Work
@@ -82,30 +92,45 @@ room_behind n built = fresh (free_data built.map (start_of n Data))
 
 -- It is a point of the live tree, which is sound with its map, and leaves a charge free for each file without names.
 abbrev pub BuildsAreOfLive : Type 0
-BuildsAreOfLive = (h : Held) (world : World) (k : Kept) (gate : Gate) (asked : AskedPoint) (bit : ℕ) (built : Built) (next : RootBody) (r : RunsReady h world k) → IsBuiltOf h.at.blocks (reads h.disk) Ordinary k asked bit built next
+BuildsAreOfLive = (h : Held) (world : World) (k : Kept) (gate : Gate) (asked : AskedPoint) (bit : ℕ) (built : Built) (next : RootBody) (r : RunsReady h world k) → KeepsLive asked → IsBuiltOf h.at.blocks (reads h.disk) Ordinary k k.root.inode_file asked bit built next
     → IsOfLive h world r.runs asked (work_for h.at.blocks k gate built next) (room_behind h.at.blocks built)
 
--- What `build` asks of a sound root, so that it is never damaged, nor too little free: the layer lies over its ground, the map tells in bit 0 what it reaches, and what changed needs no more than is free.
-pub record CanBeBuilt (n : ℕ) (s : Store) (k : Kept) : Type 0 where
-  pub ground : IsGround k.root.limits n s k.root.inode_file k.changed
-  pub tells : TellsBlocks k.words (reach s k.root.inode_file)
+-- So is one of the tree of a snapshot that is brought back, without its files without names, where these are charged as ones that were dropped. What changed since the root is of no account.
+abbrev pub RestoresAreOfLive : Type 0
+RestoresAreOfLive = (h : Held) (world : World) (k : Kept) (layer : Layer) (name : List ℕ) (file : BlockTree) (gate : Gate) (bit : ℕ) (built : Built) (next : RootBody) (r : RunsReady h world k) (can : CanBeRestored name layer h.room world) → nameless_in can.tree ≤ h.room.dropped
+    → IsBuiltOf h.at.blocks (reads h.disk) Ordinary (over_layer layer k) file (Restores name) bit built next
+    → IsOfLive h world r.runs (Restores name) (work_for h.at.blocks k gate built next) (room_behind h.at.blocks built)
+
+-- What `build` asks of a sound inode file, so that it is never damaged, nor too little free: the layer lies over its ground, the map tells in this bit what it reaches, and what changed needs no more than is free.
+pub record CanBeBuiltOver (n : ℕ) (s : Store) (k : Kept) (file : BlockTree) (bit : ℕ) : Type 0 where
+  pub ground : IsGround k.root.limits n s file k.changed
+  pub tells : TellsBit bit k.words (reach s file)
   pub fits : need k.root.limits k.changed ≤ free_data k.words (start_of n Data)
+
+-- over the root's own, which bit 0 tells of
+abbrev pub CanBeBuilt : ℕ → Store → Kept → Type 0
+CanBeBuilt n s k = CanBeBuiltOver n s k k.root.inode_file 0
 
 -- So it is of a mount's live tree.
 abbrev pub BuildsHaveRoom : Type 0
 BuildsHaveRoom = (h : Held) (world : World) (k : Kept) → RunsReady h world k → CanBeBuilt h.at.blocks (store_of (reads h.disk)) k
 
+-- And of a snapshot that can be brought back.
+abbrev pub RestoresHaveRoom : Type 0
+RestoresHaveRoom = (h : Held) (world : World) (k : Kept) (layer : Layer) (name : List ℕ) (file : BlockTree) (bit : ℕ) → RunsReady h world k → CanBeRestored name layer h.room world → BeginsFrom (Restores name) bit k.root file
+    → CanBeBuiltOver h.at.blocks (store_of (reads h.disk)) (over_layer layer k) file bit
+
 -- It is what a point needs: its blocks lie in the data area, none that a root reaches, the snapshots' too, and wherever they stand the next root denotes the tree that is seen through the layer, and is sound, and its snapshots stand for the frozen trees that are asked for.
 abbrev pub BuildsAreBuilt : Type 0
-BuildsAreBuilt = (n : ℕ) (s : Store) (root : RootBody) (words : List ℕ) (layer : Layer) (asked : AskedPoint) (bit : ℕ) (built : Built) (next : RootBody) → IsOfBuild n s root words layer asked bit built next
-    → IsBuilt n s root (trees_behind asked (record { live = through layer (image s root.inode_file); frozen = frozen_of s root.snapshots })) (plan_of built next)
+BuildsAreBuilt = (n : ℕ) (s : Store) (root : RootBody) (words : List ℕ) (file : BlockTree) (layer : Layer) (asked : AskedPoint) (bit : ℕ) (built : Built) (next : RootBody) → IsOfBuild n s root words file layer asked bit built next
+    → IsBuilt n s root (trees_built asked (through layer (image s file)) (frozen_of s root.snapshots)) (plan_of built next)
 
 -- Wherever its blocks stand beside what the root reaches, the next root is sound with its snapshots, and the words of its map tell what they reach.
 abbrev pub BuildsAreSound : Type 0
-BuildsAreSound = (n : ℕ) (s : Store) (root : RootBody) (words : List ℕ) (layer : Layer) (asked : AskedPoint) (bit : ℕ) (built : Built) (next : RootBody) → IsOfBuild n s root words layer asked bit built next
+BuildsAreSound = (n : ℕ) (s : Store) (root : RootBody) (words : List ℕ) (file : BlockTree) (layer : Layer) (asked : AskedPoint) (bit : ℕ) (built : Built) (next : RootBody) → IsOfBuild n s root words file layer asked bit built next
     → (r : Store) → SameIn (all_reach s root) s r → HoldsAll r (plan_of built next).blocks → IsSoundRoot n r next (slice_index built.map)
 
 -- The next root leaves free what the root left, but for the new blocks, and more where a snapshot goes.
 abbrev pub BuildsLeaveRoom : Type 0
-BuildsLeaveRoom = (n : ℕ) (s : Store) (root : RootBody) (words : List ℕ) (layer : Layer) (asked : AskedPoint) (bit : ℕ) (built : Built) (next : RootBody) → IsOfBuild n s root words layer asked bit built next
+BuildsLeaveRoom = (n : ℕ) (s : Store) (root : RootBody) (words : List ℕ) (file : BlockTree) (layer : Layer) (asked : AskedPoint) (bit : ℕ) (built : Built) (next : RootBody) → IsOfBuild n s root words file layer asked bit built next
     → (r : Store) → SameIn (all_reach s root) s r → HoldsAll r (plan_of built next).blocks → free_blocks n s root ≤ free_blocks n r next + length built.blocks.items

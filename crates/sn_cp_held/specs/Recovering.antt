@@ -46,5 +46,5 @@ pub record IsRecovered (d : Disk) (world : World) (w : Work) : Type 0 where
 -- A point two epochs on, under the written limits, is made of it, which begins with no clearing: whatever the answer, a crash at any moment leaves an image of the world. At `Ok` the next root counts, and replay finds nothing.
 abbrev pub RecoveriesLeaveTheWorld : Type 0
 RecoveriesLeaveTheWorld = (old new : Disk) (world : World) (im : IsImage (reads old) world) (k : Kept) (gate : Gate) (built : Built) (next : RootBody) (result : Result (Unit {0}) Fault) → HasReplayed old world im k
-    → IsBuiltOf im.blocks (reads old) Recovery k Plain 0 built next → AreSectors (reads new) → Finishes (work_for im.blocks k gate built next) result old new
+    → IsBuiltOf im.blocks (reads old) Recovery k k.root.inode_file Plain 0 built next → AreSectors (reads new) → Finishes (work_for im.blocks k gate built next) result old new
     → LeavesOnly old new (λ c. IsImage c world) × OnOk result (IsRecovered new world (work_for im.blocks k gate built next))

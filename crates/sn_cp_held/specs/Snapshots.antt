@@ -1,11 +1,13 @@
--- What a point that is asked for makes of the snapshots of a root, and of the frozen trees that they stand for.
-use Rattle.std.specs.Prelude.{◌≡◌, ℕ, List, Contains}
+-- What a point that is asked for makes of the snapshots of a root, and of the trees that these and its live root stand for.
+use Rattle.std.specs.Prelude.{◌≡◌, ℕ, List, Option, None, Some, Contains}
 use Rattle.std.specs.FinMap as map
 use Rattle.sn_layout.specs.declared.root.RootBody.{RootBody}
 use Rattle.sn_layout.specs.declared.snapshot.Snapshot.{Snapshot}
+use Rattle.sn_layout.specs.declared.tree.BlockTree.{BlockTree}
 use Rattle.sn_layout.specs.Snapshot.{with_snapshot}
 use Rattle.sn_model.specs.declared.outcome.AskedPoint.{AskedPoint}
-use Rattle.sn_model.specs.declared.outcome.AskedPoint.TheVariants.{Unasked, Plain, Freezes, Thaws}
+use Rattle.sn_model.specs.declared.outcome.AskedPoint.TheVariants.{Unasked, Plain, Freezes, Thaws, Restores}
+use Rattle.sn_model.specs.Settling.{settled}
 use Rattle.sn_model.specs.Tree.{Tree}
 use Rattle.sn_model.specs.World.{Trees}
 use Rattle.sn_opening.specs.Worlds.{FrozenTrees}
@@ -20,6 +22,15 @@ edit_for Unasked bit = edit.None
 edit_for Plain bit = edit.None
 edit_for (Freezes name) bit = edit.Freeze bit
 edit_for (Thaws name) bit = edit.Thaw bit
+edit_for (Restores name) bit = edit.Restore bit
+
+-- the inode file that its build begins from: the live one, or that of the snapshot that is brought back, whose bit this is
+abbrev pub BeginsFrom : AskedPoint → ℕ → RootBody → BlockTree → Type 0
+BeginsFrom Unasked bit root file = file ≡ root.inode_file
+BeginsFrom Plain bit root file = file ≡ root.inode_file
+BeginsFrom (Freezes name) bit root file = file ≡ root.inode_file
+BeginsFrom (Thaws name) bit root file = file ≡ root.inode_file
+BeginsFrom (Restores name) bit root file = Contains root.snapshots (record { bit = bit; name = name; tree = file })
 
 -- the snapshot that is made: its tree is the inode file that follows
 abbrev pub new_snapshot : List ℕ → ℕ → RootBody → Snapshot
@@ -44,6 +55,7 @@ FollowsBy Unasked bit root next = next.snapshots ≡ root.snapshots
 FollowsBy Plain bit root next = next.snapshots ≡ root.snapshots
 FollowsBy (Freezes name) bit root next = HasOneMore name bit root next
 FollowsBy (Thaws name) bit root next = HasOneLess name bit root next
+FollowsBy (Restores name) bit root next = next.snapshots ≡ root.snapshots
 
 -- the frozen trees behind it, where the live tree is this
 abbrev pub frozen_behind : AskedPoint → Tree → FrozenTrees → FrozenTrees
@@ -51,6 +63,32 @@ frozen_behind Unasked live frozen = frozen
 frozen_behind Plain live frozen = frozen
 frozen_behind (Freezes name) live frozen = map.insert frozen name live
 frozen_behind (Thaws name) live frozen = map.remove frozen name
+frozen_behind (Restores name) live frozen = frozen
+
+-- a snapshot's tree, without its files without names, takes the live one's place
+abbrev pub brought_back : Option Tree → Tree → Tree
+brought_back None live = live
+brought_back (Some tree) live = settled tree
+
+-- the live tree behind it
+abbrev pub live_behind : AskedPoint → Trees → Tree
+live_behind Unasked trees = trees.live
+live_behind Plain trees = trees.live
+live_behind (Freezes name) trees = trees.live
+live_behind (Thaws name) trees = trees.live
+live_behind (Restores name) trees = brought_back (map.get trees.frozen name) trees.live
+
+-- the trees of a root for which this live tree was built
+abbrev pub trees_built : AskedPoint → Tree → FrozenTrees → Trees
+trees_built asked live frozen = record { live = live; frozen = frozen_behind asked live frozen }
 
 abbrev pub trees_behind : AskedPoint → Trees → Trees
-trees_behind asked trees = record { live = trees.live; frozen = frozen_behind asked trees.live trees.frozen }
+trees_behind asked trees = record { live = live_behind asked trees; frozen = frozen_behind asked trees.live trees.frozen }
+
+-- what is asked for leaves the live tree as it is
+abbrev pub KeepsLive : AskedPoint → Type 0
+KeepsLive Unasked = Unit {0}
+KeepsLive Plain = Unit {0}
+KeepsLive (Freezes name) = Unit {0}
+KeepsLive (Thaws name) = Unit {0}
+KeepsLive (Restores name) = ⊥

@@ -1,7 +1,9 @@
 //! What a consistency point is built of, for what a mounted file system holds: definitions and laws alone.
 //!
 //! A point is built of the live tree, and makes of the snapshots what is asked for: nothing, one more, which has the
-//! live tree as it stands, or one less. Wherever its new blocks stand beside what the root reaches, its root is sound with
+//! live tree as it stands, or one less. One that brings a snapshot back is built of that one's tree instead, without the
+//! files in it that have no name, and leaves all snapshots as they are.
+//! Wherever its new blocks stand beside what the root reaches, its root is sound with
 //! its snapshots and its map, and denotes the live tree and those frozen trees. While it begins nothing that can be seen
 //! changes: at each moment a crash leaves an image of the settled world.
 //!

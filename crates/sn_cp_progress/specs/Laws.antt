@@ -30,15 +30,15 @@ use Rattle.sn_cp.specs.Showing.{Finishes, IsBeforeOpening}
 use Rattle.sn_cp.specs.Steps.{IsWithin, StandsAtStage, StepsTo, next_stage}
 use Rattle.sn_cp.specs.declared.stage.Stage.{Stage}
 use Rattle.sn_cp.specs.declared.stage.Stage.TheVariants.{Bodied}
-use Rattle.sn_cp_held.specs.Snapshots.{trees_behind}
+use Rattle.sn_cp_held.specs.Snapshots.{live_behind, trees_behind}
 use Rattle.sn_cp_held.specs.Wholes.{HasBegun, IsOfLive}
-use Rattle.sn_cp_progress.specs.Progress.{Progress, RunsOn, kept_behind, world_behind}
+use Rattle.sn_cp_progress.specs.Progress.{Progress, RunsOn, RunsTo, kept_behind, world_behind, world_to}
 
--- Once a point of the live tree has begun, the mount runs on with it in progress: it is built of the live tree, with the snapshots that were asked for, and nothing has changed since.
+-- Once a point has begun, the mount runs on with it in progress: it leads to the trees that were asked for, and nothing has changed since. Where it keeps the live tree, that is the mount's own.
 abbrev pub PointsBegin : Type 0
 PointsBegin = (h : Held) (world : World) (k : Kept) (r : RunsReady h world k) (asked : AskedPoint) (w : Work) (free : ℕ) (stage : Stage) (d : Disk) → IsOfLive h world r.runs asked w (fresh free) → AreSectors (reads d)
     → HasBegun h world r.runs d → IsWithin w stage → StandsAtStage w stage d
-    → RunsOn (record h { room = begun h.room; at = first_of h.at.blocks (r.runs.root.epoch + 1); base = record k { changed = no_changes }; disk = d }) world (record { work = w; stage = stage; trees = trees_behind asked (trees_of world); free = free })
+    → RunsTo (record h { room = begun h.room; at = first_of h.at.blocks (r.runs.root.epoch + 1); base = record k { changed = no_changes }; disk = d }) world (live_behind asked (trees_of world)) (record { work = w; stage = stage; trees = trees_behind asked (trees_of world); free = free })
 
 -- A step before the last: a crash at any moment leaves an image of the settled world, and at `Ok` the mount runs on with the point at its next stage.
 abbrev pub StepsGoOn : Type 0
@@ -50,10 +50,10 @@ abbrev pub PointsEnd : Type 0
 PointsEnd = (h : Held) (world : World) (p : Progress) (result : Result (Unit {0}) Fault) (d : Disk) → RunsOn h world p → AreSectors (reads d) → p.stage ≡ Bodied → StepsTo p.work p.stage result h.disk d
     → LeavesOnly h.disk d (EitherImage world (world_behind p world)) × OnOk result (RunsReady (record h { world = world_behind p world; room = done p.free h.room; disk = d }) (world_behind p world) (kept_behind h p))
 
--- The steps that are left, all in a row: whatever the answer, a crash at any moment leaves an image of the settled world, or of that with the point's snapshots, and at `Ok` the mount is ready for another point.
+-- The steps that are left, all in a row: whatever the answer, a crash at any moment leaves an image of the settled world, or of that with the trees that the point leads to, and at `Ok` the mount is ready for another point.
 abbrev pub PointsFinish : Type 0
-PointsFinish = (h : Held) (world : World) (p : Progress) (result : Result (Unit {0}) Fault) (d : Disk) → RunsOn h world p → AreSectors (reads d) → Finishes p.work result h.disk d
-    → LeavesOnly h.disk d (EitherImage world (world_behind p world)) × OnOk result (RunsReady (record h { world = world_behind p world; room = done p.free h.room; disk = d }) (world_behind p world) (kept_behind h p))
+PointsFinish = (h : Held) (world : World) (live : Tree) (p : Progress) (result : Result (Unit {0}) Fault) (d : Disk) → RunsTo h world live p → AreSectors (reads d) → Finishes p.work result h.disk d
+    → LeavesOnly h.disk d (EitherImage world (world_to live p world)) × OnOk result (RunsReady (record h { world = world_to live p world; room = done p.free h.room; disk = d }) (world_to live p world) (kept_behind h p))
 
 -- A call that fits on the root that counts fits on that of the point in progress too, with what was charged since that began.
 abbrev pub CallsFitOnNext : Type 0

@@ -8,6 +8,7 @@ use Rattle.sn_layout.specs.declared.root.RootBody.{RootBody}
 use Rattle.sn_limits.specs.Versions.{limits_written}
 use Rattle.sn_log.specs.Positions.{IsReadyAt}
 use Rattle.sn_model.specs.NameTree.{IsTree}
+use Rattle.sn_model.specs.Tree.{Tree}
 use Rattle.sn_model.specs.World.{Trees, World}
 use Rattle.sn_ondisk.specs.LogHalf.{HasNoLater, base_of}
 use Rattle.sn_ondisk.specs.TreeLaws.{SameIn}
@@ -43,26 +44,35 @@ pub record Progress : Type 0 where
   pub trees : Trees
   pub free : ℕ
 
--- The point is in progress in a mount that runs. What is logged is logged under the next epoch, from its first record on: those changes make of the tree that it was built of one that covers the live one, and what they were charged, with a charge for each file without names, is no more than the next root leaves free, which takes no more than was charged before. What is kept is of the root that counts, but that the live tree is seen through what changed over that tree.
-pub record InProgress (h : Held) (world : World) (r : Runs h world) (p : Progress) : Type 0 where
+-- The point is in progress in a mount that runs. It leads to this live tree. What is logged is logged under the next epoch, from its first record on: those changes make of the tree that it was built of one that covers the live one that it leads to, and what they were charged, with a charge for each file without names, is no more than the next root leaves free, which takes no more than was charged before. What is kept is of the root that counts, but that the live tree that it leads to is seen through what changed over that tree.
+pub record LeadsTo (h : Held) (world : World) (r : Runs h world) (live : Tree) (p : Progress) : Type 0 where
   pub of : IsOfTrees h.at.blocks r.store r.slot r.root p.trees p.work
   pub within : IsWithin p.work p.stage
   pub stands : StandsAtStage p.work p.stage h.disk
   pub epoch : h.at.epoch ≡ r.root.epoch + 1
   pub ready : Always h.disk (IsReadyAt h.at r.newer)
   pub none_later : Always h.disk (λ c. HasNoLater c (base_of h.at.blocks r.root.epoch) r.root.epoch)
-  pub cover : MakesCover limits_written r.newer p.trees.live world.live
-  pub charged : (t : Store) → SameIn (all_reach r.store r.root) r.store t → HoldsAll t p.work.plan.blocks → IsCharged (done p.free h.room) h.at.blocks t p.work.plan.next r.newer world.live
+  pub cover : MakesCover limits_written r.newer p.trees.live live
+  pub charged : (t : Store) → SameIn (all_reach r.store r.root) r.store t → HoldsAll t p.work.plan.blocks → IsCharged (done p.free h.room) h.at.blocks t p.work.plan.next r.newer live
   pub takes : TakesNoMore p.free h.room
   pub slot : h.base.slot ≡ r.slot
   pub root : h.base.root ≡ r.root
-  pub changed : HasChanged limits_written h.base.changed p.trees.live world.live h.room.charged_since
-  pub tree : IsTree limits_written world.live
+  pub changed : HasChanged limits_written h.base.changed p.trees.live live h.room.charged_since
+  pub tree : IsTree limits_written live
 
--- A mount runs over this world, with a point in progress.
-pub record RunsOn (h : Held) (world : World) (p : Progress) : Type 0 where
+-- A mount runs over this world, with a point in progress that leads to this live tree: its own, or that of a snapshot that is brought back.
+pub record RunsTo (h : Held) (world : World) (live : Tree) (p : Progress) : Type 0 where
   pub runs : Runs h world
-  pub point : InProgress h world runs p
+  pub point : LeadsTo h world runs live p
+
+-- its own, so that calls may come between any two steps
+abbrev pub RunsOn : Held → World → Progress → Type 0
+RunsOn h world p = RunsTo h world world.live p
+
+-- the world once a point is done that leads to this live tree
+abbrev pub world_to : Tree → Progress → World → World
+world_to live p world = record world { live = live; frozen = p.trees.frozen }
+
 
 -- the world once the point is done: its frozen trees are those of the point's root
 abbrev pub world_behind : Progress → World → World

@@ -8,6 +8,9 @@
 //! makes the next root the one that counts, changes nothing of the world but the snapshots, where the point makes one or lets
 //! one go.
 //!
+//! A point that brings a snapshot back leads to another live tree than the mount's own (`RunsTo`). It is begun and finished in
+//! a row, so no call comes between its steps, and nothing is logged since it began.
+//!
 //! The laws, each of them one clause of [`progress_laws`]:
 //! - `begins`: from a mount that is ready for a point to one with a point in progress.
 //! - `steps`, `ends`: a crash at any moment of a step leaves an image of the settled world, in the last one maybe of that with

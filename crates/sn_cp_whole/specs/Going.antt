@@ -13,6 +13,7 @@ use Rattle.sn_layout.specs.Geometry.{other_slot, start_of}
 use Rattle.sn_log.specs.Positions.{LogPosition}
 use Rattle.sn_model.specs.Settling.{settle}
 use Rattle.sn_model.specs.declared.outcome.AskedPoint.{AskedPoint}
+use Rattle.sn_model.specs.Tree.{Tree}
 use Rattle.sn_model.specs.World.{Trees, World, trees_of}
 use Rattle.sn_ondisk.specs.Trees.{store_of}
 use Rattle.sn_opening.specs.Worlds.{FrozenTrees}
@@ -29,7 +30,7 @@ use Rattle.sn_cp.specs.Steps.{IsWhole, IsWithin}
 use Rattle.sn_cp_held.specs.Snapshots.{trees_behind}
 use Rattle.sn_cp_held.specs.Wholes.{IsFollowing}
 use Rattle.sn_cp_progress.specs.Meaning.{EitherImage, progress_over}
-use Rattle.sn_cp_progress.specs.Progress.{RunsOn}
+use Rattle.sn_cp_progress.specs.Progress.{RunsOn, RunsTo}
 use Rattle.sn_cp_whole.specs.Making.{HasCauseFor}
 use Rattle.sn_cp_whole.specs.declared.base.PointBase.{PointBase}
 use Rattle.sn_cp_whole.specs.declared.fault.PointFault.{PointFault}
@@ -56,15 +57,19 @@ with_disk h disk = record h { disk = disk }
 abbrev pub KeepsTree : RootBody → Disk → Disk → Type 0
 KeepsTree root old new = image (store_of (reads new)) root.inode_file ≡ image (store_of (reads old)) root.inode_file
 
--- At `Ok` the mount runs on with the point in progress, which is built of the live tree with the snapshots that are asked for, and a crash at any moment on the way leaves an image of the settled world; so it does where the device failed. Otherwise nothing was written. What is read can always be used, and is never too much for what is free.
+-- At `Ok` the mount runs on with the point in progress, which leads to this live tree with the snapshots that are asked for, and a crash at any moment on the way leaves an image of the settled world; so it does where the device failed. Otherwise nothing was written. What is read can always be used, and is never too much for what is free.
+abbrev pub BeginsTo : Tree → Result Begun PointFault → AskedPoint → World → Held → Kept → LogPosition → Disk → Disk → Type 0
+BeginsTo live (Ok begins) asked world h k at old new = LeavesOnly old new (λ c. IsImage c (settle world))
+    × RunsTo (record h { room = begun h.room; at = at; base = record k { changed = layer_of begins.since }; disk = new }) world live (progress_over (going_of begins.going) (trees_behind asked (trees_of world)))
+BeginsTo live (Err Memory) asked world h k at old new = new ≡ old
+BeginsTo live (Err Age) asked world h k at old new = new ≡ old
+BeginsTo live (Err Read) asked world h k at old new = new ≡ old
+BeginsTo live (Err Damaged) asked world h k at old new = ⊥
+BeginsTo live (Err Device) asked world h k at old new = LeavesOnly old new (λ c. IsImage c (settle world))
+
+-- which is the mount's own
 abbrev pub BeginsPoint : Result Begun PointFault → AskedPoint → World → Held → Kept → LogPosition → Disk → Disk → Type 0
-BeginsPoint (Ok begins) asked world h k at old new = LeavesOnly old new (λ c. IsImage c (settle world))
-    × RunsOn (record h { room = begun h.room; at = at; base = record k { changed = layer_of begins.since }; disk = new }) world (progress_over (going_of begins.going) (trees_behind asked (trees_of world)))
-BeginsPoint (Err Memory) asked world h k at old new = new ≡ old
-BeginsPoint (Err Age) asked world h k at old new = new ≡ old
-BeginsPoint (Err Read) asked world h k at old new = new ≡ old
-BeginsPoint (Err Damaged) asked world h k at old new = ⊥
-BeginsPoint (Err Device) asked world h k at old new = LeavesOnly old new (λ c. IsImage c (settle world))
+BeginsPoint result asked world h k at old new = BeginsTo world.live result asked world h k at old new
 
 -- A step leaves an image of the settled world to a crash at any moment, whatever the answer, and at `Ok` the mount runs on with the point at its next stage.
 abbrev pub StepsOn : Result (Unit {0}) Fault → World → Held → GoingPoint → Trees → Disk → Disk → Type 0
@@ -74,9 +79,13 @@ StepsOn result world h going trees old new = LeavesOnly old new (λ c. IsImage c
 abbrev pub with_frozen : World → FrozenTrees → World
 with_frozen world frozen = record world { frozen = frozen }
 
--- Whatever the answer, a crash at any moment leaves an image of the settled world, or of that with the point's frozen trees. At `Ok` the mount runs on with these, ready for another point, and what was charged since this one began is charged on its root.
+-- Whatever the answer, a crash at any moment leaves an image of the settled world, or of the one that the point leads to. At `Ok` the mount runs on over that, ready for another point, and what was charged since this one began is charged on its root.
+abbrev pub FinishesTo : Result (Unit {0}) Fault → World → World → Held → ℕ → Kept → Disk → Disk → Type 0
+FinishesTo result world after h free kept old new = LeavesOnly old new (EitherImage world after) × OnOk result (RunsReady (record h { world = after; room = done free h.room; disk = new }) after kept)
+
+-- which has the mount's live tree, with the point's frozen ones
 abbrev pub FinishesPoint : Result (Unit {0}) Fault → World → FrozenTrees → Held → ℕ → Kept → Disk → Disk → Type 0
-FinishesPoint result world frozen h free kept old new = LeavesOnly old new (EitherImage world (with_frozen world frozen)) × OnOk result (RunsReady (record h { world = with_frozen world frozen; room = done free h.room; disk = new }) (with_frozen world frozen) kept)
+FinishesPoint result world frozen h free kept old new = FinishesTo result world (with_frozen world frozen) h free kept old new
 
 -- A point of what changed begins over a root, on a disk of so many blocks: it writes the root that follows into the slot that doesn't count, with no more new blocks than what changed needs.
 pub record IsGoing (n : ℕ) (base : PointBase) (changed : Layer) (going : GoingPoint) : Type 0 where

@@ -14,7 +14,7 @@ use Rattle.sn_layout.specs.Geometry.{map_blocks, start_of}
 use Rattle.sn_log.specs.Positions.{LogPosition}
 use Rattle.sn_limits.specs.Versions.{limits_written}
 use Rattle.sn_model.specs.declared.outcome.AskedPoint.{AskedPoint}
-use Rattle.sn_model.specs.declared.outcome.AskedPoint.TheVariants.{Unasked, Plain, Freezes, Thaws}
+use Rattle.sn_model.specs.declared.outcome.AskedPoint.TheVariants.{Unasked, Plain, Freezes, Thaws, Restores}
 use Rattle.sn_model.specs.Steps.{pointed}
 use Rattle.sn_model.specs.World.{World}
 use Rattle.sn_overlay.specs.declared.overlay.Overlay.{Overlay}
@@ -34,12 +34,13 @@ with_parts h at room disk = record h { at = at; room = room; disk = disk }
 abbrev pub over_world : World → Held → Held
 over_world world h = record h { world = world }
 
--- what is asked for can be made of the snapshots: the name of a new one is free, and there may be one more; the one that goes is there
+-- what is asked for can be made of the snapshots: the name of a new one is free, and there may be one more; the one that goes is there. What a snapshot needs that is brought back is said apart (`CanBeRestored`).
 abbrev pub CanBeAsked : AskedPoint → World → Type 0
 CanBeAsked Unasked world = Unit {0}
 CanBeAsked Plain world = Unit {0}
 CanBeAsked (Freezes name) world = (map.contains_key world.frozen name ≡ false) × (map.len world.frozen < limits_written.snapshots)
 CanBeAsked (Thaws name) world = map.contains_key world.frozen name ≡ true
+CanBeAsked (Restores name) world = ⊥
 
 -- At `Ok` the mount runs on over the next root, with the snapshots that were asked for, and a crash at any moment on the way leaves an image of the settled world from before or of the one from after; so it does where the device failed. Otherwise nothing was written. What is read can always be used, and is never too much for what is free.
 abbrev pub MakesPoint : Result Overlay PointFault → AskedPoint → World → Disk → Held → Kept → Type 0

@@ -4,17 +4,20 @@ use Rattle.sn_device.specs.declared.status.Status.{Status}
 use Rattle.sn_layout.specs.Bytes.{AreNumbers}
 use Rattle.sn_layout.specs.RootBody.{IsRootBody}
 use Rattle.sn_layout.specs.declared.root.RootBody.{RootBody}
+use Rattle.sn_layout.specs.declared.tree.BlockTree.{BlockTree}
 use Rattle.sn_limits.specs.Versions.{limits_written}
 use Rattle.sn_log.specs.Positions.{LogPosition}
 use Rattle.sn_model.specs.declared.outcome.AskedPoint.{AskedPoint}
+use Rattle.sn_ondisk.specs.Trees.{Store}
 use Rattle.sn_overlay.specs.Layers.{Layer}
 use Rattle.sn_root.specs.Following.{epochs_of, following}
 use Rattle.sn_root.specs.declared.following.PointKind.{PointKind}
 use Rattle.sn_held.specs.Held.{Kept}
-use Rattle.sn_cp_build.specs.Building.{IsWellBuilt}
+use Rattle.sn_cp_build.specs.Building.{Builds, IsWellBuilt}
+use Rattle.sn_cp_build.specs.Edits.{base_bit}
 use Rattle.sn_cp_build.specs.declared.building.Built.{Built}
-use Rattle.sn_cp_held.specs.Builds.{LeavesAge}
-use Rattle.sn_cp_held.specs.Snapshots.{FollowsBy, edit_for}
+use Rattle.sn_cp_held.specs.Builds.{CanBeBuiltOver, LeavesAge}
+use Rattle.sn_cp_held.specs.Snapshots.{BeginsFrom, FollowsBy, edit_for}
 use Rattle.sn_block.specs.Counts.{FailsRead}
 use Rattle.sn_block.specs.declared.fault.ReadFault.{ReadFault}
 use Rattle.sn_block.specs.declared.fault.ReadFault.TheVariants as read
@@ -47,11 +50,18 @@ pub record IsNextRoot (kind : PointKind) (root : RootBody) (asked : AskedPoint) 
   pub body : IsRootBody next
   pub age : LeavesAge kind next
 
--- What is planned for a point of this kind over what is kept, on a disk of n blocks: what was built of what changed, and the root that follows with it, with the bit of the snapshot that is made or goes.
-pub record IsPlanned (n : ℕ) (kind : PointKind) (k : Kept) (asked : AskedPoint) (built : Built) (next : RootBody) : Type 0 where
+-- What is planned for a point of this kind over what is kept, on a disk of n blocks: what was built of what changed over the inode file that it begins from, and the root that follows with it, with the bit of the snapshot that is made, goes, or is brought back. What it comes to over these blocks is said of a device that tells them.
+pub record IsPlanned (Told : Type 0) (n : ℕ) (s : Store) (kind : PointKind) (k : Kept) (asked : AskedPoint) (built : Built) (next : RootBody) : Type 0 where
   pub bit : ℕ
+  pub file : BlockTree
+  pub begins : BeginsFrom asked bit k.root file
   pub follows : IsNextRoot kind k.root asked bit built next
   pub well : IsWellBuilt n k.root.limits k.words k.changed (edit_for asked bit) built
+  pub builds : Told → Builds n k.root.limits s file (base_bit (edit_for asked bit)) k.words k.changed built
+
+-- what changed can be built over whichever inode file a point begins from that is asked for so
+abbrev pub CanBeBuiltFor : ℕ → Store → Kept → AskedPoint → Type 0
+CanBeBuiltFor n s k asked = (bit : ℕ) (file : BlockTree) → BeginsFrom asked bit k.root file → CanBeBuiltOver n s k file (base_bit (edit_for asked bit))
 
 -- a block of 4,096 bytes
 abbrev pub IsWholeBlock : NewBlock → Type 0

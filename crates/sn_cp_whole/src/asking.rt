@@ -2,13 +2,13 @@
 ghost use Rattle.std.specs.Prelude.{◌≡◌, None, IfSome};
 ghost use Rattle.sn_layout.specs.RootBody.{IsRootBody};
 ghost use Rattle.sn_layout.specs.Snapshot.{with_snapshot};
-ghost use Rattle.sn_model.specs.declared.outcome.AskedPoint.TheVariants.{Freezes, Thaws};
+ghost use Rattle.sn_model.specs.declared.outcome.AskedPoint.TheVariants.{Freezes, Restores, Thaws};
 ghost use Rattle.sn_snap.specs.Catalogue.{others_than};
 ghost use Rattle.sn_cp_held.specs.Snapshots.{FollowsBy, new_snapshot};
-ghost use Rattle.sn_cp_whole.specs.Asking.{CanBeMade, CanBeMadeWith, HasSnapshot, IsEditFor, TakesOneMore, bit_in};
+ghost use Rattle.sn_cp_whole.specs.Asking.{CanBeMade, CanBeMadeWith, HasSnapshot, IsStartFor, TakesOneMore, bit_in};
 
 use sn_cp_build::{SnapshotBit, SnapshotEdit};
-use sn_layout::RootBody;
+use sn_layout::{BlockTree, RootBody};
 use sn_limits::SnapshotName;
 use sn_model::AskedPoint;
 use sn_snap::{find, free_bit, with, without};
@@ -36,16 +36,52 @@ fn own_bit(root: &RootBody, name: &SnapshotName) -> Option<SnapshotBit>
     SnapshotBit::new(snapshot.bit)
 }
 
-/// What a build is to make of the bits of snapshots, where what is asked for can be made of those of this root.
-pub(crate) fn edit_for(root: &RootBody, asked: &AskedPoint) -> Option<SnapshotEdit>
+/// What a build begins from, and what it is to make of the bits of snapshots.
+#[derive(Drop)]
+pub(crate) struct Start {
+    pub edit: SnapshotEdit,
+    pub inode_file: BlockTree,
+}
+
+/// A build of the live tree.
+fn live_start(root: &RootBody, edit: SnapshotEdit) -> Start
+    ensures { result ≡ record { edit = edit; inode_file = root.now.inode_file } }
+{
+    Start {
+        edit,
+        inode_file: root.inode_file,
+    }
+}
+
+/// A build of the tree of the snapshot that has the name.
+fn frozen_start(root: &RootBody, name: &SnapshotName) -> Option<Start>
     requires { IsRootBody root.now }
-    ensures fits { IfSome result (IsEditFor asked.now root.now.limits root.now.snapshots) }
+    ensures fits { IfSome result (λ start. IsStartFor (Restores name.now) root.now start.edit start.inode_file) }
+    ensures none { result ≡ None → CanBeMade (Restores name.now) root.now.limits root.now.snapshots → ⊥ }
+{
+    let snapshot = find(&root.snapshots, name)?;
+    let bit = SnapshotBit::new(snapshot.bit)?;
+    Some(Start {
+        edit: SnapshotEdit::Restore(bit),
+        inode_file: snapshot.tree,
+    })
+}
+
+/// Where a build begins for what is asked for, if it can be made of the snapshots of this root.
+pub(crate) fn start_for(root: &RootBody, asked: &AskedPoint) -> Option<Start>
+    requires { IsRootBody root.now }
+    ensures fits { IfSome result (λ start. IsStartFor asked.now root.now start.edit start.inode_file) }
     ensures none { result ≡ None → CanBeMade asked.now root.now.limits root.now.snapshots → ⊥ }
 {
     match asked {
-        AskedPoint::Unasked | AskedPoint::Plain => Some(SnapshotEdit::None),
-        AskedPoint::Freezes(name) => Some(SnapshotEdit::Freeze(new_bit(root, name)?)),
-        AskedPoint::Thaws(name) => Some(SnapshotEdit::Thaw(own_bit(root, name)?)),
+        AskedPoint::Unasked | AskedPoint::Plain => Some(live_start(root, SnapshotEdit::None)),
+        AskedPoint::Freezes(name) => {
+            Some(live_start(root, SnapshotEdit::Freeze(new_bit(root, name)?)))
+        }
+        AskedPoint::Thaws(name) => {
+            Some(live_start(root, SnapshotEdit::Thaw(own_bit(root, name)?)))
+        }
+        AskedPoint::Restores(name) => frozen_start(root, name),
     }
 }
 
@@ -55,7 +91,9 @@ pub(crate) fn bit_in(edit: &SnapshotEdit) -> u8
 {
     match edit {
         SnapshotEdit::None => 0,
-        SnapshotEdit::Freeze(bit) | SnapshotEdit::Thaw(bit) => bit.number(),
+        SnapshotEdit::Freeze(bit) | SnapshotEdit::Thaw(bit) | SnapshotEdit::Restore(bit) => {
+            bit.number()
+        }
     }
 }
 
@@ -90,7 +128,7 @@ pub(crate) fn with_snapshots(root: RootBody, asked: &AskedPoint, bit: u8) -> Roo
     ensures body { IsRootBody result }
 {
     match asked {
-        AskedPoint::Unasked | AskedPoint::Plain => root,
+        AskedPoint::Unasked | AskedPoint::Plain | AskedPoint::Restores(_) => root,
         AskedPoint::Freezes(name) => with_one_more(root, name, bit),
         AskedPoint::Thaws(name) => with_one_less(root, name),
     }

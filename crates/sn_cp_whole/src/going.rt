@@ -1,5 +1,5 @@
 //! A point in progress.
-ghost use Rattle.std.specs.Prelude.{◌≡◌, ◌≢◌, ◌↔◌, ◌*◌, ◌+◌, ◌≤◌, Err, IfOk, IsTrue, OnErr, OnOk};
+ghost use Rattle.std.specs.Prelude.{◌≡◌, ◌≢◌, ◌↔◌, ℕ, ◌*◌, ◌+◌, ◌≤◌, List, Err, IfOk, IsTrue, OnErr, OnOk};
 ghost use Rattle.sn_block.specs.Counts.{CountsCalls};
 ghost use Rattle.sn_block.specs.Lending.{device_of};
 ghost use Rattle.sn_cp.specs.Counting.{syncs_left, writes_left};
@@ -8,16 +8,22 @@ ghost use Rattle.sn_cp.specs.Showing.{InPoint};
 ghost use Rattle.sn_cp.specs.Steps.{IsWhole, IsWithin, StandsAtStage, next_stage, syncs_of, writes_of};
 ghost use Rattle.sn_cp.specs.declared.stage.Stage.TheVariants.{Bodied};
 ghost use Rattle.sn_cp_progress.specs.Meaning.{progress_over};
-ghost use Rattle.sn_cp_progress.specs.Progress.{RunsOn};
+ghost use Rattle.sn_cp_progress.specs.Progress.{RunsOn, RunsTo, world_to};
+ghost use Rattle.sn_cp_held.specs.Snapshots.{live_behind};
+ghost use Rattle.sn_cp_held.specs.Wholes.{CanBeRestored};
 ghost use Rattle.sn_device.specs.Crash.{Touches};
 ghost use Rattle.sn_layout.specs.Geometry.{other_slot};
 ghost use Rattle.sn_held.specs.Held.{Held, RunsReady};
 ghost use Rattle.sn_log.specs.Positions.{first_of};
-ghost use Rattle.sn_model.specs.World.{Trees, World};
+ghost use Rattle.sn_model.specs.Settling.{nameless_in};
+ghost use Rattle.sn_model.specs.Tree.{Tree};
+ghost use Rattle.sn_model.specs.World.{Trees, World, trees_of};
+ghost use Rattle.sn_model.specs.declared.outcome.AskedPoint.TheVariants.{Restores};
 ghost use Rattle.sn_ondisk.specs.LogHalf.{InHalf, base_of};
+ghost use Rattle.sn_overlay.specs.Layers.{Layer};
 ghost use Rattle.sn_overlay.specs.Overlays.{HasRoom, layer_of, no_changes};
 ghost use Rattle.sn_root.specs.declared.following.PointKind.TheVariants.{Ordinary as OrdinaryPoint};
-ghost use Rattle.sn_cp_whole.specs.Going.{BeginsPoint, CostsBeginning, FinishesPoint, IsGoing, KeepsTree, StepsOn, base_behind, going_of, with_disk, with_log};
+ghost use Rattle.sn_cp_whole.specs.Going.{BeginsPoint, BeginsTo, CostsBeginning, FinishesPoint, FinishesTo, IsGoing, KeepsTree, StepsOn, base_behind, going_of, with_disk, with_log};
 ghost use Rattle.sn_cp_whole.specs.Making.{CanBeAsked};
 ghost use Rattle.sn_cp_whole.specs.Planning.{HasAgeFor, IsBaseAt, kept_in};
 ghost use Rattle.sn_cp_whole.specs.Recovering.{IsApart};
@@ -35,7 +41,8 @@ use sn_overlay::Overlay;
 use sn_root::PointKind;
 use std::alloc::Global;
 
-/// A consistency point that a mount has begun: it is built of the live tree as it was then.
+/// A consistency point that a mount has begun: it is built of the live tree as it was then, or of the tree of a snapshot
+/// that is brought back.
 #[derive(Drop)]
 pub struct GoingPoint {
     /// What it writes, and how far it is.
@@ -54,7 +61,8 @@ pub struct Begun {
 
 /// Begins a point of what changed since the root that counts, with the snapshots that are asked for. From then on the log
 /// goes on under the next epoch, behind the root that is being made, and what changes goes into an overlay of its own, with
-/// room for so many drops of files.
+/// room for so many drops of files. Where a snapshot is to be brought back, what changed is what drops the files without
+/// names of its tree; nothing may then be logged before the point is finished.
 pub fn begin_point<D: Device>(
     alloc: Global,
     blocks: &mut Blocks<D>,
@@ -70,6 +78,10 @@ pub fn begin_point<D: Device>(
         → RunsReady (with_log h log.old (D.disk (device_of blocks.old))) world (kept_in base.now (layer_of changed.now))
         → CanBeAsked asked.now world
         → BeginsPoint result asked.now world h (kept_in base.now (layer_of changed.now)) log.new (D.disk (device_of blocks.old)) (D.disk (device_of blocks.new)) }
+    ensures restores { IsTrue D.tells_bytes → (h : Held) (world : World) (before : Layer) (name : List ℕ)
+        → RunsReady (with_log h log.old (D.disk (device_of blocks.old))) world (kept_in base.now before)
+        → asked.now ≡ Restores name → (can : CanBeRestored name (layer_of changed.now) h.room world) → nameless_in can.tree ≤ h.room.dropped
+        → BeginsTo (live_behind asked.now (trees_of world)) result asked.now world h (kept_in base.now before) log.new (D.disk (device_of blocks.old)) (D.disk (device_of blocks.new)) }
     ensures going { IfOk result (λ begins. IsGoing log.old.blocks base.now (layer_of changed.now) begins.going) }
     ensures empty { IfOk result (λ begins. layer_of begins.since ≡ no_changes) }
     ensures stands { IsTrue D.tells_bytes → IfOk result (λ begins. StandsAtStage (work_of begins.going.point) (stage_of begins.going.point) (D.disk (device_of blocks.new))) }
@@ -161,6 +173,9 @@ impl GoingPoint {
         ensures finishes { IsTrue D.tells_bytes → (h : Held) (world : World) (trees : Trees)
             → RunsOn (with_disk h (D.disk (device_of blocks.old))) world (progress_over (going_of self) trees)
             → FinishesPoint result world trees.frozen h self.free (kept_in base.new h.base.changed) (D.disk (device_of blocks.old)) (D.disk (device_of blocks.new)) }
+        ensures leads { IsTrue D.tells_bytes → (h : Held) (world : World) (live : Tree) (trees : Trees)
+            → RunsTo (with_disk h (D.disk (device_of blocks.old))) world live (progress_over (going_of self) trees)
+            → FinishesTo result world (world_to live (progress_over (going_of self) trees) world) h self.free (kept_in base.new h.base.changed) (D.disk (device_of blocks.old)) (D.disk (device_of blocks.new)) }
         ensures touched { IsTrue D.tells_bytes → Touches (InPoint (work_of self.point)) (D.disk (device_of blocks.old)) (D.disk (device_of blocks.new)) }
         ensures counts { CountsCalls (writes_left (work_of self.point) (stage_of self.point)) (syncs_left (work_of self.point) (stage_of self.point)) result
             (D.status (device_of blocks.old)) (D.status (device_of blocks.new)) }

@@ -8,9 +8,13 @@
 //! all that are left. [`make_point`] does both in a row; then the base is that of the next root, nothing is charged, and
 //! the log goes on empty.
 //!
+//! [`make_restore`] does the same to bring a snapshot back: it builds over the snapshot's inode file an overlay that drops its
+//! files without names, and the live tree is then what is seen through it. What changed since the root goes with the root.
+//!
 //! A point makes of the snapshots what is asked for: nothing; one more, the live tree as it stands, with the least free bit
 //! of the map's words; or one less, whose bit is cleared. This asks that a new name is free with room for one more
-//! snapshot, and that the one that goes is there (`CanBeAsked`).
+//! snapshot, and that the one that goes is there (`CanBeAsked`). One that is brought back stays; it has to be there, and a
+//! charge for each of its files without names has to be free (`CanBeRestored`).
 //!
 //! What its clauses say, those on bytes of each device that tells them:
 //! - Whatever the answer, a crash at any moment leaves an image of the settled world, or once the next root counts of that
@@ -47,6 +51,6 @@ mod recovering;
 pub use base::PointBase;
 pub use fault::PointFault;
 pub use going::{Begun, GoingPoint, begin_point};
-pub use making::make_point;
+pub use making::{make_point, make_restore};
 pub use planning::empty_overlay;
 pub use recovering::make_recovery;

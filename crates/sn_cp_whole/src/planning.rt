@@ -10,13 +10,12 @@ ghost use Rattle.sn_ondisk.specs.Trees.{store_of};
 ghost use Rattle.sn_overlay.specs.Overlays.{HasRoom, layer_of, no_changes};
 ghost use Rattle.sn_root.specs.Following.{following};
 ghost use Rattle.sn_root.specs.Slots.{gate_in};
-ghost use Rattle.sn_cp_build.specs.Building.{Builds};
-ghost use Rattle.sn_cp_held.specs.Builds.{CanBeBuilt, LeavesAge};
+ghost use Rattle.sn_cp_held.specs.Builds.{LeavesAge};
 ghost use Rattle.sn_cp_whole.specs.Asking.{CanBeMade};
 ghost use Rattle.sn_cp_whole.specs.declared.fault.PointFault.TheVariants.{Age as AgePoint, Damaged as DamagedPoint};
-ghost use Rattle.sn_cp_whole.specs.Planning.{HasAgeFor, HasCauseToStop, IsPlanned, IsSpellable, IsWholeBlock, kept_in, point_fault_of, read_fault_of};
+ghost use Rattle.sn_cp_whole.specs.Planning.{CanBeBuiltFor, HasAgeFor, HasCauseToStop, IsPlanned, IsSpellable, IsWholeBlock, kept_in, point_fault_of, read_fault_of};
 
-use crate::asking::{bit_in, edit_for, with_snapshots};
+use crate::asking::{Start, bit_in, start_for, with_snapshots};
 use crate::{PointBase, PointFault};
 use sn_block::{Blocks, ReadFault};
 use sn_cp_build::{Built, build};
@@ -30,8 +29,8 @@ use sn_tree::{NewBlock, PlanFault};
 use sn_tree_read::TreeFault;
 use std::alloc::Global;
 
-/// All that is read and built for a point before it begins: the root that follows, what was built of the live tree, and
-/// the gate of the slot that is replaced.
+/// All that is read and built for a point before it begins: the root that follows, what was built for it, and the gate of
+/// the slot that is replaced.
 #[derive(Drop)]
 pub(crate) struct Planned {
     pub next: RootBody,
@@ -118,7 +117,8 @@ fn with_inode_file(root: RootBody, built: &Built) -> RootBody
     RootBody { inode_file, ..root }
 }
 
-/// Builds the live tree, and the root that follows with it and with the snapshots that are asked for.
+/// Builds the live tree, or that of the snapshot that is brought back, and the root that follows with it and with the
+/// snapshots that are asked for.
 fn plan_tree<D: Device>(
     alloc: Global,
     blocks: &mut Blocks<D>,
@@ -131,12 +131,11 @@ fn plan_tree<D: Device>(
     requires disk { 8 * geometry ≤ (D.status (device_of blocks.old)).sectors }
     requires body { IsRootBody base.now.root }
     requires words { length base.now.map ≡ geometry }
-    ensures planned { IfOk result (λ made. IsPlanned geometry kind (kept_in base.now (layer_of changed.now)) asked.now made.1 made.0) }
+    ensures planned { IfOk result (λ made. IsPlanned (IsTrue D.tells_bytes) geometry (store_of (reads (D.disk (device_of blocks.old))))
+        kind (kept_in base.now (layer_of changed.now)) asked.now made.1 made.0) }
     ensures spelled { IfOk result (λ made. IsSpellable made.1) }
-    ensures builds { IsTrue D.tells_bytes → IfOk result (λ made. Builds geometry base.now.root.limits
-        (store_of (reads (D.disk (device_of blocks.old)))) base.now.root.inode_file base.now.map (layer_of changed.now) made.1) }
     ensures aged { result ≡ Err AgePoint → HasAgeFor kind base.now.root → ⊥ }
-    ensures damaged { IsTrue D.tells_bytes → result ≡ Err DamagedPoint → CanBeBuilt geometry (store_of (reads (D.disk (device_of blocks.old)))) (kept_in base.now (layer_of changed.now))
+    ensures damaged { IsTrue D.tells_bytes → result ≡ Err DamagedPoint → CanBeBuiltFor geometry (store_of (reads (D.disk (device_of blocks.old)))) (kept_in base.now (layer_of changed.now)) asked.now
         → CanBeMade asked.now base.now.root.limits base.now.root.snapshots → ⊥ }
     ensures same { IsTrue D.tells_bytes → D.disk (device_of blocks.new) ≡ D.disk (device_of blocks.old) }
     ensures idle { OnOk result (D.status (device_of blocks.new) ≡ D.status (device_of blocks.old)) }
@@ -145,14 +144,23 @@ fn plan_tree<D: Device>(
     let Some(next) = following_root(&base.root, kind) else {
         return Err(PointFault::Age);
     };
-    let Some(edit) = edit_for(&base.root, asked) else {
+    let Some(Start { edit, inode_file }) = start_for(&base.root, asked) else {
         return Err(PointFault::Damaged);
     };
     let bit = bit_in(&edit);
     let Ok(copy) = changed.copy(alloc) else {
         return Err(PointFault::Memory);
     };
-    match build(alloc, blocks, geometry, &base.root, &base.map, copy, edit) {
+    match build(
+        alloc,
+        blocks,
+        geometry,
+        &base.root.limits,
+        &inode_file,
+        &base.map,
+        copy,
+        edit,
+    ) {
         Ok(built) => {
             words_fit(built.map.words());
             blocks_fit(built.blocks.as_slice());
@@ -215,13 +223,12 @@ pub(crate) fn plan<D: Device>(
     requires disk { 8 * geometry ≤ (D.status (device_of blocks.old)).sectors }
     requires body { IsRootBody base.now.root }
     requires words { length base.now.map ≡ geometry }
-    ensures planned { IfOk result (λ p. IsPlanned geometry kind (kept_in base.now (layer_of changed.now)) asked.now p.built p.next) }
+    ensures planned { IfOk result (λ p. IsPlanned (IsTrue D.tells_bytes) geometry (store_of (reads (D.disk (device_of blocks.old))))
+        kind (kept_in base.now (layer_of changed.now)) asked.now p.built p.next) }
     ensures spelled { IfOk result (λ p. IsSpellable p.built) }
-    ensures builds { IsTrue D.tells_bytes → IfOk result (λ p. Builds geometry base.now.root.limits
-        (store_of (reads (D.disk (device_of blocks.old)))) base.now.root.inode_file base.now.map (layer_of changed.now) p.built) }
     ensures gate { IsTrue D.tells_bytes → IfOk result (λ p. gate_in (reads (D.disk (device_of blocks.old))) (other_slot base.now.slot) ≡ p.gate) }
     ensures aged { result ≡ Err AgePoint → HasAgeFor kind base.now.root → ⊥ }
-    ensures damaged { IsTrue D.tells_bytes → result ≡ Err DamagedPoint → CanBeBuilt geometry (store_of (reads (D.disk (device_of blocks.old)))) (kept_in base.now (layer_of changed.now))
+    ensures damaged { IsTrue D.tells_bytes → result ≡ Err DamagedPoint → CanBeBuiltFor geometry (store_of (reads (D.disk (device_of blocks.old)))) (kept_in base.now (layer_of changed.now)) asked.now
         → CanBeMade asked.now base.now.root.limits base.now.root.snapshots → ⊥ }
     ensures same { IsTrue D.tells_bytes → D.disk (device_of blocks.new) ≡ D.disk (device_of blocks.old) }
     ensures idle { OnOk result (D.status (device_of blocks.new) ≡ D.status (device_of blocks.old)) }

@@ -206,7 +206,16 @@ impl Disk {
         let root = root_of(&self.file)?;
         let map = map_of(alloc, self.geometry, words)?;
         let edit = edit_of(self.edit)?;
-        let built = build(alloc, blocks, self.geometry, &root, &map, changes, edit);
+        let built = build(
+            alloc,
+            blocks,
+            self.geometry,
+            &root.limits,
+            &root.inode_file,
+            &map,
+            changes,
+            edit,
+        );
         Ok(answer_of(built))
     }
 

@@ -25,16 +25,16 @@ pub returns-clause-well : goal.returns-clause-well
 returns-clause-well g c =
     let s = store_of (reads (g.D.Device.disk (device_of c.args.blocks.now))) in
     let first = begun_is c.args.map.now c.in_ok-try_clone.field-0 (start_of c.args.geometry Data) c.start-first.result c.new.result c.new-build.result c.in_ok-try_clone.ensures c.start-first.ensures c.new.ensures c.new-build.ensures in
-    let plan = subst (λ (d : Draft). IsTreePlanned (IsTrue g.D.Device.tells_bytes) c.args.root.now.limits s c.args.root.now.inode_file (layer_of c.args.changes) c.in_ok-inode_file.inode_file d c.plan_tree.new.build) first c.in_ok-inode_file.ensures.planned in
-    well_built (IsTrue g.D.Device.tells_bytes) c.args.geometry c.args.root.now.limits s c.args.root.now.inode_file (layer_of c.args.changes) c.in_ok-inode_file.inode_file c.args.map.now c.plan_tree.new.build plan
+    let plan = subst (λ (d : Draft). IsTreePlanned (IsTrue g.D.Device.tells_bytes) c.args.limits.now s c.args.file.now (layer_of c.args.changes) c.in_ok-inode_file.inode_file d c.plan_tree.new.build) first c.in_ok-inode_file.ensures.planned in
+    well_built (IsTrue g.D.Device.tells_bytes) c.args.geometry c.args.limits.now s c.args.file.now (layer_of c.args.changes) c.in_ok-inode_file.inode_file c.args.map.now c.plan_tree.new.build plan
     c.finished.ensures.free c.finished.ensures.rise c.args.edit c.finished.result c.finished.ensures.file c.finished.ensures.blocks c.finished.ensures.bits
 
 pub returns-clause-builds : goal.returns-clause-builds
 returns-clause-builds g c = λ told.
     let s = store_of (reads (g.D.Device.disk (device_of c.args.blocks.now))) in
     let first = begun_is c.args.map.now c.in_ok-try_clone.field-0 (start_of c.args.geometry Data) c.start-first.result c.new.result c.new-build.result c.in_ok-try_clone.ensures c.start-first.ensures c.new.ensures c.new-build.ensures in
-    let plan = subst (λ (d : Draft). IsTreePlanned (IsTrue g.D.Device.tells_bytes) c.args.root.now.limits s c.args.root.now.inode_file (layer_of c.args.changes) c.in_ok-inode_file.inode_file d c.plan_tree.new.build) first c.in_ok-inode_file.ensures.planned in
-    all_builds (IsTrue g.D.Device.tells_bytes) c.args.geometry c.args.root.now.limits s c.args.root.now.inode_file (layer_of c.args.changes) c.in_ok-inode_file.inode_file c.args.map.now c.plan_tree.new.build plan
+    let plan = subst (λ (d : Draft). IsTreePlanned (IsTrue g.D.Device.tells_bytes) c.args.limits.now s c.args.file.now (layer_of c.args.changes) c.in_ok-inode_file.inode_file d c.plan_tree.new.build) first c.in_ok-inode_file.ensures.planned in
+    all_builds (IsTrue g.D.Device.tells_bytes) c.args.geometry c.args.limits.now s c.args.file.now (layer_of c.args.changes) c.in_ok-inode_file.inode_file c.args.map.now c.plan_tree.new.build plan
     c.finished.ensures.free c.finished.ensures.rise told c.requires.words c.args.edit c.finished.result c.finished.ensures.file c.finished.ensures.blocks c.finished.ensures.bits
 
 pub returns-in_err-inode_file-clause-full : goal.returns-in_err-inode_file-clause-full
@@ -43,8 +43,8 @@ returns-in_err-inode_file-clause-full g c = λ told full ground enough.
     let fault : c.in_err-inode_file.field-0.0 ≡ Full = cc (p.1, p.2) in
     let first = begun_is c.args.map.now c.in_ok-try_clone.field-0 (start_of c.args.geometry Data) c.start-first.result c.new.result c.new-build.result c.in_ok-try_clone.ensures c.start-first.ensures c.new.ensures c.new-build.ensures in
     let less = c.in_err-inode_file.ensures.full told (ap (λ f. Err f) fault) c.args.geometry ground in
-    let here : free_data c.args.map.now (start_of c.args.geometry Data) < 0 + need c.args.root.now.limits (layer_of c.args.changes) =
-    subst (λ (d : Draft). free_data d.words d.first < length d.added + need c.args.root.now.limits (layer_of c.args.changes)) first less in
+    let here : free_data c.args.map.now (start_of c.args.geometry Data) < 0 + need c.args.limits.now (layer_of c.args.changes) =
+    subst (λ (d : Draft). free_data d.words d.first < length d.added + need c.args.limits.now (layer_of c.args.changes)) first less in
     omega (arith, here, enough)
 
 pub returns-clause-full : goal.returns-clause-full
@@ -57,7 +57,7 @@ returns-in_err-inode_file-clause-damaged g c = λ told block damaged ground tell
     let p = err_from_is_err_and c.from_residual-in_err-inode_file.result c.from_residual-in_err-inode_file.ensures.1 in
     let fault : c.in_err-inode_file.field-0.0 ≡ Tree (Damaged block) = cc (p.1, p.2) in
     let s = store_of (reads (g.D.Device.disk (device_of c.args.blocks.now))) in
-    let file = c.args.root.now.inode_file in
+    let file = c.args.file.now in
     let first = begun_is c.args.map.now c.in_ok-try_clone.field-0 (start_of c.args.geometry Data) c.start-first.result c.new.result c.new-build.result c.in_ok-try_clone.ensures c.start-first.ensures c.new.ensures c.new-build.ensures in
     let kept : KeepsReach s file (begun c.args.map.now (start_of c.args.geometry Data)) = λ block among. told_kept c.args.map.now (reach s file) (start_of c.args.geometry Data) block tells among in
     c.in_err-inode_file.ensures.damaged told block (ap (λ f. Err f) fault) c.args.geometry
@@ -67,8 +67,8 @@ pub returns-clause-damaged : goal.returns-clause-damaged
 returns-clause-damaged g c = λ told block damaged ground tells room.
     let s = store_of (reads (g.D.Device.disk (device_of c.args.blocks.now))) in
     let first = begun_is c.args.map.now c.in_ok-try_clone.field-0 (start_of c.args.geometry Data) c.start-first.result c.new.result c.new-build.result c.in_ok-try_clone.ensures c.start-first.ensures c.new.ensures c.new-build.ensures in
-    let plan = subst (λ (d : Draft). IsTreePlanned (IsTrue g.D.Device.tells_bytes) c.args.root.now.limits s c.args.root.now.inode_file (layer_of c.args.changes) c.in_ok-inode_file.inode_file d c.plan_tree.new.build) first c.in_ok-inode_file.ensures.planned in
+    let plan = subst (λ (d : Draft). IsTreePlanned (IsTrue g.D.Device.tells_bytes) c.args.limits.now s c.args.file.now (layer_of c.args.changes) c.in_ok-inode_file.inode_file d c.plan_tree.new.build) first c.in_ok-inode_file.ensures.planned in
     let none : Tree (Damaged block) ≡ Tree (Damaged None) = subst (λ (r : Result Built PlanFault). IfErr r (λ fault. fault ≡ Tree (Damaged None))) damaged c.finished.ensures.fault in
     c.finished.ensures.damaged (damaged ∙ ap (λ (f : PlanFault). Err f) none)
-    (released_within (IsTrue g.D.Device.tells_bytes) c.args.geometry c.args.root.now.limits s c.args.root.now.inode_file (layer_of c.args.changes) c.in_ok-inode_file.inode_file c.args.map.now c.plan_tree.new.build plan
+    (released_within (IsTrue g.D.Device.tells_bytes) c.args.geometry c.args.limits.now s c.args.file.now (layer_of c.args.changes) c.in_ok-inode_file.inode_file c.args.map.now c.plan_tree.new.build plan
     c.finished.ensures.free c.finished.ensures.rise told c.requires.words (omega (arith, c.blocks-2.ensures.valid.least)) ground tells)

@@ -17,7 +17,7 @@ use Rattle.sn_cp_whole.specs.Making.{over_world, with_parts}
 use Rattle.sn_cp_whole.specs.Planning.{kept_in}
 use Rattle.sn_cp_whole.proofs.PointLemmas.{finished_costs, joined, refused, unbegun_costs, unfinished_costs, world_after, world_asked}
 use Rattle.sn_cp_whole.proofs.RecoverLemmas.{point_apart}
-use Rattle.sn_cp_whole.proofs.making.make_point.Goals as goal
+use Rattle.sn_cp_whole.proofs.making.make.Goals as goal
 
 -- what is held once it has begun
 abbrev after_begin : Held → LogPosition → RoomCounts → PointBase → Begun → Disk → Held
