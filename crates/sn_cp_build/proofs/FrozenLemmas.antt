@@ -80,8 +80,8 @@ no_zero t inodes = ⊎_elim
 -- ---- what a map tells
 
 -- none of the blocks that are told can be taken
-pub told_kept : {k : ℕ} (words reached : List ℕ) (first block : ℕ) → TellsBit k words reached → Contains reached block → IsFreeData words first block → ⊥
-told_kept {k} words reached first block tells among free =
+pub told_kept : (k : ℕ) (words reached : List ℕ) (first block : ℕ) → TellsBit k words reached → Contains reached block → IsFreeData words first block → ⊥
+told_kept k words reached first block tells among free =
     let one : bit_at (slice_index words block) k ≡ 1 = (tells block).1 among in
     let none : bit_at (slice_index words block) k ≡ 0 = ap (λ (word : ℕ). bit_at word k) free.free ∙ bit_at-zero k in
     let never : 0 ≡ 1 = sym none ∙ one in
@@ -102,14 +102,14 @@ module _ (Told : Type 0) (limits : Limits) (s : Store) (file : BlockTree) (layer
   pub grew : after ≡ grown old added released
   grew = plan.inodes.grew ∙ ap (λ (d : Draft). grown d plan.inodes.added plan.inodes.released) first.grew ∙ grown-grown old first.added plan.inodes.added first.released plan.inodes.released
 
-  module _ {k : ℕ} (n : ℕ) (words : List ℕ) (told : Told) (ground : IsGround limits n s file layer) (tells : TellsBit k words (reach s file))
+  module _ (k n : ℕ) (words : List ℕ) (told : Told) (ground : IsGround limits n s file layer) (tells : TellsBit k words (reach s file))
       (free : All (IsFreeData words (start_of n Data)) (blocks_of added)) (rise : IsStrictlyIncreasing (blocks_of added)) (long : length words ≡ n) where
     -- what was added was reached by nothing
     pub apart : (block : ℕ) → 0 < times block (blocks_of added) → times block (reach s file) ≡ 0
     apart block some =
         let is = All-contains (IsFreeData words (start_of n Data)) (blocks_of added) block free (times_among block (blocks_of added) some) in
         ⊎_elim
-        (λ (reached : 0 < times block (reach s file)). absurd (told_kept words (reach s file) (start_of n Data) block tells (times_among block (reach s file) reached) is))
+        (λ (reached : 0 < times block (reach s file)). absurd (told_kept k words (reach s file) (start_of n Data) block tells (times_among block (reach s file) reached) is))
         (λ (nothing : times block (reach s file) ≤ 0). omega (arith, nothing))
         (cases_lt 0 (times block (reach s file)))
 

@@ -93,8 +93,8 @@ module _ (Told : Type 0) (n : ℕ) (limits : Limits) (s : Store) (file : BlockTr
   rising_blocks = subst (λ (d : Draft). IsStrictlyIncreasing (blocks_of d.added)) grown_is rise
 
   -- each block that was released was reached or added
-  pub released_within : {k : ℕ} → Told → length words ≡ n → 0 < n → IsGround limits n s file layer → TellsBit k words (reach s file) → All (λ (b : ℕ). b < length after.words) after.released
-  released_within told long some ground tells =
+  pub released_within : (k : ℕ) → Told → length words ≡ n → 0 < n → IsGround limits n s file layer → TellsBit k words (reach s file) → All (λ (b : ℕ). b < length after.words) after.released
+  released_within k told long some ground tells =
       subst (λ (d : Draft). All (λ (b : ℕ). b < length d.words) d.released) (sym grown_is)
       (All-weaker (Contains gone) (λ (b : ℕ). b < length words) (λ block among. ⊎_elim
       (λ (zero : block ≡ 0). omega (arith, zero, some, long))
@@ -105,10 +105,10 @@ module _ (Told : Type 0) (n : ℕ) (limits : Limits) (s : Store) (file : BlockTr
       r = put_in blocks s
 
       same : SameIn (reach s file) s r
-      same block among = put_elsewhere blocks s block (λ newly. told_kept words (reach s file) (start_of n Data) block tells among (All-contains (IsFreeData words (start_of n Data)) (blocks_of blocks) block free_blocks newly))
+      same block among = put_elsewhere blocks s block (λ newly. told_kept k words (reach s file) (start_of n Data) block tells among (All-contains (IsFreeData words (start_of n Data)) (blocks_of blocks) block free_blocks newly))
 
       makes : MakesUp (reach s file) (reach r new) (blocks_of blocks) gone
-      makes = makes_up Told limits s file layer new (begun words (start_of n Data)) after plan n words told ground tells free_blocks rising_blocks long r same (put_holds blocks s rising_blocks)
+      makes = makes_up Told limits s file layer new (begun words (start_of n Data)) after plan k n words told ground tells free_blocks rising_blocks long r same (put_holds blocks s rising_blocks)
 
       known : (block : ℕ) → 0 < times block (reach s file) + times block (blocks_of blocks) → block < length words
       known block some = ⊎_elim
@@ -138,13 +138,13 @@ module _ (Told : Type 0) (n : ℕ) (limits : Limits) (s : Store) (file : BlockTr
     one_builds : Told → length words ≡ n → Builds n limits s file (base_bit edit) words layer built
     one_builds told long ground tells r same holds =
         let there : Holds r blocks = subst (λ (bs : List NewBlock). Holds r bs) items_are holds in
-        let makes = makes_up Told limits s file layer new (begun words (start_of n Data)) after plan n words told ground tells free_blocks rising_blocks long r same there in
+        let makes = makes_up Told limits s file layer new (begun words (start_of n Data)) after plan (base_bit edit) n words told ground tells free_blocks rising_blocks long r same there in
         let frozen : IsFrozen n limits s file layer (record built { inode_file = new }) r = record {
-          tree = tree Told limits s file layer new (begun words (start_of n Data)) after plan n words told ground tells free_blocks rising_blocks long r same there;
-          sound = sound Told limits s file layer new (begun words (start_of n Data)) after plan n words told ground tells free_blocks rising_blocks long r same there;
+          tree = tree Told limits s file layer new (begun words (start_of n Data)) after plan (base_bit edit) n words told ground tells free_blocks rising_blocks long r same there;
+          sound = sound Told limits s file layer new (begun words (start_of n Data)) after plan (base_bit edit) n words told ground tells free_blocks rising_blocks long r same there;
           bits = follow.tells (reach s file) (reach r new) makes tells;
           within = λ block among. subst (λ (bs : List NewBlock). Contains (reach s file) block ⊎ Contains (blocks_of bs) block) (sym items_are)
-              (within Told limits s file layer new (begun words (start_of n Data)) after plan n words told ground tells free_blocks rising_blocks long r same there block among);
+              (within Told limits s file layer new (begun words (start_of n Data)) after plan (base_bit edit) n words told ground tells free_blocks rising_blocks long r same there block among);
         } in
         subst (λ (file_then : BlockTree). IsFrozen n limits s file layer (record built { inode_file = file_then }) r) (sym file_is) frozen
 

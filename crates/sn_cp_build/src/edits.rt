@@ -63,8 +63,8 @@ pub enum SnapshotEdit {
 
 impl SnapshotEdit {
     // The bits of snapshots stay.
-    pub(crate) fn take_base(self, map: &mut Map)
-        ensures { TakesBase self map.old map.new }
+    pub(crate) fn take_base(&self, map: &mut Map)
+        ensures { TakesBase self.now map.old map.new }
     {
         match self {
             SnapshotEdit::None | SnapshotEdit::Freeze(_) | SnapshotEdit::Thaw(_) => {}

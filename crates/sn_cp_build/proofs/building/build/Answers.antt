@@ -18,6 +18,7 @@ use Rattle.sn_cp_nodes.specs.Built.{KeepsReach}
 use Rattle.sn_cp_build.specs.declared.building.Built.{Built}
 use Rattle.sn_cp_build.proofs.FrozenLemmas.{told_kept}
 use Rattle.sn_cp_build.specs.Building.{IsTreePlanned}
+use Rattle.sn_cp_build.specs.Edits.{base_bit}
 use Rattle.sn_cp_build.proofs.WholeLemmas.{all_builds, begun, begun_is, released_within, well_built}
 use Rattle.sn_cp_build.proofs.building.build.Goals as goal
 
@@ -59,7 +60,7 @@ returns-in_err-inode_file-clause-damaged g c = λ told block damaged ground tell
     let s = store_of (reads (g.D.Device.disk (device_of c.args.blocks.now))) in
     let file = c.args.file.now in
     let first = begun_is c.args.map.now c.in_ok-try_clone.field-0 (start_of c.args.geometry Data) c.start-first.result c.new.result c.new-build.result c.in_ok-try_clone.ensures c.start-first.ensures c.new.ensures c.new-build.ensures in
-    let kept : KeepsReach s file (begun c.args.map.now (start_of c.args.geometry Data)) = λ block among. told_kept c.args.map.now (reach s file) (start_of c.args.geometry Data) block tells among in
+    let kept : KeepsReach s file (begun c.args.map.now (start_of c.args.geometry Data)) = λ block among. told_kept (base_bit c.args.edit) c.args.map.now (reach s file) (start_of c.args.geometry Data) block tells among in
     c.in_err-inode_file.ensures.damaged told block (ap (λ f. Err f) fault) c.args.geometry
     (record { ground = ground; room = room; kept = subst (KeepsReach s file) (sym first) kept })
 
@@ -71,4 +72,4 @@ returns-clause-damaged g c = λ told block damaged ground tells room.
     let none : Tree (Damaged block) ≡ Tree (Damaged None) = subst (λ (r : Result Built PlanFault). IfErr r (λ fault. fault ≡ Tree (Damaged None))) damaged c.finished.ensures.fault in
     c.finished.ensures.damaged (damaged ∙ ap (λ (f : PlanFault). Err f) none)
     (released_within (IsTrue g.D.Device.tells_bytes) c.args.geometry c.args.limits.now s c.args.file.now (layer_of c.args.changes) c.in_ok-inode_file.inode_file c.args.map.now c.plan_tree.new.build plan
-    c.finished.ensures.free c.finished.ensures.rise told c.requires.words (omega (arith, c.blocks-2.ensures.valid.least)) ground tells)
+    c.finished.ensures.free c.finished.ensures.rise (base_bit c.args.edit) told c.requires.words (omega (arith, c.blocks-2.ensures.valid.least)) ground tells)
