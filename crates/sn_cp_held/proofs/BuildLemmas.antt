@@ -33,11 +33,12 @@ use Rattle.sn_tree.specs.declared.new_block.NewBlock.{NewBlock}
 use Rattle.sn_tree.specs.Drafts.{numbers_of}
 use Rattle.sn_tree.specs.Plans.{Holds}
 use Rattle.sn_cp_build.specs.Building.{IsFrozen}
+use Rattle.sn_cp_build.specs.Edits.{base_bit}
 use Rattle.sn_cp_build.specs.declared.building.Built.{Built}
 use Rattle.sn_cp.specs.Points.{written_by}
 use Rattle.sn_cp_held.specs.Builds.{IsOfBuild, plan_of}
-use Rattle.sn_cp_held.specs.Snapshots.{trees_behind}
-use Rattle.sn_cp_held.proofs.EditLemmas.{Becomes, BitIsMade, BitStays, catalogue_of, each_bit, first_or_more, frozen_follow, rises_above}
+use Rattle.sn_cp_held.specs.Snapshots.{edit_for, trees_built}
+use Rattle.sn_cp_held.proofs.EditLemmas.{Becomes, BitIsMade, BitStays, begins_among, catalogue_of, each_bit, first_or_more, frozen_follow, live_among, one_root, rises_above}
 
 -- ---- new blocks as what is written
 
@@ -116,19 +117,32 @@ frozen_only root k inodes other among = ⊎_elim
     (λ more. more)
     (first_or_more (record { bit = 0; inodes = root.inode_file }) (map frozen_root root.snapshots) (record { bit = k; inodes = inodes }) among)
 
--- what bit 0 tells is reached by the live root
-pub live_reached : (s : Store) (root : RootBody) → IsRootBody root → (block : ℕ) → IsReachedBy s (rooted_in root) block 0 → Contains (reach s root.inode_file) block
-live_reached s root body block by = ⊎_elim
-    (λ (live : record { bit = 0; inodes = by.inodes } ≡ record { bit = 0; inodes = root.inode_file }). subst (λ (y : Rooted). Contains (reach s y.inodes) block) live by.reached)
-    (λ more. absurd (let above = rises_above 0 root.snapshots (catalogue_of body).rising (record { bit = 0; inodes = by.inodes }) more in omega (arith, above)))
-    (first_or_more (record { bit = 0; inodes = root.inode_file }) (map frozen_root root.snapshots) (record { bit = 0; inodes = by.inodes }) by.among)
+-- and what a root reaches is reached
+pub reached_among : (s : Store) (root : RootBody) (block k : ℕ) → IsReachedBy s (rooted_in root) block k → Contains (all_reach s root) block
+reached_among s root block k by =
+    let live : Rooted = record { bit = 0; inodes = root.inode_file } in
+    ⊎_elim
+    (λ (here : record { bit = k; inodes = by.inodes } ≡ live). Contains-append_left (reach s root.inode_file) (frozen_reach s root.snapshots) block (subst (λ (y : Rooted). Contains (reach s y.inodes) block) here by.reached))
+    (λ more. Contains-append_right (reach s root.inode_file) (frozen_reach s root.snapshots) block (frozen_has s root.snapshots (record { bit = k; inodes = by.inodes }) more block by.reached))
+    (first_or_more live (map frozen_root root.snapshots) (record { bit = k; inodes = by.inodes }) by.among)
+
+-- what its bit tells is reached by a root
+pub rooted_reached : (s : Store) (root : RootBody) → IsRootBody root → (k : Rooted) → Contains (rooted_in root) k → (block : ℕ) → IsReachedBy s (rooted_in root) block k.bit → Contains (reach s k.inodes) block
+rooted_reached s root body k among block by = subst (λ (y : Rooted). Contains (reach s y.inodes) block) (one_root root body (record { bit = k.bit; inodes = by.inodes }) k by.among among refl) by.reached
+
+live_reached : (s : Store) (root : RootBody) → IsRootBody root → (block : ℕ) → IsReachedBy s (rooted_in root) block 0 → Contains (reach s root.inode_file) block
+live_reached s root body block by = rooted_reached s root body (record { bit = 0; inodes = root.inode_file }) (live_among root root.inode_file refl) block by
 
 -- ---- a build
 
-module _ (n : ℕ) (s : Store) (root : RootBody) (words : List ℕ) (layer : Layer) (asked : AskedPoint) (bit : ℕ) (built : Built) (next : RootBody) (of : IsOfBuild n s root words layer asked bit built next) where
+module _ (n : ℕ) (s : Store) (root : RootBody) (words : List ℕ) (file : BlockTree) (layer : Layer) (asked : AskedPoint) (bit : ℕ) (built : Built) (next : RootBody) (of : IsOfBuild n s root words file layer asked bit built next) where
   -- the live root that follows
   abbrev live : Rooted
   live = record { bit = 0; inodes = next.inode_file }
+
+  -- what it began from is of one of the root's
+  file_reach : (block : ℕ) → Contains (reach s file) block → Contains (all_reach s root) block
+  file_reach block among = reached_among s root block (base_bit (edit_for asked bit)) (record { inodes = file; among = begins_among asked bit root file of.begins; reached = among })
 
   not_live : (k : Rooted) → Contains (map frozen_root next.snapshots) k → k.bit ≢ 0
   not_live k among is = let above = rises_above 0 next.snapshots (catalogue_of of.body).rising k among in omega (arith, above, is)
@@ -155,10 +169,10 @@ module _ (n : ℕ) (s : Store) (root : RootBody) (words : List ℕ) (layer : Lay
       (sound_stays root.limits limits_written (written_allows root.limits.version root.limits of.root_body.version) n r inodes is)
 
   module _ (r : Store) (same : SameIn (all_reach s root) s r) (holds : HoldsAll r (plan_of built next).blocks) where
-    frozen : IsFrozen n root.limits s root.inode_file layer built r
-    frozen = of.builds of.ground of.tells r (λ block among. same block (Contains-append_left (reach s root.inode_file) (frozen_reach s root.snapshots) block among)) (holds_same r built.blocks.items holds)
+    frozen : IsFrozen n root.limits s file layer built r
+    frozen = of.builds of.ground of.tells r (λ block among. same block (file_reach block among)) (holds_same r built.blocks.items holds)
 
-    tree_is : image r next.inode_file ≡ through layer (image s root.inode_file)
+    tree_is : image r next.inode_file ≡ through layer (image s file)
     tree_is = ap (image r) of.inode_file ∙ frozen.tree
 
     live_sound : IsSound root.limits n r next.inode_file
@@ -167,8 +181,8 @@ module _ (n : ℕ) (s : Store) (root : RootBody) (words : List ℕ) (layer : Lay
     -- bit 0 tells what the new inode file reaches
     live_told : (block : ℕ) → (bit_at (slice_index built.map block) 0 ≡ 1) ↔ Contains (reach r next.inode_file) block
     live_told block = (
-      λ is. subst (λ file. Contains (reach r file) block) (sym of.inode_file) ((frozen.bits block).0 is),
-      λ reached. (frozen.bits block).1 (subst (λ file. Contains (reach r file) block) of.inode_file reached),
+      λ is. subst (λ (f : BlockTree). Contains (reach r f) block) (sym of.inode_file) ((frozen.bits block).0 is),
+      λ reached. (frozen.bits block).1 (subst (λ (f : BlockTree). Contains (reach r f) block) of.inode_file reached),
     )
 
     -- the tree of a snapshot from before stays
@@ -184,9 +198,9 @@ module _ (n : ℕ) (s : Store) (root : RootBody) (words : List ℕ) (layer : Lay
         let k : Rooted = record { bit = (reached_by r next block among).0; inodes = by.inodes } in
         ⊎_elim
         (λ (new : by.inodes ≡ next.inode_file). ⊎_elim
-        (λ old. inl (Contains-append_left (reach s root.inode_file) (frozen_reach s root.snapshots) block old))
+        (λ old. inl (file_reach block old))
         (λ added. inr (subst (λ (numbers : List ℕ). Contains numbers block) (sym (numbers_same built.blocks.items)) added))
-        (frozen.within block (subst (λ file. Contains (reach r file) block) (new ∙ of.inode_file) by.reached)))
+        (frozen.within block (subst (λ (f : BlockTree). Contains (reach r f) block) (new ∙ of.inode_file) by.reached)))
         (λ old. inl (Contains-append_right (reach s root.inode_file) (frozen_reach s root.snapshots) block
         (frozen_has s root.snapshots k old block (subst (λ (blocks : List ℕ). Contains blocks block) (old_reaches k old) by.reached))))
         (of_next k by.among)
@@ -236,7 +250,7 @@ module _ (n : ℕ) (s : Store) (root : RootBody) (words : List ℕ) (layer : Lay
         among = more_among live (map frozen_root next.snapshots) (record { bit = k; inodes = next.inode_file }) made.among;
         reached = (live_told block).0 (sym (made.told block) ∙ is);
       },
-      λ by. made.told block ∙ (live_told block).1 (subst (λ file. Contains (reach r file) block) (made.alone by.inodes (frozen_only next k by.inodes other by.among)) by.reached),
+      λ by. made.told block ∙ (live_told block).1 (subst (λ (f : BlockTree). Contains (reach r f) block) (made.alone by.inodes (frozen_only next k by.inodes other by.among)) by.reached),
     )
 
     bit_told : (block k : ℕ) → block < 1024 * map_blocks n → k ≢ 0 → Becomes words built.map root next k → IsTold block k
@@ -257,7 +271,7 @@ module _ (n : ℕ) (s : Store) (root : RootBody) (words : List ℕ) (layer : Lay
         each block within zero = live_bit block
         each block within (suc k) = bit_told block (suc k) within (λ is. omega (arith, is)) (becomes (suc k) (λ is. omega (arith, is)))
 
-  pub builds_are_built : IsBuilt n s root (trees_behind asked (record { live = through layer (image s root.inode_file); frozen = frozen_of s root.snapshots })) (plan_of built next)
+  pub builds_are_built : IsBuilt n s root (trees_built asked (through layer (image s file)) (frozen_of s root.snapshots)) (plan_of built next)
   builds_are_built = record {
     fits = of.body;
     later = omega (arith, of.generation);
@@ -266,7 +280,7 @@ module _ (n : ℕ) (s : Store) (root : RootBody) (words : List ℕ) (layer : Lay
     once = subst IsStrictlyIncreasing (sym (numbers_same built.blocks.items)) of.well.rise;
     whole = of.whole;
     tree = tree_is;
-    frozen = λ r same holds. frozen_follow asked bit s r root next (through layer (image s root.inode_file)) same of.snapshots (tree_is r same holds);
+    frozen = λ r same holds. frozen_follow asked bit s r root next (through layer (image s file)) same of.snapshots (tree_is r same holds);
     sound = λ r same holds. written_sound r next.inode_file (live_sound r same holds);
     reach = reaches;
   }

@@ -11,20 +11,22 @@ use Rattle.sn_layout.specs.declared.tree.BlockTree.{BlockTree}
 use Rattle.sn_layout.specs.RootBody.{IsRootBody}
 use Rattle.sn_layout.specs.Snapshot.{are_distinct, are_rising, are_within, has_no_bit, with_snapshot}
 use Rattle.sn_model.specs.declared.outcome.AskedPoint.{AskedPoint}
-use Rattle.sn_model.specs.declared.outcome.AskedPoint.TheVariants.{Unasked, Plain, Freezes, Thaws}
+use Rattle.sn_model.specs.declared.outcome.AskedPoint.TheVariants.{Unasked, Plain, Freezes, Thaws, Restores}
 use Rattle.sn_model.specs.Tree.{Tree}
+use Rattle.sn_model.specs.World.{Trees}
 use Rattle.sn_image.specs.Image.{image}
 use Rattle.sn_ondisk.specs.TreeLaws.{SameIn}
 use Rattle.sn_ondisk.specs.Trees.{Store}
 use Rattle.sn_opening.specs.Worlds.{FrozenTrees, all_reach, frozen_of}
 use Rattle.sn_snap.specs.Catalogue.{IsCatalogue, entry_of, others_than}
 use Rattle.sn_snap.proofs.NameLemmas.{absent, by_name-others, by_name-with, has_name, itself, same_bytes}
-use Rattle.sn_sound.specs.Maps.{Rooted, frozen_root}
+use Rattle.sn_sound.specs.Maps.{Rooted, frozen_root, rooted_in}
 use Rattle.sn_sound.proofs.StandingLemmas.{first_among, more_among}
 use Rattle.sn_tree.proofs.ListLemmas.{mapped_there}
 use Rattle.sn_cp.proofs.NextLemmas.{frozen_stay}
 use Rattle.sn_cp_build.specs.Edits as edits
-use Rattle.sn_cp_held.specs.Snapshots.{FollowsBy, HasOneLess, HasOneMore, edit_for, frozen_behind, new_snapshot}
+use Rattle.sn_cp_build.specs.Edits.{base_bit}
+use Rattle.sn_cp_held.specs.Snapshots.{BeginsFrom, FollowsBy, HasOneLess, HasOneMore, edit_for, frozen_behind, live_behind, new_snapshot, trees_behind, trees_built}
 
 -- ---- one in front of a list
 
@@ -94,12 +96,32 @@ one_of_bit before (z ∷ zs) rises x y has_x has_y same = told (first_or_more z 
     told (inr more) (inl first) rest = absurd (omega (arith, above x more, same, ap (λ (w : Snapshot). w.bit) first))
     told (inr more) (inr also) rest = rest more also
 
+-- of all roots of a root body a bit is one's
+pub one_root : (root : RootBody) → IsRootBody root → (x y : Rooted) → Contains (rooted_in root) x → Contains (rooted_in root) y → x.bit ≡ y.bit → x ≡ y
+one_root root body x y has_x has_y same = told (first_or_more (record { bit = 0; inodes = root.inode_file }) (map frozen_root root.snapshots) x has_x) (first_or_more (record { bit = 0; inodes = root.inode_file }) (map frozen_root root.snapshots) y has_y)
+  where
+    above : (w : Rooted) → Contains (map frozen_root root.snapshots) w → 0 < w.bit
+    above w among = rises_above 0 root.snapshots (catalogue_of body).rising w among
+
+    both : Contains (map frozen_root root.snapshots) x → Contains (map frozen_root root.snapshots) y → x ≡ y
+    both in_x in_y =
+        let of_x = of_root root.snapshots x in_x in
+        let of_y = of_root root.snapshots y in_y in
+        let bits = ap (λ (w : Rooted). w.bit) of_x.root ∙ same ∙ ap (λ (w : Rooted). w.bit) (sym of_y.root) in
+        sym of_x.root ∙ ap frozen_root (one_of_bit 0 root.snapshots (catalogue_of body).rising of_x.snapshot of_y.snapshot of_x.among of_y.among bits) ∙ of_y.root
+
+    told : (x ≡ record { bit = 0; inodes = root.inode_file }) ⊎ Contains (map frozen_root root.snapshots) x → (y ≡ record { bit = 0; inodes = root.inode_file }) ⊎ Contains (map frozen_root root.snapshots) y → x ≡ y
+    told (inl is) (inl also) = is ∙ sym also
+    told (inl is) (inr more) = absurd (omega (arith, above y more, same, ap (λ (w : Rooted). w.bit) is))
+    told (inr more) (inl is) = absurd (omega (arith, above x more, same, ap (λ (w : Rooted). w.bit) is))
+    told (inr more) (inr also) = both more also
+
 named_among : (name : List ℕ) (snapshots : List Snapshot) (x : Snapshot) → Contains snapshots x → name ≡ x.name → has_name name snapshots ≡ true
 named_among name snapshots x (i, within, is) named =
     list_any_at (λ (other : Snapshot). bytes_eq name other.name) snapshots i x within (ap (λ (y : Snapshot). bytes_eq name y.name) is ∙ ap (bytes_eq name) (sym named) ∙ itself name)
 
 -- a name is one snapshot's, where no two have one
-one_of_name : (snapshots : List Snapshot) → are_distinct snapshots ≡ true → (x y : Snapshot) → Contains snapshots x → Contains snapshots y → x.name ≡ y.name → x ≡ y
+pub one_of_name : (snapshots : List Snapshot) → are_distinct snapshots ≡ true → (x y : Snapshot) → Contains snapshots x → Contains snapshots y → x.name ≡ y.name → x ≡ y
 one_of_name [] distinct x y (i, within, is) has_y same = absurd (omega (arith, within))
 one_of_name (z ∷ zs) distinct x y has_x has_y same = told (first_or_more z zs x has_x) (first_or_more z zs y has_y) (λ more also. one_of_name zs later x y more also same)
   where
@@ -290,12 +312,34 @@ each_bit Unasked bit words new root next body follows edited k other = with_none
 each_bit Plain bit words new root next body follows edited k other = with_none words new root next k other follows edited
 each_bit (Freezes name) bit words new root next body follows edited k other = with_one words new root next k other name bit follows edited
 each_bit (Thaws name) bit words new root next body follows edited k other = without_one words new root next k other name bit (catalogue_of body) follows edited
+each_bit (Restores name) bit words new root next body follows edited k other = with_none words new root next k other follows edited
+
+pub live_among : (root : RootBody) (file : BlockTree) → file ≡ root.inode_file → Contains (rooted_in root) (record { bit = 0; inodes = file })
+live_among root file is = subst (λ (f : BlockTree). Contains (rooted_in root) (record { bit = 0; inodes = f })) (sym is) (first_among (record { bit = 0; inodes = root.inode_file }) (map frozen_root root.snapshots))
+
+-- what a build begins from is of one of the roots
+pub begins_among : (asked : AskedPoint) (bit : ℕ) (root : RootBody) (file : BlockTree) → BeginsFrom asked bit root file → Contains (rooted_in root) (record { bit = base_bit (edit_for asked bit); inodes = file })
+begins_among Unasked bit root file is = live_among root file is
+begins_among Plain bit root file is = live_among root file is
+begins_among (Freezes name) bit root file is = live_among root file is
+begins_among (Thaws name) bit root file is = live_among root file is
+begins_among (Restores name) bit root file among =
+    more_among (record { bit = 0; inodes = root.inode_file }) (map frozen_root root.snapshots) (record { bit = bit; inodes = file }) (root_among root.snapshots (record { bit = bit; name = name; tree = file }) among)
+
+-- built for the live tree behind it, the trees are those behind it
+pub built_behind : (asked : AskedPoint) (trees : Trees) → trees_built asked (live_behind asked trees) trees.frozen ≡ trees_behind asked trees
+built_behind Unasked trees = refl
+built_behind Plain trees = refl
+built_behind (Freezes name) trees = refl
+built_behind (Thaws name) trees = refl
+built_behind (Restores name) trees = refl
 
 -- the trees that its snapshots stand for, where its inode file is of this live tree
 pub frozen_follow : (asked : AskedPoint) (bit : ℕ) (s r : Store) (root next : RootBody) (live : Tree) → SameIn (all_reach s root) s r → FollowsBy asked bit root next → image r next.inode_file ≡ live
     → frozen_of r next.snapshots ≡ frozen_behind asked live (frozen_of s root.snapshots)
 frozen_follow Unasked bit s r root next live same follows tree = ap (frozen_of r) follows ∙ sym (frozen_stay s r root same)
 frozen_follow Plain bit s r root next live same follows tree = ap (frozen_of r) follows ∙ sym (frozen_stay s r root same)
+frozen_follow (Restores name) bit s r root next live same follows tree = ap (frozen_of r) follows ∙ sym (frozen_stay s r root same)
 frozen_follow (Freezes name) bit s r root next live same follows tree =
     ap (frozen_of r) follows.snapshots
     ∙ by_name-with (λ (x : Snapshot). image r x.tree) (new_snapshot name bit next) root.snapshots (absent entry_of root.snapshots name follows.new.name)

@@ -154,15 +154,15 @@ module _ (old new : Disk) (world : World) (im : IsImage (reads old) world) (k : 
       image_shown n s k.slot k.root k.words older newer world im.opens.older_spelled im.opens.newer_spelled replayed_stands.sound stands all_fits age c a.disk a.formatted a.map
       (each_half n k.root.epoch (λ (b : ℕ). HasNoLater c b (k.root.epoch + 1)) a.own a.other) shows
 
-  module _ (gate : Gate) (built : Built) (next : RootBody) (x : IsBuiltOf n (reads old) Recovery k Plain 0 built next) where
+  module _ (gate : Gate) (built : Built) (next : RootBody) (x : IsBuiltOf n (reads old) Recovery k k.root.inode_file Plain 0 built next) where
     abbrev w : Work
     w = work_for n k gate built next
 
     is_built : IsBuilt n s k.root (trees_of world) (plan_of built next)
-    is_built = made n (reads old) world k replayed_stands Recovery Plain 0 built next x
+    is_built = made n (reads old) world k k.root.inode_file world.live replayed_stands Recovery Plain 0 built next x refl
 
     whole_point : IsWhole w
-    whole_point = whole_work n (reads old) world k replayed_stands Recovery Plain 0 built next x (other_slot k.slot) gate
+    whole_point = whole_work n (reads old) world k k.root.inode_file world.live replayed_stands Recovery Plain 0 built next x refl (other_slot k.slot) gate
 
     next_limits : next.limits ≡ limits_written
     next_limits = ap (λ (b : RootBody). b.limits) x.is
@@ -185,7 +185,7 @@ module _ (old new : Disk) (world : World) (im : IsImage (reads old) world) (k : 
 
     module _ (t : Store) (same : SameIn (all_reach s k.root) s t) (holds : HoldsAll t (plan_of built next).blocks) where
       tree_is : image t next.inode_file ≡ world.live
-      tree_is = new_tree n (reads old) world k replayed_stands Recovery Plain 0 built next x t same holds
+      tree_is = new_tree n (reads old) world k k.root.inode_file world.live replayed_stands Recovery Plain 0 built next x refl t same holds
 
       frozen_is : world.frozen ≡ frozen_of t next.snapshots
       frozen_is = sym (is_built.frozen t same holds)
@@ -208,7 +208,7 @@ module _ (old new : Disk) (world : World) (im : IsImage (reads old) world) (k : 
 
       next_fits : Fits next.limits [] (image t next.inode_file) (free_blocks n t next)
       next_fits =
-          let charged = live.charged n (reads old) world k replayed_stands Recovery Plain 0 built next x t same holds (omega (arith, none_nameless)) in
+          let charged = live.charged n (reads old) world k k.root.inode_file world.live replayed_stands Recovery Plain 0 built next x refl t same holds (omega (arith, none_nameless)) in
           subst (λ (l : Limits). Fits l [] (image t next.inode_file) (free_blocks n t next)) (sym next_limits)
           (subst (Fits limits_written [] (image t next.inode_file)) charged.free charged.fits)
 
@@ -243,7 +243,7 @@ module _ (old new : Disk) (world : World) (im : IsImage (reads old) world) (k : 
         };
         words = built.map;
         map = shows.map;
-        sound = sound_next n (reads old) world k replayed_stands Recovery Plain 0 built next x (store_of c) shows.same shows.blocks;
+        sound = sound_next n (reads old) world k k.root.inode_file world.live replayed_stands Recovery Plain 0 built next x refl (store_of c) shows.same shows.blocks;
         none_later = none_after c a;
         fits = next_fits (store_of c) shows.same shows.blocks;
         age = λ recovers. absurd (nothing_left (store_of c) shows.same shows.blocks recovers);
@@ -275,7 +275,7 @@ module _ (old new : Disk) (world : World) (im : IsImage (reads old) world) (k : 
       recovered = OnOk-both result recovered_on finishes.done either.done
 
 pub recoveries_leave_the_world : (old new : Disk) (world : World) (im : IsImage (reads old) world) (k : Kept) (gate : Gate) (built : Built) (next : RootBody) (result : Result (Unit {0}) Fault) → HasReplayed old world im k
-    → IsBuiltOf im.blocks (reads old) Recovery k Plain 0 built next → AreSectors (reads new) → Finishes (work_for im.blocks k gate built next) result old new
+    → IsBuiltOf im.blocks (reads old) Recovery k k.root.inode_file Plain 0 built next → AreSectors (reads new) → Finishes (work_for im.blocks k gate built next) result old new
     → LeavesOnly old new (λ c. IsImage c world) × OnOk result (IsRecovered new world (work_for im.blocks k gate built next))
 recoveries_leave_the_world old new world im k gate built next result replayed is whole finishes =
     (recovery_leaves old new world im k replayed gate built next is result whole finishes, recovered old new world im k replayed gate built next is result whole finishes)

@@ -1,15 +1,14 @@
 -- What a build leaves free.
-use Rattle.std.proofs.Common.{◌≡◌, ⊎_elim, ℕ, zero, suc, ◌+◌, ◌-◌, ◌<◌, ◌≤◌, ◌==◌, Bool, true, false, not, cond, ◌&&◌, List, [], ◌∷◌, length, map, count_by, slice_index, Contains, refl, sym, ap, subst, ◌∙◌, arith}
+use Rattle.std.proofs.Common.{◌≡◌, ⊎_elim, ℕ, zero, suc, ◌+◌, ◌-◌, ◌<◌, ◌≤◌, ◌==◌, Bool, true, false, not, cond, ◌&&◌, List, [], ◌∷◌, length, count_by, slice_index, Contains, refl, sym, ap, subst, ◌∙◌, arith}
 use Rattle.std.specs.List.{range_with_len}
 use Rattle.std.specs.Int.{w32, trailing_zeros}
 use Rattle.std.proofs.lemmas.Bool.{eq-eqb, eqb-true, false≢true}
-use Rattle.std.proofs.lemmas.List.Elements.{Contains-append_left, Contains-append_right}
 use Rattle.std.proofs.lemmas.List.Sums.{sum_by-cons}
 use Rattle.std.proofs.lemmas.Nat.Bits.{bit_at-trailing_zeros}
-use Rattle.sn_image.specs.Reach.{reach}
 use Rattle.sn_image.proofs.ListLemmas.{range-from}
 use Rattle.sn_layout.specs.declared.geometry.Area.TheVariants.{Data}
 use Rattle.sn_layout.specs.declared.root.RootBody.{RootBody}
+use Rattle.sn_layout.specs.declared.tree.BlockTree.{BlockTree}
 use Rattle.sn_layout.specs.Geometry.{start_of}
 use Rattle.sn_model.specs.declared.outcome.AskedPoint.{AskedPoint}
 use Rattle.sn_model.proofs.ChainLemmas.{and_left, and_right}
@@ -18,13 +17,13 @@ use Rattle.sn_ondisk.specs.Trees.{Store}
 use Rattle.sn_opening.specs.Points.{HoldsAll}
 use Rattle.sn_opening.specs.Worlds.{all_reach}
 use Rattle.sn_overlay.specs.Layers.{Layer}
-use Rattle.sn_sound.specs.Maps.{IsReachedBy, Rooted, free_blocks, frozen_root, rooted_in}
+use Rattle.sn_sound.specs.Maps.{free_blocks}
 use Rattle.sn_sound.proofs.FreeLemmas.{free_counted}
 use Rattle.sn_tree.specs.Drafts.{numbers_of}
 use Rattle.sn_tree.specs.declared.new_block.NewBlock.{NewBlock}
 use Rattle.sn_cp_build.specs.declared.building.Built.{Built}
 use Rattle.sn_cp_held.specs.Builds.{IsOfBuild, plan_of}
-use Rattle.sn_cp_held.proofs.BuildLemmas.{builds_are_sound, free_apart, frozen_has, frozen_reach, numbers_same, reaches}
+use Rattle.sn_cp_held.proofs.BuildLemmas.{builds_are_sound, free_apart, numbers_same, reached_among, reaches}
 use Rattle.sn_cp_held.proofs.EditLemmas.{first_or_more}
 
 -- ---- counting with some numbers left out
@@ -112,15 +111,7 @@ dropped_is (x ∷ xs) p b is =
 
 -- ---- what is reached
 
-reached_among : (s : Store) (root : RootBody) (block k : ℕ) → IsReachedBy s (rooted_in root) block k → Contains (all_reach s root) block
-reached_among s root block k by =
-    let live : Rooted = record { bit = 0; inodes = root.inode_file } in
-    ⊎_elim
-    (λ (here : record { bit = k; inodes = by.inodes } ≡ live). Contains-append_left (reach s root.inode_file) (frozen_reach s root.snapshots) block (subst (λ (y : Rooted). Contains (reach s y.inodes) block) here by.reached))
-    (λ more. Contains-append_right (reach s root.inode_file) (frozen_reach s root.snapshots) block (frozen_has s root.snapshots (record { bit = k; inodes = by.inodes }) more block by.reached))
-    (first_or_more live (map frozen_root root.snapshots) (record { bit = k; inodes = by.inodes }) by.among)
-
-module _ (n : ℕ) (s : Store) (root : RootBody) (words : List ℕ) (layer : Layer) (asked : AskedPoint) (bit : ℕ) (built : Built) (next : RootBody) (of : IsOfBuild n s root words layer asked bit built next)
+module _ (n : ℕ) (s : Store) (root : RootBody) (words : List ℕ) (file : BlockTree) (layer : Layer) (asked : AskedPoint) (bit : ℕ) (built : Built) (next : RootBody) (of : IsOfBuild n s root words file layer asked bit built next)
     (r : Store) (same : SameIn (all_reach s root) s r) (holds : HoldsAll r (plan_of built next).blocks) where
   abbrev area : List ℕ
   area = range_with_len (start_of n Data) (n - start_of n Data)
@@ -138,11 +129,11 @@ module _ (n : ℕ) (s : Store) (root : RootBody) (words : List ℕ) (layer : Lay
           let within = range-from (start_of n Data) (n - start_of n Data) block among in
           let inside : block < n = omega (arith, within.0, within.1) in
           let low = bit_at-trailing_zeros w32 (slice_index built.map block) (omega (arith, is)) (of.numbers block) in
-          let by = (((builds_are_sound n s root words layer asked bit built next of r same holds).map block (omega (arith, inside))).bits (trailing_zeros w32 (slice_index built.map block))).0 low.1 in
+          let by = (((builds_are_sound n s root words file layer asked bit built next of r same holds).map block (omega (arith, inside))).bits (trailing_zeros w32 (slice_index built.map block))).0 low.1 in
           absurd (⊎_elim
           (λ before. free_apart n s root words block of.sound of.count (omega (arith, inside, of.count)) free before)
           (λ added. old (subst (λ (numbers : List ℕ). Contains numbers block) (numbers_same built.blocks.items) added))
-          (reaches n s root words layer asked bit built next of r same holds block (reached_among r next block (trailing_zeros w32 (slice_index built.map block)) by)))
+          (reaches n s root words file layer asked bit built next of r same holds block (reached_among r next block (trailing_zeros w32 (slice_index built.map block)) by)))
 
   pub builds_leave_room : free_blocks n s root ≤ free_blocks n r next + length built.blocks.items
   builds_leave_room =
@@ -153,7 +144,7 @@ module _ (n : ℕ) (s : Store) (root : RootBody) (words : List ℕ) (layer : Lay
       omega (
         arith,
         free_counted n s root (slice_index words) of.sound,
-        free_counted n r next (slice_index built.map) (builds_are_sound n s root words layer asked bit built next of r same holds),
+        free_counted n r next (slice_index built.map) (builds_are_sound n s root words file layer asked bit built next of r same holds),
         few,
         fewer,
         counted built.blocks.items,
