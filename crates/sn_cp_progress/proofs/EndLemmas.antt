@@ -47,11 +47,11 @@ use Rattle.sn_cp.specs.declared.stage.Stage.{Stage}
 use Rattle.sn_cp.specs.declared.stage.Stage.TheVariants.{Bodied, Done}
 use Rattle.sn_cp.proofs.NextLemmas.{done_points_stand}
 use Rattle.sn_cp.proofs.ShowLemmas.{opening_shows}
-use Rattle.sn_cp_held.specs.Snapshots.{trees_behind}
+use Rattle.sn_cp_held.specs.Snapshots.{live_behind, trees_behind}
 use Rattle.sn_cp_held.specs.Wholes.{HasBegun, IsOfLive}
 use Rattle.sn_cp_held.proofs.WholeLemmas.{later_weaker}
 use Rattle.sn_cp_progress.specs.Meaning.{EitherImage}
-use Rattle.sn_cp_progress.specs.Progress.{Progress, RunsOn, kept_behind, world_behind}
+use Rattle.sn_cp_progress.specs.Progress.{Progress, RunsOn, RunsTo, kept_behind, world_behind, world_to}
 use Rattle.sn_cp_progress.proofs.StepLemmas.{LiesAround, around_stays, around_then, beside, in_point, none_behind, old_image}
 
 -- ---- the beginning
@@ -114,7 +114,7 @@ module _ (h : Held) (world : World) (k : Kept) (ready : RunsReady h world k) (as
     frozen = old.frozen;
   }
 
-  begins_on : RunsOn (record h { room = begun h.room; at = first_of geometry (old.root.epoch + 1); base = record k { changed = no_changes }; disk = d }) world (record { work = w; stage = stage; trees = trees_behind asked (trees_of world); free = free })
+  begins_on : RunsTo (record h { room = begun h.room; at = first_of geometry (old.root.epoch + 1); base = record k { changed = no_changes }; disk = d }) world (live_behind asked (trees_of world)) (record { work = w; stage = stage; trees = trees_behind asked (trees_of world); free = free })
   unfolding begins_runs
   begins_on = record {
     runs = begins_runs;
@@ -125,24 +125,24 @@ module _ (h : Held) (world : World) (k : Kept) (ready : RunsReady h world k) (as
       epoch = refl;
       ready = λ c crash. (has.around c crash).ready;
       none_later = λ c crash. (has.around c crash).none_later;
-      cover = covers_alone world.live;
+      cover = covers_alone (live_behind asked (trees_of world));
       charged = of.charged;
       takes = of.takes;
       slot = ready.ready.slot;
       root = ready.ready.root;
-      changed = nothing_changed limits_written world.live;
-      tree = ready.ready.tree;
+      changed = nothing_changed limits_written (live_behind asked (trees_of world));
+      tree = of.tree;
     };
   }
 
 pub point_begins : (h : Held) (world : World) (k : Kept) (r : RunsReady h world k) (asked : AskedPoint) (w : Work) (free : ℕ) (stage : Stage) (d : Disk) → IsOfLive h world r.runs asked w (fresh free) → AreSectors (reads d)
     → HasBegun h world r.runs d → IsWithin w stage → StandsAtStage w stage d
-    → RunsOn (record h { room = begun h.room; at = first_of h.at.blocks (r.runs.root.epoch + 1); base = record k { changed = no_changes }; disk = d }) world (record { work = w; stage = stage; trees = trees_behind asked (trees_of world); free = free })
+    → RunsTo (record h { room = begun h.room; at = first_of h.at.blocks (r.runs.root.epoch + 1); base = record k { changed = no_changes }; disk = d }) world (live_behind asked (trees_of world)) (record { work = w; stage = stage; trees = trees_behind asked (trees_of world); free = free })
 point_begins h world k ready asked w free stage d of whole has within stands = begins_on h world k ready asked w free stage d of whole has within stands
 
 -- ---- the steps that end with the last one
 
-module _ (h : Held) (world : World) (p : Progress) (ro : RunsOn h world p) (result : Result (Unit {0}) Fault) (d : Disk) (whole : AreSectors (reads d)) (touched : Touches (InPoint p.work) h.disk d) (reached : OnOk result (StandsAtStage p.work Done d))
+module _ (h : Held) (world : World) (live : Tree) (p : Progress) (ro : RunsTo h world live p) (result : Result (Unit {0}) Fault) (d : Disk) (whole : AreSectors (reads d)) (touched : Touches (InPoint p.work) h.disk d) (reached : OnOk result (StandsAtStage p.work Done d))
     (either : LeavesEither result h.disk d (Shows p.work.blocks ro.runs.store ro.runs.slot ro.runs.root ro.runs.older ro.runs.newer) (ShowsNext p.work ro.runs.store ro.runs.root ro.runs.newer [])) where
   abbrev n : ℕ
   n = h.at.blocks
@@ -154,7 +154,7 @@ module _ (h : Held) (world : World) (p : Progress) (ro : RunsOn h world p) (resu
   r = ro.runs
 
   abbrev after : World
-  after = world_behind p world
+  after = world_to live p world
 
   abbrev around : Contents → Type 0
   around = LiesAround n r.slot r.words r.root.epoch h.at r.newer
@@ -167,14 +167,14 @@ module _ (h : Held) (world : World) (p : Progress) (ro : RunsOn h world p) (resu
     next_tree : image t w.plan.next.inode_file ≡ p.trees.live
     next_tree = ro.point.of.built.tree t same holds
 
-    next_cover : MakesCover limits_written (r.newer ++ []) (image t w.plan.next.inode_file) world.live
-    next_cover = subst (λ (cs : List Change). MakesCover limits_written cs (image t w.plan.next.inode_file) world.live) (sym (append-nil r.newer)) (subst (λ (from : Tree). MakesCover limits_written r.newer from world.live) (sym next_tree) ro.point.cover)
+    next_cover : MakesCover limits_written (r.newer ++ []) (image t w.plan.next.inode_file) live
+    next_cover = subst (λ (cs : List Change). MakesCover limits_written cs (image t w.plan.next.inode_file) live) (sym (append-nil r.newer)) (subst (λ (from : Tree). MakesCover limits_written r.newer from live) (sym next_tree) ro.point.cover)
 
     next_frozen : p.trees.frozen ≡ frozen_of t w.plan.next.snapshots
     next_frozen = sym (ro.point.of.built.frozen t same holds)
 
-    next_charged : IsCharged (done p.free h.room) n t w.plan.next (r.newer ++ []) world.live
-    next_charged = subst (λ (cs : List Change). IsCharged (done p.free h.room) n t w.plan.next cs world.live) (sym (append-nil r.newer)) (ro.point.charged t same holds)
+    next_charged : IsCharged (done p.free h.room) n t w.plan.next (r.newer ++ []) live
+    next_charged = subst (λ (cs : List Change). IsCharged (done p.free h.room) n t w.plan.next cs live) (sym (append-nil r.newer)) (ro.point.charged t same holds)
 
     next_stands : StandsFor t w.plan.next (r.newer ++ []) (settle after)
     next_stands = stands_of t w.plan.next (r.newer ++ []) after next_limits next_cover next_frozen
@@ -258,7 +258,7 @@ module _ (h : Held) (world : World) (p : Progress) (ro : RunsOn h world p) (resu
             slot = refl;
             root = refl;
             words = refl;
-            changed = subst (λ (from : Tree). HasChanged limits_written h.base.changed from world.live h.room.charged_since) (sym (next_tree t now.same now.blocks)) ro.point.changed;
+            changed = subst (λ (from : Tree). HasChanged limits_written h.base.changed from live h.room.charged_since) (sym (next_tree t now.same now.blocks)) ro.point.changed;
             tree = ro.point.tree;
           };
         }
@@ -274,10 +274,12 @@ module _ (h : Held) (world : World) (p : Progress) (result : Result (Unit {0}) F
       let last = subst (λ (stage : Stage). StepsTo p.work stage result h.disk d) is_last step in
       let touched = in_point h world p ro result d whole step in
       let either = opening_shows p.work ro.point.of.whole old.store old.slot old.root old.older old.newer old.newer [] result h.disk d old.stands.disk.whole (beside h world p ro) stands last in
-      (last_leaves h world p ro result d whole touched last.next either, last_ends h world p ro result d whole touched last.next either)
+      (last_leaves h world world.live p ro result d whole touched last.next either, last_ends h world world.live p ro result d whole touched last.next either)
 
-  pub point_finishes : Finishes p.work result h.disk d → LeavesOnly h.disk d (EitherImage world (world_behind p world)) × OnOk result (RunsReady (record h { world = world_behind p world; room = done p.free h.room; disk = d }) (world_behind p world) (kept_behind h p))
-  point_finishes all =
-      let old = ro.runs in
-      let either = all.shown old.store old.slot old.root old.older old.newer old.newer [] (beside h world p ro) in
-      (last_leaves h world p ro result d whole all.touched all.done either, last_ends h world p ro result d whole all.touched all.done either)
+-- whichever live tree it leads to
+pub point_finishes : (h : Held) (world : World) (live : Tree) (p : Progress) (result : Result (Unit {0}) Fault) (d : Disk) → RunsTo h world live p → AreSectors (reads d) → Finishes p.work result h.disk d
+    → LeavesOnly h.disk d (EitherImage world (world_to live p world)) × OnOk result (RunsReady (record h { world = world_to live p world; room = done p.free h.room; disk = d }) (world_to live p world) (kept_behind h p))
+point_finishes h world live p result d ro whole all =
+    let old = ro.runs in
+    let either = all.shown old.store old.slot old.root old.older old.newer old.newer [] (beside h world p ro) in
+    (last_leaves h world live p ro result d whole all.touched all.done either, last_ends h world live p ro result d whole all.touched all.done either)

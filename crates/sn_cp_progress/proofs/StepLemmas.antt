@@ -15,6 +15,7 @@ use Rattle.sn_layout.specs.Superblock.{superblock_bytes}
 use Rattle.sn_log.specs.Positions.{IsReadyAt, LogPosition, base_at, payloads_of}
 use Rattle.sn_model.specs.declared.change.Change.{Change}
 use Rattle.sn_model.specs.Settling.{settle}
+use Rattle.sn_model.specs.Tree.{Tree}
 use Rattle.sn_model.specs.World.{World}
 use Rattle.sn_ondisk.specs.Blocks.{block_at}
 use Rattle.sn_ondisk.specs.LogHalf.{HasNoLater, base_of}
@@ -38,7 +39,7 @@ use Rattle.sn_cp.proofs.AroundLemmas.{stays_apart}
 use Rattle.sn_cp.proofs.CountLemmas.{stage_goes_on, stage_next}
 use Rattle.sn_cp.proofs.ShowLemmas.{ordinary_show, steps_keep}
 use Rattle.sn_cp_held.proofs.WholeLemmas.{later_weaker}
-use Rattle.sn_cp_progress.specs.Progress.{InProgress, Progress, RunsOn}
+use Rattle.sn_cp_progress.specs.Progress.{LeadsTo, Progress, RunsTo}
 
 -- ---- what no step touches
 
@@ -86,7 +87,7 @@ next_within w stage whole within before = stage_goes_on w (next_stage w stage) (
     never Bodied before is = absurd before
     never Done before is = absurd before
 
-module _ (h : Held) (world : World) (p : Progress) (ro : RunsOn h world p) where
+module _ {live : Tree} (h : Held) (world : World) (p : Progress) (ro : RunsTo h world live p) where
   abbrev pub n : ℕ
   n = h.at.blocks
 
@@ -96,7 +97,7 @@ module _ (h : Held) (world : World) (p : Progress) (ro : RunsOn h world p) where
   abbrev pub r : Runs h world
   r = ro.runs
 
-  abbrev pub q : InProgress h world r p
+  abbrev pub q : LeadsTo h world r live p
   q = ro.point
 
   pub lie : LieInData n (all_reach r.store r.root)
@@ -196,7 +197,7 @@ module _ (h : Held) (world : World) (p : Progress) (ro : RunsOn h world p) where
         frozen = r.frozen;
       }
 
-      then_on : StandsAtStage w (next_stage w p.stage) d → RunsOn (record h { disk = d }) world (record p { stage = next_stage w p.stage })
+      then_on : StandsAtStage w (next_stage w p.stage) d → RunsTo (record h { disk = d }) world live (record p { stage = next_stage w p.stage })
       unfolding then_runs
       then_on stands = record {
         runs = then_runs;
@@ -217,5 +218,5 @@ module _ (h : Held) (world : World) (p : Progress) (ro : RunsOn h world p) where
         };
       }
 
-      pub step_goes_on : OnOk result (RunsOn (record h { disk = d }) world (record p { stage = next_stage w p.stage }))
+      pub step_goes_on : OnOk result (RunsTo (record h { disk = d }) world live (record p { stage = next_stage w p.stage }))
       step_goes_on = OnOk-then result then_on step.next

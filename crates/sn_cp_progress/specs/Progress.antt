@@ -73,7 +73,6 @@ RunsOn h world p = RunsTo h world world.live p
 abbrev pub world_to : Tree → Progress → World → World
 world_to live p world = record world { live = live; frozen = p.trees.frozen }
 
-
 -- the world once the point is done: its frozen trees are those of the point's root
 abbrev pub world_behind : Progress → World → World
 world_behind p world = record world { frozen = p.trees.frozen }

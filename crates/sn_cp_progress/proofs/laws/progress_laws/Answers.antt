@@ -13,7 +13,7 @@ pub returns-clause-ends : goal.returns-clause-ends
 returns-clause-ends c h world p result d ro whole is_last step = point_ends h world p result d ro whole is_last step
 
 pub returns-clause-finishes : goal.returns-clause-finishes
-returns-clause-finishes c h world p result d ro whole all = point_finishes h world p result d ro whole all
+returns-clause-finishes c = point_finishes
 
 pub returns-clause-fits : goal.returns-clause-fits
 returns-clause-fits c = fits_on_next
