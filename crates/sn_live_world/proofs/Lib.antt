@@ -1,4 +1,5 @@
 pub mod DropLemmas
+pub mod RestoreLemmas
 pub mod TurnLemmas
 pub mod ChoiceLemmas
 pub mod CommitLemmas

@@ -15,9 +15,14 @@
 //! 3. [`LiveWorld::commit`] makes the change, and [`LiveWorld::set_caller`] sets what becomes of the caller, and takes
 //!    the files away that no name stands for and nobody has open any more. Both take no memory and can't fail.
 //!
-//! The way through it: `specs/World` says which world is shown, `specs/Faults` what a fault does to the device, and
-//! `specs/Turned` what a caller leaves. `world` has the state, and consistency points that begin and end; `deciding`,
-//! `choosing`, `changing` and `calling` have the parts of a call.
+//! A snapshot is brought back in two parts: [`prepare_restore`] reads and grows a live tree of the snapshot's tree, without its
+//! files without names, and [`LiveWorld::restore`] puts it in the live tree's place once a consistency point has made it a
+//! root. The second takes no memory and can't fail.
+//!
+//! The way through it: `specs/World` says which world is shown, `specs/Faults` what a fault does to the device,
+//! `specs/Turned` what a caller leaves, and `specs/Restored` what a snapshot is brought back as. `world` has the state, and
+//! `pointing` consistency points that begin and end; `deciding`, `choosing`, `changing` and `calling` have the parts of a
+//! call. `opening` makes the live tree of a root, and `restoring` brings a snapshot back.
 //!
 //! What the sources leave open is decided in `docs/DECISIONS.md`, under "Reading a root on demand".
 //!
@@ -32,9 +37,13 @@ mod changing;
 mod choosing;
 mod deciding;
 mod fault;
+mod opening;
 mod pointing;
+mod restoring;
 mod world;
 
 pub use choosing::Picked;
 pub use fault::{CallFault, LookFault};
+pub use opening::live_tree_of;
+pub use restoring::{RestoredTree, prepare_restore};
 pub use world::LiveWorld;
