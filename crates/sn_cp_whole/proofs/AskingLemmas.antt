@@ -1,11 +1,8 @@
 -- What the snapshots of a root body allow, and what a world whose frozen trees are theirs does.
-use Rattle.std.proofs.Common.{◌≡◌, ℕ, zero, suc, ◌+◌, ◌<◌, ◌≤◌, ◌&&◌, Bool, true, false, cond, not, List, [], ◌∷◌, length, Option, Some, None, Contains, refl, sym, ap, ◌∙◌, arith, true≢false, Bor}
+use Rattle.std.proofs.Common.{◌≡◌, ℕ, zero, suc, ◌+◌, ◌<◌, ◌≤◌, ◌&&◌, true, false, cond, not, List, [], ◌∷◌, length, Option, Some, None, Contains, refl, sym, ap, subst, ◌∙◌, arith, true≢false, Bor}
 use Rattle.std.specs.Option.{option_copied, option_map}
 use Rattle.std.specs.Prelude.{IsNone, is_some, nat_le, nat_lt, ◌↔◌}
-use Rattle.std.specs.Cmp.Lexicographic.{texts_ties}
 use Rattle.std.specs.FinMap as fin
-use Rattle.std.specs.FinMap.Entries.{find}
-use Rattle.std.specs.Ordering.{eq_by_cmp}
 use Rattle.std.proofs.lemmas.Bool.{and_parts, leb-true, ltb-true, not-true}
 use Rattle.sn_image.specs.Image.{image}
 use Rattle.sn_image.proofs.AllowedLemmas.{snapshots_stay}
@@ -17,15 +14,16 @@ use Rattle.sn_limits.specs.declared.limits.Limits.{Limits}
 use Rattle.sn_limits.specs.Versions.{Allows, limits_written}
 use Rattle.sn_limits.proofs.VersionLemmas.{fixed, written_allows}
 use Rattle.sn_model.specs.declared.outcome.AskedPoint.{AskedPoint}
-use Rattle.sn_model.specs.declared.outcome.AskedPoint.TheVariants.{Unasked, Plain, Freezes, Thaws}
+use Rattle.sn_model.specs.declared.outcome.AskedPoint.TheVariants.{Unasked, Plain, Freezes, Thaws, Restores}
 use Rattle.sn_model.specs.Tree.{Tree}
 use Rattle.sn_model.specs.World.{World}
 use Rattle.sn_ondisk.specs.Trees.{Store}
 use Rattle.sn_opening.specs.Worlds.{FrozenTrees, frozen_of}
-use Rattle.sn_sound.proofs.StandingLemmas.{first_among, more_among}
 use Rattle.sn_snap.specs.Catalogue.{Entry, IsCatalogue, by_name, catalogue, entry_of}
-use Rattle.sn_snap.proofs.NameLemmas.{by_bytes, get_is, has_name, named, names_total, same_bytes, told_by}
-use Rattle.sn_cp_whole.specs.Asking.{CanBeMade, CanBeMadeWith, HasSnapshot}
+use Rattle.sn_snap.proofs.NameLemmas.{by_bytes, get_is, has_name, named, names_total}
+use Rattle.sn_cp_build.specs.declared.edits.SnapshotEdit.TheVariants as edit
+use Rattle.sn_cp_held.proofs.RestoreLemmas.{stands_for}
+use Rattle.sn_cp_whole.specs.Asking.{CanBeMade, CanBeMadeWith, HasSnapshot, IsStartFor}
 use Rattle.sn_cp_whole.specs.Making.{CanBeAsked}
 
 -- ---- the snapshots of a root body
@@ -73,6 +71,7 @@ module _ (root : RootBody) (fits : IsRootBody root) where
     within = omega (arith, can.within, allows.bits);
   }
   made_written (Thaws name) bit can = can
+  made_written (Restores name) bit can = can
 
 bit_between : (before largest : ℕ) (snapshots : List Snapshot) (s : Snapshot) → are_rising before snapshots ≡ true → are_within largest snapshots ≡ true → Contains snapshots s → (before < s.bit) × (s.bit ≤ largest)
 bit_between before largest [] s rise small (k, within, is) = absurd (omega (arith, within))
@@ -110,24 +109,6 @@ module _ {X : Type 0} (f : Snapshot → X) where
       let one = fin.len-insert names_total (by_name f more) s.name (f s) ∙ ap (λ b. cond b (fin.len (by_name f more)) (fin.len (by_name f more) + 1)) new in
       omega (arith, one, rest)
 
-  -- what is found under a name is told of a snapshot that has it
-  pub record IsOf (snapshots : List Snapshot) (name : List ℕ) (x : X) : Type 0 where
-    pub snapshot : Snapshot
-    pub among : Contains snapshots snapshot
-    pub name_is : snapshot.name ≡ name
-    pub is : f snapshot ≡ x
-
-  found_in : (snapshots : List Snapshot) (name : List ℕ) (x : X) → find by_bytes name (told_by f snapshots) ≡ Some x → IsOf snapshots name x
-  found_in [] name x e = let never : None ≡ Some x = e in absurd cc
-  found_in (s ∷ more) name x e = told (found_in more name x) (eq_by_cmp by_bytes name s.name) refl e
-    where
-      told : (find by_bytes name (told_by f more) ≡ Some x → IsOf more name x) → (b : Bool) → eq_by_cmp by_bytes name s.name ≡ b → cond b (Some (f s)) (find by_bytes name (told_by f more)) ≡ Some x → IsOf (s ∷ more) name x
-      told later true same is = record { snapshot = s; among = first_among s more; name_is = sym (same_bytes name s.name (texts_ties name s.name ∙ same)); is = cc }
-      told later false other is = let w = later is in record { snapshot = w.snapshot; among = more_among s more w.snapshot w.among; name_is = w.name_is; is = w.is }
-
-  pub stands_for : (snapshots : List Snapshot) (name : List ℕ) (x : X) → fin.get (by_name f snapshots) name ≡ Some x → IsOf snapshots name x
-  stands_for snapshots name x e = found_in snapshots name x (sym (get_is f snapshots name) ∙ e)
-
 -- the bit that a name stands for
 module _ (root : RootBody) (name : List ℕ) (entry : Entry) (stands : fin.get (catalogue root.snapshots) name ≡ Some entry) where
   pub owns : (bit : ℕ) → bit ≡ entry.bit → HasSnapshot name bit root.snapshots
@@ -141,6 +122,16 @@ module _ (root : RootBody) (name : List ℕ) (entry : Entry) (stands : fin.get (
       let same = ap (λ (e : Entry). e.bit) w.is in
       let bits = bits_in root fits w.snapshot w.among in
       (omega (arith, same, bits.0), omega (arith, same, bits.1))
+
+-- it is where its snapshot is brought back from
+pub starts : (root : RootBody) (name : List ℕ) (entry : Entry) (bit : ℕ) → fin.get (catalogue root.snapshots) name ≡ Some entry → bit ≡ entry.bit → IsStartFor (Restores name) root (edit.Restore bit) entry.tree
+starts root name entry bit stands same =
+    let w = stands_for entry_of root.snapshots name entry stands in
+    record {
+      is = refl;
+      fits = owns root name entry stands bit same;
+      begins = subst (Contains root.snapshots) (λ i. record { bit = (ap (λ (e : Entry). e.bit) w.is ∙ sym same) i; name = w.name_is i; tree = (ap (λ (e : Entry). e.tree) w.is) i }) w.among;
+    }
 
 -- a look-up finds something where the name stands for something
 pub found_some : (o : Option (Bor Snapshot)) → is_some (option_map entry_of (option_copied o)) ≡ is_some o
@@ -169,3 +160,10 @@ asked_can (Freezes name) world s root written fits frozen can =
 asked_can (Thaws name) world s root written fits frozen can =
     let tree : Snapshot → Tree = λ x. image s x.tree in
     has_key entry_of root.snapshots name ∙ sym (has_key tree root.snapshots name) ∙ ap (λ (m : FrozenTrees). fin.contains_key m name) (sym frozen) ∙ can
+asked_can (Restores name) world s root written fits frozen can = absurd can
+
+-- so can a snapshot be brought back that is there
+pub restored_can : (name : List ℕ) (tree : Tree) (world : World) (s : Store) (root : RootBody) → world.frozen ≡ frozen_of s root.snapshots → fin.get world.frozen name ≡ Some tree → CanBeMade (Restores name) root.limits root.snapshots
+restored_can name tree world s root frozen there =
+    let tree_of : Snapshot → Tree = λ x. image s x.tree in
+    has_key entry_of root.snapshots name ∙ sym (has_key tree_of root.snapshots name) ∙ ap (λ (m : FrozenTrees). fin.contains_key m name) (sym frozen) ∙ ap is_some there

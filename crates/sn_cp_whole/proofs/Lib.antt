@@ -1,4 +1,5 @@
 mod AskingLemmas
 mod GoingLemmas
+mod PlanningLemmas
 mod PointLemmas
 pub mod RecoverLemmas

@@ -15,6 +15,7 @@ use Rattle.sn_layout.specs.declared.gate.Gate.TheVariants.{Open, Closed}
 use Rattle.sn_layout.specs.declared.geometry.Slot.{Slot}
 use Rattle.sn_layout.specs.declared.geometry.Slot.TheVariants.{A, B}
 use Rattle.sn_layout.specs.declared.root.RootBody.{RootBody}
+use Rattle.sn_layout.specs.declared.tree.BlockTree.{BlockTree}
 use Rattle.sn_layout.specs.Geometry.{gate_sector, half_of_epoch, map_blocks, other_slot}
 use Rattle.sn_limits.specs.declared.limits.Limits.{Limits}
 use Rattle.sn_log.specs.Positions.{LogPosition}
@@ -42,7 +43,7 @@ use Rattle.sn_cp.specs.declared.stage.Stage.TheVariants.{Blocks, MapBlocks, Stor
 use Rattle.sn_cp.proofs.AroundLemmas.{stays_apart}
 use Rattle.sn_cp.proofs.FrameLemmas.{body_low, gate_low, map_start}
 use Rattle.sn_cp.proofs.StepLemmas.{lies_at}
-use Rattle.sn_cp_build.specs.Building.{Builds, IsWellBuilt}
+use Rattle.sn_cp_build.specs.Building.{IsWellBuilt}
 use Rattle.sn_cp_build.specs.declared.edits.SnapshotEdit.{SnapshotEdit}
 use Rattle.sn_cp_build.specs.declared.building.Built.{Built}
 use Rattle.sn_cp_held.specs.Builds.{CanBeBuilt, IsBuiltOf, plan_of, work_for}
@@ -54,7 +55,7 @@ use Rattle.sn_cp_whole.specs.Planning.{HasCauseToStop, IsPlanned, IsSpellable}
 use Rattle.sn_cp_whole.specs.Recovering.{CostsSteps, IsApart, IsImageOver, MakesRecovery, syncs_of_steps, writes_of_steps}
 use Rattle.sn_cp_whole.specs.declared.fault.PointFault.{PointFault}
 use Rattle.sn_cp_whole.specs.declared.fault.PointFault.TheVariants as fault
-use Rattle.sn_cp_whole.proofs.PointLemmas.{calls_nothing, few_closing, few_steps, first_syncs, first_writes, has_cause, whole_written, written_count}
+use Rattle.sn_cp_whole.proofs.PointLemmas.{calls_nothing, few_closing, few_steps, first_syncs, first_writes, has_cause, planned_built, written_count}
 
 -- ---- what it makes of an image
 
@@ -69,12 +70,12 @@ module _ (old : Disk) (world : World) (im : IsImage (reads old) world) (k : Kept
       subst (λ (e : Disk). LeavesOnly old e (λ c. IsImage c world)) (sym same)
       (LeavesOnly-start old (λ c. IsImage c world) (Always-synced old (λ c. IsImage c world) r.synced im))
 
-  module _ (built : Built) (next : RootBody) (gate : Gate) (plans : IsPlanned im.blocks Recovery k Plain built next)
-      (builds : Builds im.blocks k.root.limits (store_of (reads old)) k.root.inode_file k.words k.changed built) (spelled : IsSpellable built) where
-    is_built : IsBuiltOf im.blocks (reads old) Recovery k Plain 0 built next
+  module _ {Told : Type 0} (built : Built) (next : RootBody) (gate : Gate) (plans : IsPlanned Told im.blocks (store_of (reads old)) Recovery k Plain built next) (told : Told) (spelled : IsSpellable built) where
+    is_built : IsBuiltOf im.blocks (reads old) Recovery k k.root.inode_file Plain 0 built next
     is_built =
-        let follows = plans.follows in
-        record { well = plans.well; builds = builds; numbers = spelled.numbers; whole = whole_written built.blocks.items spelled.whole; body = follows.body; is = follows.is; snapshots = follows.snapshots; age = follows.age }
+        let made = planned_built im.blocks (reads old) Recovery k Plain built next plans told spelled in
+        let here = subst (λ (f : BlockTree). IsBuiltOf im.blocks (reads old) Recovery k f Plain plans.bit built next) plans.begins made in
+        record { begins = here.begins; well = here.well; builds = here.builds; numbers = here.numbers; whole = here.whole; body = here.body; is = here.is; snapshots = here.snapshots; age = here.age }
 
     abbrev work : Work
     work = work_for im.blocks k gate built next

@@ -1,8 +1,7 @@
-use Rattle.std.proofs.Common.{◌≡◌, ℕ, Err, sym, ap, subst, ◌∙◌}
+use Rattle.std.proofs.Common.{◌≡◌, ℕ, Err, IsTrue, sym, ap, subst, ◌∙◌}
 use Rattle.sn_block.specs.Lending.{device_of}
 use Rattle.sn_cp.specs.Points.{Work}
 use Rattle.sn_cp.specs.Steps.{IsWhole}
-use Rattle.sn_cp_build.specs.Building.{Builds}
 use Rattle.sn_cp_held.specs.Builds.{CanBeBuilt, plan_of, work_for}
 use Rattle.sn_device.specs.Disk.{Disk, IsSynced, reads}
 use Rattle.sn_device.proofs.CrashLemmas.{Always-synced}
@@ -13,19 +12,20 @@ use Rattle.sn_root.specs.Slots.{gate_in}
 use Rattle.sn_root.specs.declared.following.PointKind.TheVariants.{Recovery}
 use Rattle.sn_cp_whole.specs.Planning.{IsPlanned, kept_in}
 use Rattle.sn_cp_whole.specs.declared.fault.PointFault.TheVariants as fault
-use Rattle.sn_cp_whole.proofs.PointLemmas.{whole_work}
+use Rattle.sn_cp_whole.proofs.PointLemmas.{kept_for, whole_work}
 use Rattle.sn_cp_whole.proofs.RecoverLemmas.{few_blocks, finished_steps, image_over, is_recovered, leaves_image, nothing_recovered, unfinished_steps, unplanned_steps, untouched, writes_apart}
 use Rattle.sn_cp_whole.proofs.recovering.make_recovery.Goals as goal
 
 pub returns-in-Err-clause-recovery : goal.returns-in-Err-clause-recovery
 returns-in-Err-clause-recovery g c told world im in_n r =
     nothing_recovered _ world im _ r c.plan.result c.in-Err.fault _ _ c.in-Err.is (c.in-Err.ensures.same told)
-    (λ e can. c.plan.ensures.damaged told e (subst (λ (n : ℕ). CanBeBuilt n (store_of (reads (g.D.Device.disk (device_of c.args.blocks.now)))) (kept_in c.args.base.now (layer_of c.args.changed.now))) in_n can) tt)
+    (λ e can. c.plan.ensures.damaged told e
+    (kept_for c.args.geometry _ _ Plain tt (subst (λ (n : ℕ). CanBeBuilt n (store_of (reads (g.D.Device.disk (device_of c.args.blocks.now)))) (kept_in c.args.base.now (layer_of c.args.changed.now))) in_n can)) tt)
 
 pub returns-in-Err-clause-damaged : goal.returns-in-Err-clause-damaged
 returns-in-Err-clause-damaged g c told e can =
     let same : c.in-Err.fault ≡ fault.Damaged = cc in
-    c.plan.ensures.damaged told (c.in-Err.is ∙ ap Err same) can tt
+    c.plan.ensures.damaged told (c.in-Err.is ∙ ap Err same) (kept_for c.args.geometry _ _ Plain tt can) tt
 
 pub returns-in-Err-clause-aged : goal.returns-in-Err-clause-aged
 returns-in-Err-clause-aged g c e left =
@@ -57,9 +57,8 @@ pub returns-in_default-clause-recovery : goal.returns-in_default-clause-recovery
 returns-in_default-clause-recovery g c told world im in_n r =
     let base = c.args.base.now in
     let p = c.in-Ok.planned in
-    let plans = subst (λ (n : ℕ). IsPlanned n Recovery (kept_in base (layer_of c.args.changed.now)) Plain p.built p.next) (sym in_n) c.in-Ok.ensures.planned in
-    let builds = subst (λ (n : ℕ). Builds n base.root.limits (store_of (reads (g.D.Device.disk (device_of c.args.blocks.now)))) base.root.inode_file base.map (layer_of c.args.changed.now) p.built) (sym in_n) (c.in-Ok.ensures.builds told) in
-    leaves_image _ world im _ r p.built p.next p.gate plans builds c.in-Ok.ensures.spelled _ _ (c.in-Ok.ensures.same told) (g.met.D.Device.whole (device_of c.finish.new.blocks) told) _ _
+    let plans = subst (λ (n : ℕ). IsPlanned (IsTrue g.D.Device.tells_bytes) n (store_of (reads (g.D.Device.disk (device_of c.args.blocks.now)))) Recovery (kept_in base (layer_of c.args.changed.now)) Plain p.built p.next) (sym in_n) c.in-Ok.ensures.planned in
+    leaves_image _ world im _ r p.built p.next p.gate plans told c.in-Ok.ensures.spelled _ _ (c.in-Ok.ensures.same told) (g.met.D.Device.whole (device_of c.finish.new.blocks) told) _ _
     (c.new-point.ensures.work ∙ (λ i. record { blocks = sym in_n i; slot = c.other-slot.ensures i; gate = p.gate; plan = plan_of p.built p.next })) (c.in_default.ensures.bytes told)
 
 pub returns-in_default-clause-touched : goal.returns-in_default-clause-touched
@@ -81,15 +80,14 @@ pub returns-clause-recovery : goal.returns-clause-recovery
 returns-clause-recovery g c told world im in_n r =
     let base = c.args.base.now in
     let p = c.in-Ok.planned in
-    let plans = subst (λ (n : ℕ). IsPlanned n Recovery (kept_in base (layer_of c.args.changed.now)) Plain p.built p.next) (sym in_n) c.in-Ok.ensures.planned in
-    let builds = subst (λ (n : ℕ). Builds n base.root.limits (store_of (reads (g.D.Device.disk (device_of c.args.blocks.now)))) base.root.inode_file base.map (layer_of c.args.changed.now) p.built) (sym in_n) (c.in-Ok.ensures.builds told) in
+    let plans = subst (λ (n : ℕ). IsPlanned (IsTrue g.D.Device.tells_bytes) n (store_of (reads (g.D.Device.disk (device_of c.args.blocks.now)))) Recovery (kept_in base (layer_of c.args.changed.now)) Plain p.built p.next) (sym in_n) c.in-Ok.ensures.planned in
     let whole = g.met.D.Device.whole (device_of c.finish.new.blocks) told in
     let work = c.new-point.ensures.work ∙ (λ i. record { blocks = sym in_n i; slot = c.other-slot.ensures i; gate = p.gate; plan = plan_of p.built p.next }) in
     let after = c.in-Ok-finish.ensures.same ∙ work in (
-      leaves_image _ world im _ r p.built p.next p.gate plans builds c.in-Ok.ensures.spelled _ _ (c.in-Ok.ensures.same told) whole _ _ work (c.in-Ok-finish.ensures.bytes told),
+      leaves_image _ world im _ r p.built p.next p.gate plans told c.in-Ok.ensures.spelled _ _ (c.in-Ok.ensures.same told) whole _ _ work (c.in-Ok-finish.ensures.bytes told),
       image_over _ world (work_for im.blocks (kept_in base (layer_of c.args.changed.now)) p.gate p.built p.next) _ _ in_n
           (λ i. record { slot = sym c.other-slot.ensures i; root = sym (c.into_root-root.ensures.root ∙ ap (λ (w : Work). w.plan.next) after) i; words = sym (c.into_root-root.ensures.words ∙ ap (λ (w : Work). w.plan.words) after) i; changed = no_changes })
-          (is_recovered _ world im _ r p.built p.next p.gate plans builds c.in-Ok.ensures.spelled _ _ (c.in-Ok.ensures.same told) whole _ _ work (c.in-Ok-finish.ensures.bytes told)),
+          (is_recovered _ world im _ r p.built p.next p.gate plans told c.in-Ok.ensures.spelled _ _ (c.in-Ok.ensures.same told) whole _ _ work (c.in-Ok-finish.ensures.bytes told)),
     )
 
 pub returns-clause-touched : goal.returns-clause-touched
