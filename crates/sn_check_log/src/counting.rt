@@ -1,66 +1,17 @@
 //! What is counted of a root's tree before its log is tried.
-ghost use Rattle.std.specs.Prelude.{◌≡◌, ℕ, false, IsTrue, IfErr, IfOk, OnOk};
+ghost use Rattle.std.specs.Prelude.{◌≡◌, IsTrue, IfErr, IfOk, OnOk};
 ghost use Rattle.sn_block.specs.Lending.{device_of};
-ghost use Rattle.sn_directories.specs.Told.{TellsDirectories};
 ghost use Rattle.sn_examine.specs.Failing.{FailsAs, WritesNothing};
 ghost use Rattle.sn_examine.specs.Rooms.{IsNoDamage};
-ghost use Rattle.sn_number_table.specs.Nameless.{TellsNameless};
-ghost use Rattle.sn_number_table.specs.Table.{TellsNumbers, kept_of, since_of};
 ghost use Rattle.sn_model.specs.Settling.{nameless_in};
 ghost use Rattle.sn_rooted.specs.Roots.{IsSoundOn, tree_on};
 
 use crate::CheckedRoot;
 use sn_block::Blocks;
 use sn_device::Device;
-use sn_directories::Directories;
 use sn_examine::fault_of_tree;
 use sn_model::MountFault;
-use sn_rooted_tree::{RootNumbers, directories_of, nameless_of, numbers_of};
-use std::alloc::Global;
-
-/// The table of the directories of a sound root's tree.
-pub(crate) fn count_directories<D: Device>(
-    alloc: Global,
-    blocks: &mut Blocks<D>,
-    it: &CheckedRoot<'_>,
-) -> Result<Directories, MountFault>
-    requires sound { IsTrue D.tells_bytes → IsSoundOn blocks.old it.now.root.now.limits it.now.root.now.inode_file }
-    ensures tells { IsTrue D.tells_bytes → IfOk result (λ directories. TellsDirectories (tree_on blocks.old it.now.root.now.inode_file) directories) }
-    ensures undamaged { IsTrue D.tells_bytes → IfErr result IsNoDamage }
-    ensures same { IsTrue D.tells_bytes → D.disk (device_of blocks.new) ≡ D.disk (device_of blocks.old) }
-    ensures idle { OnOk result (D.status (device_of blocks.new) ≡ D.status (device_of blocks.old)) }
-    ensures reads { WritesNothing (D.status (device_of blocks.old)) (D.status (device_of blocks.new)) }
-    ensures failed { FailsAs result (D.status (device_of blocks.old)) (D.status (device_of blocks.new)) }
-{
-    match directories_of(alloc, blocks, &it.root.limits, &it.root.inode_file) {
-        Ok(directories) => Ok(directories),
-        Err(fault) => Err(fault_of_tree(fault, it.body)),
-    }
-}
-
-/// The numbers of a sound root's tree, and its files without names.
-pub(crate) fn count_numbers<D: Device>(
-    alloc: Global,
-    blocks: &mut Blocks<D>,
-    it: &CheckedRoot<'_>,
-) -> Result<RootNumbers, MountFault>
-    requires sound { IsTrue D.tells_bytes → IsSoundOn blocks.old it.now.root.now.limits it.now.root.now.inode_file }
-    ensures numbers { IsTrue D.tells_bytes → IfOk result (λ r. TellsNumbers (tree_on blocks.old it.now.root.now.inode_file) r.numbers) }
-    ensures nameless { IsTrue D.tells_bytes → IfOk result (λ r. TellsNameless (tree_on blocks.old it.now.root.now.inode_file) r.nameless_files) }
-    ensures count { IsTrue D.tells_bytes → IfOk result (λ r. r.nameless ≡ nameless_in (tree_on blocks.old it.now.root.now.inode_file)) }
-    ensures kept { IfOk result (λ r. (n : ℕ) → kept_of r.numbers n ≡ false) }
-    ensures since { IfOk result (λ r. (n : ℕ) → since_of r.numbers n ≡ false) }
-    ensures undamaged { IsTrue D.tells_bytes → IfErr result IsNoDamage }
-    ensures same { IsTrue D.tells_bytes → D.disk (device_of blocks.new) ≡ D.disk (device_of blocks.old) }
-    ensures idle { OnOk result (D.status (device_of blocks.new) ≡ D.status (device_of blocks.old)) }
-    ensures reads { WritesNothing (D.status (device_of blocks.old)) (D.status (device_of blocks.new)) }
-    ensures failed { FailsAs result (D.status (device_of blocks.old)) (D.status (device_of blocks.new)) }
-{
-    match numbers_of(alloc, blocks, &it.root.limits, &it.root.inode_file) {
-        Ok(numbers) => Ok(numbers),
-        Err(fault) => Err(fault_of_tree(fault, it.body)),
-    }
-}
+use sn_rooted_tree::nameless_of;
 
 /// How many files of a sound root's tree have no name.
 pub fn count_nameless<D: Device>(

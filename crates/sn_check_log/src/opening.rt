@@ -9,10 +9,11 @@ ghost use Rattle.sn_overlay.specs.Overlays.{no_changes};
 ghost use Rattle.sn_rooted.specs.Roots.{IsSoundOn, tree_on};
 
 use crate::CheckedRoot;
-use crate::counting::{count_directories, count_numbers};
 use sn_block::Blocks;
 use sn_device::Device;
+use sn_examine::fault_of_tree;
 use sn_live::LiveTree;
+use sn_live_world::live_tree_of;
 use sn_model::MountFault;
 use std::alloc::Global;
 
@@ -37,18 +38,8 @@ pub fn live_over<D: Device>(
     ensures reads { WritesNothing (D.status (device_of blocks.old)) (D.status (device_of blocks.new)) }
     ensures failed { FailsAs result (D.status (device_of blocks.old)) (D.status (device_of blocks.new)) }
 {
-    let directories = match count_directories(alloc, blocks, it) {
-        Ok(directories) => directories,
-        Err(fault) => return Err(fault),
-    };
-    match count_numbers(alloc, blocks, it) {
-        Ok(told) => Ok(LiveTree::over(
-            alloc,
-            directories,
-            told.numbers,
-            told.nameless_files,
-            told.nameless,
-        )),
-        Err(fault) => Err(fault),
+    match live_tree_of(alloc, blocks, &it.root.limits, &it.root.inode_file) {
+        Ok(live) => Ok(live),
+        Err(fault) => Err(fault_of_tree(fault, it.body)),
     }
 }
