@@ -26,7 +26,7 @@ use Rattle.sn_cp.proofs.CountLemmas.{steps_counted, steps_few}
 use Rattle.sn_cp_progress.specs.Meaning.{Means, RunsWith}
 use Rattle.sn_examine.specs.Failing.{CostsAtMost}
 use Rattle.sn_held.specs.Held.{Going, Held}
-use Rattle.sn_events.specs.Answers.{AnswersFrom, HasBegun, HasEnded, HasGoneOn, HasLogged, HasStepped, HasTold, IsBehindFinish, IsBehindPoint, IsUnchanged, Leaves, LeavesRestart, LeavesStep, counts_down, left_of, IsChangeOf, IsCutAtPoint, IsTried, LeavesCall, NeedsPoint}
+use Rattle.sn_events.specs.Answers.{AnswersFrom, HasBegun, HasEnded, HasGoneOn, HasLogged, HasStepped, HasTold, IsBehindFinish, IsBehindPoint, IsUnchanged, Leaves, LeavesRestart, LeavesStep, counts_down, left_of, IsChangeOf, IsCutCall, LeavesCall, MakesFirst, NeedsPoint}
 use Rattle.sn_device.specs.Status.{has_ended, one_failure}
 use Rattle.sn_cp.specs.Counting.{syncs_left, writes_left}
 use Rattle.sn_model.specs.declared.reply.Errno.{Errno}
@@ -36,6 +36,7 @@ use Rattle.sn_model.specs.Worlds.{IsWorld}
 use Rattle.sn_record.specs.Payload.{IsSpelled, PayloadsFit}
 use Rattle.sn_events.specs.Answers.{writes_of as record_writes}
 use Rattle.sn_events.proofs.DecisionLemmas.{can_be_made}
+use Rattle.sn_events.proofs.PointLemmas.{needs_room}
 
 -- ---- what is unchanged
 
@@ -55,6 +56,13 @@ not_stopped new before after s is m = absurd (true≢false (sym (subst (Means ne
 
 -- ---- one event, where a point is in progress before and behind it
 
+-- behind the point that an event makes first none is in progress
+first_between : (s : State) (e : Event) (old mid : Held) → MakesFirst s e old mid → mid.point ≡ None
+first_between (Running w) (event.Call session c) old mid made = made.1.fresh.between
+first_between (Running w) event.Step old mid made = absurd made
+first_between (Running w) event.Restart old mid made = made.fresh.between
+first_between (Stopped before after) e old mid made = absurd made
+
 module _ (old new : Held) (going next : Going) (is : old.point ≡ Some going) (there : new.point ≡ Some next) where
   never : {A : Type 0} → new.point ≡ None → A
   never none = let absent : Some next ≡ None = sym there ∙ none in absurd cc
@@ -62,7 +70,7 @@ module _ (old new : Held) (going next : Going) (is : old.point ≡ Some going) (
   keeps : (s : State) (e : Event) (fin mid : Held) → IsBehindFinish s e old fin → IsBehindPoint s e fin mid → new.point ≡ mid.point → new.point ≡ old.point
   keeps s e fin mid (inl f) (inl p) here = here ∙ ap (λ (h : Held). h.point) p ∙ ap (λ (h : Held). h.point) f
   keeps s e fin mid (inr f) (inl p) here = never (here ∙ ap (λ (h : Held). h.point) p ∙ f.2.point)
-  keeps s e fin mid f (inr p) here = never (here ∙ p.1.fresh.between)
+  keeps s e fin mid f (inr p) here = never (here ∙ first_between s e fin mid p)
 
   stays : (e : Event) (reply : Reply) → counts_down e reply ≡ 0 → new.point ≡ old.point → left_of new.point + counts_down e reply ≡ left_of old.point
   stays e reply none same = omega (arith, none, ap left_of same)
@@ -85,7 +93,8 @@ module _ (old new : Held) (going next : Going) (is : old.point ≡ Some going) (
   counted : (s : State) (e : Event) (met : Option Mishap) (reply : Reply) (state : State) (fin mid : Held) → IsBehindFinish s e old fin → IsBehindPoint s e fin mid → EventStep limits_written s e met reply state → Means old false s → Means new false state → Leaves s e met reply state fin mid new
       → left_of new.point + counts_down e reply ≡ left_of old.point
   counted (Stopped before after) e met reply state fin mid f p step m n l = absurd (true≢false (sym m.0))
-  counted (Running w) (event.Call session c) None reply state fin mid f p step m n l = stays (event.Call session c) reply refl (keeps (Running w) (event.Call session c) fin mid f p (same_told session c mid new l.1))
+  counted (Running w) (event.Call session c) None reply state fin mid f p step m n (inl l) = never l.made.fresh.between
+  counted (Running w) (event.Call session c) None reply state fin mid f p step m n (inr l) = stays (event.Call session c) reply refl (keeps (Running w) (event.Call session c) fin mid f p (same_told session c mid new l.leaves))
   counted (Running w) (event.Call session c) (Some Memory) reply state fin mid f p step m n l = stays (event.Call session c) reply refl (keeps (Running w) (event.Call session c) fin mid f p (same_point Memory mid new l))
   counted (Running w) (event.Call session c) (Some Read) reply state fin mid f p step m n l = stays (event.Call session c) reply refl (keeps (Running w) (event.Call session c) fin mid f p (same_point Read mid new l))
   counted (Running w) (event.Call session c) (Some Write) reply state fin mid f p step m n l = not_stopped new _ _ state step.stops.left n
@@ -201,7 +210,7 @@ module _ (old new : Held) where
   step_costs : (s : State) (met : Option Mishap) (reply : Reply) (state : State) (fin mid : Held) → IsBehindFinish s event.Step old fin → IsBehindPoint s event.Step fin mid → EventStep limits_written s event.Step met reply state → Leaves s event.Step met reply state fin mid new → CostsAtMost 8 1 old.status new.status
   step_costs (Stopped before after) met reply state fin mid (inl f) (inl p) step l = idle (l ∙ p ∙ f)
   step_costs (Stopped before after) met reply state fin mid (inr f) p step l = absurd f.0
-  step_costs (Stopped before after) met reply state fin mid (inl f) (inr p) step l = absurd p.0
+  step_costs (Stopped before after) met reply state fin mid (inl f) (inr p) step l = absurd p
   step_costs (Running w) met reply state fin mid (inl f) p step l = left_costs w met reply state step (subst (λ (h : Held). LeavesStep h met reply new) f l)
   step_costs (Running w) met reply state fin mid (inr f) p step l = absurd f.0
 
@@ -260,17 +269,19 @@ module _ (fit : PayloadsFit) (old new : Held) (session : ℕ) (c : Call) (whole 
   told_costs (inl told) = more_costs old.status new.status (costs_same old.status new.status (ap (λ (h : Held). h.status.writes) told.drops.is) (ap (λ (h : Held). h.status.syncs) told.drops.is))
   told_costs (inr logged) = record_costs (record_writes logged.change) 2 old.status new.status (ap (λ (h : Held). h.status) logged.drops.is) (few_for logged.change logged.is) (omega arith)
 
-  cut_costs : IsTried old session c new.disk new.status ⊎ IsCutAtPoint old (event.Call session c) new.disk new.status → CostsAtMost 131 2 old.status new.status
+  cut_costs : IsCutCall old old session c new.disk new.status → CostsAtMost 131 2 old.status new.status
   cut_costs (inl tried) =
       let few = few_for tried.change tried.is in
       let w = tried.costs.writes in
       let y = tried.costs.syncs in
       record { writes = omega (arith, w, few); syncs = omega (arith, y) }
-  cut_costs (inr (inl cut)) = absurd (alone cut.needed)
-  cut_costs (inr (inr cut)) = absurd (alone cut.needed)
+  cut_costs (inr (inl cut)) = absurd (alone (inr cut.asked))
+  cut_costs (inr (inr (inl cut))) = absurd (alone (needs_room old session c cut.0))
+  cut_costs (inr (inr (inr cut))) = absurd (alone cut.needed)
 
   call_costs : (w : World) (met : Option Mishap) (reply : Reply) (state : State) → EventStep limits_written (Running w) (event.Call session c) met reply state → LeavesCall old old session c met new → CostsAtMost 131 2 old.status new.status
-  call_costs w None reply state step l = told_costs l.1
+  call_costs w None reply state step (inl l) = absurd (alone (inr l.asked))
+  call_costs w None reply state step (inr l) = told_costs l.leaves
   call_costs w (Some Memory) reply state step l = more_costs old.status new.status (idle old new l)
   call_costs w (Some Read) reply state step l = more_costs old.status new.status (read_idle old.status new.status l.1)
   call_costs w (Some Write) reply state step l = cut_costs l
@@ -283,7 +294,7 @@ module _ (fit : PayloadsFit) (old new : Held) (session : ℕ) (c : Call) (whole 
       told : (s : State) → IsBehindFinish s (event.Call session c) old a.fin → IsBehindPoint s (event.Call session c) a.fin a.mid → EventStep limits_written s (event.Call session c) a.met reply a.next → Leaves s (event.Call session c) a.met reply a.next a.fin a.mid new → CostsAtMost 131 2 old.status new.status
       told (Stopped before after) (inl f) (inl p) step l = more_costs old.status new.status (idle old new (l ∙ p ∙ f))
       told (Stopped before after) (inr f) p step l = absurd f.0
-      told (Stopped before after) (inl f) (inr p) step l = absurd p.0
+      told (Stopped before after) (inl f) (inr p) step l = absurd p
       told (Running w) (inr f) p step l = absurd (alone f.1)
-      told (Running w) (inl f) (inr p) step l = absurd (alone (subst (λ (h : Held). NeedsPoint h (event.Call session c)) f p.1.needed))
+      told (Running w) (inl f) (inr p) step l = absurd (alone (subst (λ (h : Held). NeedsPoint h (event.Call session c)) f (needs_room a.fin session c p.0)))
       told (Running w) (inl f) (inl p) step l = call_costs w a.met reply a.next step (subst (λ (h : Held). LeavesCall old h session c a.met new) (p ∙ f) (subst (λ (h : Held). LeavesCall h a.mid session c a.met new) f l))

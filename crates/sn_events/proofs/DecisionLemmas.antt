@@ -1,5 +1,5 @@
 -- What is so of the change that a call has decided.
-use Rattle.std.proofs.Common.{◌≡◌, ℕ, ◌<◌, Bool, true, Option, Some, None, Result, Ok, Err, is_some, sym, ap, subst, refl, ◌∙◌, lit<, lit≤}
+use Rattle.std.proofs.Common.{◌≡◌, ℕ, ◌<◌, Bool, true, Option, Some, None, Result, Ok, Err, is_some, sym, ap, subst, refl, ◌∙◌, arith, lit<, lit≤}
 use Rattle.std.proofs.lemmas.Bool.{true≢false}
 use Rattle.sn_limits.specs.Versions.{limits_written}
 use Rattle.sn_model.specs.declared.call.Call.{Call}
@@ -11,13 +11,15 @@ use Rattle.sn_model.specs.declared.outcome.Pending.{Pending}
 use Rattle.sn_model.specs.declared.outcome.Pending.TheVariants.{Nothing, Makes, Does}
 use Rattle.sn_model.specs.declared.reply.Refusal.{Refusal}
 use Rattle.sn_model.specs.Changes.{apply}
-use Rattle.sn_model.specs.Charges.{charge_for, charge_of}
+use Rattle.sn_model.specs.Charges.{charge_for, charge_of, point_charge}
 use Rattle.sn_model.specs.Steps.{IsNumberFor, changed, decision}
 use Rattle.sn_model.specs.Tree.{Tree}
 use Rattle.sn_model.specs.World.{World}
 use Rattle.sn_model.specs.Worlds.{IsWorld}
 use Rattle.sn_model.proofs.DecidedLemmas.{decided_is}
-use Rattle.sn_model.proofs.OutcomeLemmas.{DoesToOld, OnChange}
+use Rattle.sn_model.specs.declared.outcome.AskedPoint.{AskedPoint}
+use Rattle.sn_model.specs.declared.outcome.AskedPoint.TheVariants.{Unasked, Plain, Freezes, Thaws, Restores}
+use Rattle.sn_model.proofs.OutcomeLemmas.{DoesToOld, IsAlone, OnChange}
 use Rattle.sn_changed.specs.Decided.{IsLogged}
 use Rattle.sn_numbers.specs.Numbers.{next_number}
 use Rattle.sn_numbers.proofs.FreeLemmas.{next_is_number}
@@ -67,11 +69,22 @@ picked_charge tree kept Nothing change is = absurd is
 picked_charge tree kept (Makes directory name kind o) change is = sym (ap (charge_for limits_written tree) is.2)
 picked_charge tree kept (Does c) change is = sym (ap (charge_for limits_written tree) is)
 
+-- one that comes to a change brings no snapshot back
+no_point_charge : (w : World) (p : AskedPoint) (pending : Pending) (caller : Caller) → IsAlone p pending caller → IsLogged pending → point_charge limits_written w p ≡ 0
+no_point_charge w Unasked pending caller alone logged = refl
+no_point_charge w Plain pending caller alone logged = refl
+no_point_charge w (Freezes name) pending caller alone logged = refl
+no_point_charge w (Thaws name) pending caller alone logged = refl
+no_point_charge w (Restores name) pending caller alone logged = absurd (subst IsLogged alone.0 logged)
+
 -- The charge of a call is that of the change that it comes to.
 pub charge_of_change : (w : World) (kept : ℕ → Bool) (session : ℕ) (c : Call) (o : Outcome) (picked : Chosen) (change : Change) → decision limits_written w session c ≡ Ok o → Chooses w.live kept o.change o.caller picked → picked.change ≡ Some change
     → o.charge ≡ charge_for limits_written w.live change
 charge_of_change w kept session c o picked change decided chosen is =
-    (decided_is limits_written w session c o decided).pays ∙ picked_charge w.live kept o.change change (picked_is w.live kept o.change o.caller picked change chosen is)
+    let so = decided_is limits_written w session c o decided in
+    let none = no_point_charge w o.point o.change o.caller so.points.alone (is_logged w kept session c o picked change decided chosen is) in
+    let paid : o.charge ≡ charge_of limits_written w.live o.change = omega (arith, so.pays, none) in
+    paid ∙ picked_charge w.live kept o.change change (picked_is w.live kept o.change o.caller picked change chosen is)
 
 -- ---- calls that come to no change
 

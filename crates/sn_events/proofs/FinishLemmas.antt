@@ -20,7 +20,9 @@ use Rattle.sn_held.specs.Moments.{ShowsState}
 use Rattle.sn_held.proofs.EventLemmas.{runs_show}
 use Rattle.sn_cp_progress.specs.Meaning.{RunsWith}
 use Rattle.sn_cp_whole.specs.declared.fault.PointFault.{PointFault}
-use Rattle.sn_events.specs.Answers.{Answers, AnswersFrom, IsBehindFinish, NeedsPoint, MayPoint}
+use Rattle.sn_overlay.specs.Layers.{Layer}
+use Rattle.sn_model.specs.declared.outcome.AskedPoint.TheVariants.{Plain}
+use Rattle.sn_events.specs.Answers.{Answers, AnswersFrom, BuildsFor, BuildsLast, IsBehindFinish, NeedsPoint, MayPoint}
 use Rattle.sn_events.specs.Pointing.{Finishes, FinishesSo, errno_of_point, stops_for}
 use Rattle.sn_events.specs.Serving.{Serves}
 use Rattle.sn_events.specs.Unmounting.{IsRefusedFor}
@@ -100,13 +102,14 @@ module _ (e : Event) (old fin new : Held) (f : IsFin old fin) (may_point : MayPo
       behind_finish reply has_stopped (answers (Running fin.world) (refl, running_between fin fin.world f.between f.ready))
 
 -- it was cut off
-pub cut_finish : (e : Event) (old : Held) (x : PointEvent e old old.world) (new : Held) (fault : PointFault) → FinishesSo (Err fault) old.point old new → AnswersFrom (Running old.world) e (refused (errno_of_point fault)) old new (stops_for fault)
-cut_finish e old x new fault so = told old.point so
+pub cut_finish : (e : Event) (Builds : Layer → Type 0) (old : Held) (x : PointEvent e Builds old old.world) (new : Held) (fault : PointFault) → FinishesSo (Err fault) old.point old new → AnswersFrom (Running old.world) e (refused (errno_of_point fault)) old new (stops_for fault)
+cut_finish e Builds old x new fault so = told old.point so
   where
     told : (at : Option Going) → FinishesSo (Err fault) at old new → AnswersFrom (Running old.world) e (refused (errno_of_point fault)) old new (stops_for fault)
     told None never = absurd never
     told (Some going) (is, cut) = subst (λ (f : PointFault). AnswersFrom (Running old.world) e (refused (errno_of_point f)) old new (stops_for f)) (sym is)
-        (is_cut e old x new (LeavesOnly-weaker old.disk new.disk (λ d. IsImage d (settle old.world)) (λ d. IsImage d (settle old.world) ⊎ IsImage d x.after) (λ d im. inl im) cut.moments) cut.failed cut.later (inr (record { needed = x.needed; touched = cut.touched; going = cut.going; is = cut.is; costs = cut.costs })))
+        (is_cut e Builds old x new (LeavesOnly-weaker old.disk new.disk (λ d. IsImage d (settle old.world)) (λ d. IsImage d (settle old.world) ⊎ IsImage d x.after) (λ d im. inl im) cut.moments) cut.failed cut.later
+        (x.cut_finish new (record { needed = x.needed; touched = cut.touched; going = cut.going; is = cut.is; costs = cut.costs })))
 
 -- ---- a call that lacked something
 
@@ -119,7 +122,7 @@ call_after_finish old asked fin new session c reply has_stopped lacks finishes a
 pub call_cut : (old asked new : Held) (session : ℕ) (c : Call) (fault : PointFault) → IsWorld limits_written old.world → Serves None old session c asked false → Finishes (Err fault) asked new → Answers (event.Call session c) (refused (errno_of_point fault)) old false new (stops_for fault)
 call_cut old asked new session c fault whole lacks finishes =
     in_any_world (event.Call session c) old new (refused (errno_of_point fault)) (stops_for fault) (λ r.
-    cut_finish (event.Call session c) old (call_point old session c lacks.2 whole lacks.0) new fault (subst (λ (h : Held). Finishes (Err fault) h new) lacks.1 finishes r))
+    cut_finish (event.Call session c) (BuildsFor Plain old) old (call_point old session c lacks.2 whole lacks.0) new fault (subst (λ (h : Held). Finishes (Err fault) h new) lacks.1 finishes r))
 
 -- ---- a restart
 
@@ -127,7 +130,7 @@ pub restart_refused : (old new : Held) (fault : PointFault) → (RunsWith old.po
 restart_refused old new fault refuses = in_any_world event.Restart old new (refused (errno_of_point fault)) (stops_for fault) (λ r. told r (refuses r))
   where
     told : RunsWith old.point old old.world → IsRefusedFor fault old new → AnswersFrom (Running old.world) event.Restart (refused (errno_of_point fault)) old new (stops_for fault)
-    told r (inl cut) = cut_finish event.Restart old (unmount_point old) new fault cut
+    told r (inl cut) = cut_finish event.Restart (BuildsLast old) old (unmount_point old) new fault cut
     told r (inr (fin, so, unpointed)) =
         let f = is_fin old fin so r in
         behind_finish event.Restart old fin new f tt tt (refused (errno_of_point fault)) (stops_for fault)

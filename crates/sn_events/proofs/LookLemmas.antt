@@ -28,6 +28,8 @@ use Rattle.sn_model.specs.declared.outcome.Outcome.{Outcome}
 use Rattle.sn_room.specs.Rooms.{RoomCounts}
 use Rattle.sn_cp_whole.specs.Planning.{kept_in}
 use Rattle.sn_events.specs.Changing.{FailsChange, change_fault}
+use Rattle.sn_events.specs.Pointing.{IsUnpointedTo, point_fault}
+use Rattle.sn_overlay.specs.Layers.{Layer}
 use Rattle.sn_events.specs.Mounted.{IsMeant, RunsNow, going_in, holding_on, tree_at, trees_there}
 use Rattle.sn_events.specs.Serving.{IsUndecided}
 
@@ -98,6 +100,16 @@ module _ (disk now : Disk) (status after : Status) (at : LogPosition) (world : L
   unread_change told is change look.Memory counts = looked counts
   unread_change told is change look.Read (inl fails) = (counted, fails)
   unread_change told is change look.Read (inr (nothing, never)) = absurd (never is)
+
+  -- a snapshot couldn't be
+  pub unread_snapshot : (told : Bool) → told ≡ true → (world_after : World) (Builds : Layer → Type 0) (f : LookFault) → CountsLookFault told f status after → IsUnpointedTo (point_fault f) world_after Builds h new
+  unread_snapshot told is world_after Builds look.Memory counts = looked counts
+  unread_snapshot told is world_after Builds look.Read (inl fails) = (counted, fails)
+  unread_snapshot told is world_after Builds look.Read (inr (nothing, never)) = absurd (never is)
+
+  -- or was
+  pub looked_on : after ≡ status → new ≡ h
+  looked_on is = looked is
 
   -- what is read is meant still
   pub meant_looked : IsMeant disk status at world room base going → IsMeant now after at world room base going

@@ -14,11 +14,12 @@ use Rattle.sn_model.specs.declared.reply.Reply.{Reply}
 use Rattle.sn_model.specs.Calls.{ready}
 use Rattle.sn_model.specs.Machine.{Running, Stopped, Mishap, Memory, Read, Write, Space, Age, EventStep, IsCharged, errno_of, refused}
 use Rattle.sn_model.specs.declared.outcome.AskedPoint.{AskedPoint}
-use Rattle.sn_model.specs.declared.outcome.AskedPoint.TheVariants.{Plain}
+use Rattle.sn_model.specs.declared.outcome.AskedPoint.TheVariants.{Unasked, Plain, Freezes, Thaws, Restores}
 use Rattle.sn_model.specs.Settling.{settle}
-use Rattle.sn_model.specs.Steps.{TakesMemory, pointed, decision}
+use Rattle.sn_model.specs.Steps.{TakesMemory, pointed}
 use Rattle.sn_model.specs.World.{World}
 use Rattle.sn_model.specs.Worlds.{IsCall, IsWorld}
+use Rattle.sn_model.proofs.OutcomeLemmas.{LeavesLive}
 use Rattle.sn_block.specs.Counts.{FailsRead, IsLater}
 use Rattle.sn_block.proofs.CountLemmas.{later-is, later-join, later-same}
 use Rattle.sn_core.specs.Numbering.{gives_kept}
@@ -42,9 +43,9 @@ use Rattle.sn_cp_whole.specs.Making.{HasCauseFor, MakesPoint, most_syncs, most_w
 use Rattle.sn_cp_whole.specs.declared.fault.PointFault.{PointFault}
 use Rattle.sn_cp_whole.specs.declared.fault.PointFault.TheVariants as point
 use Rattle.sn_examine.specs.Failing.{CostsAtMost, HasFailed, HasNotFailed}
-use Rattle.sn_events.specs.Answers.{Answers, AnswersFrom, BuildsOf, DoesNotFit, HasMadePoint, IsBesideRoot, IsChangeOf, IsLastRoot, Lacks, LacksFirst, MayMeet, IsCutAtPoint, NeedsPoint, asked_in, is_fitting, world_behind, AsksFirst, HasLogged, HasTold, IsUnchanged, Leaves, LeavesCall, LeavesRestart}
-use Rattle.sn_events.specs.Pointing.{IsPointed, IsUnpointed, Points, errno_of_point, stops_for}
-use Rattle.sn_events.specs.Serving.{Serves, ServesFrom, ServesTo}
+use Rattle.sn_events.specs.Answers.{Answers, AnswersFrom, BuildsFor, BuildsLast, DoesNotFit, HasMadePoint, HasMadeRoom, HasPointed, HasServed, IsBesideRoot, IsChangeOf, IsCutFinish, IsCutPoint, IsLastRoot, IsUnchanged, Lacks, LacksAge, LacksFirst, Leaves, LeavesCall, LeavesRestart, MayMeet, NeedsPoint, NeedsRoom, is_fitting}
+use Rattle.sn_events.specs.Pointing.{CanPoint, IsCutOffIn, IsPointed, IsPointedTo, IsUnpointed, IsUnpointedLast, IsUnpointedTo, Points, errno_of_point, is_restore, stops_for}
+use Rattle.sn_events.specs.Serving.{AsksFrom, CutsTo, Serves, ServesFrom, ServesTo}
 use Rattle.sn_events.proofs.CallLemmas.{comes, next_with}
 use Rattle.sn_events.proofs.ReadLemmas.{fails_read}
 use Rattle.sn_events.proofs.DecisionLemmas.{CanBeMade, can_be_made, is_charged}
@@ -76,11 +77,10 @@ pub settles_same : {d : Contents} (w : World) → EitherImage w (settle w) d →
 settles_same w (inl im) = im
 settles_same {d} w (inr im) = subst (IsImage d) (settles_twice w) im
 
-pub made_point : (e : Event) (old mid : Held) (needed : NeedsPoint old e) → IsPointed e (asked_in old e needed) old mid → HasMadePoint e old mid
-made_point e old mid needed p = record {
-  needed = needed;
+pub made_point : (world : World) (Builds : Layer → Type 0) (old new : Held) → IsPointedTo world Builds old new → HasMadePoint world Builds old new
+made_point world Builds old new p = record {
   between = p.between;
-  world = p.world;
+  is = p.world;
   fresh = p.fresh;
   log = p.log;
   follows = p.follows;
@@ -93,9 +93,9 @@ made_point e old mid needed p = record {
   costs = p.costs;
 }
 
--- a plain one of a call shows the settled world all the time
-settled_all : (session : ℕ) (c : Call) (old mid : Held) → IsPointed (event.Call session c) Plain old mid → LeavesOnly old.disk mid.disk (λ d. IsImage d (settle old.world))
-settled_all session c old mid p = LeavesOnly-weaker old.disk mid.disk (EitherImage old.world old.world) (λ d. IsImage d (settle old.world)) (λ d either. either_same either) p.moments
+-- one that makes room shows the settled world all the time
+settled_all : (old mid : Held) → IsPointed Plain old mid → LeavesOnly old.disk mid.disk (λ d. IsImage d (settle old.world))
+settled_all old mid p = LeavesOnly-weaker old.disk mid.disk (EitherImage old.world old.world) (λ d. IsImage d (settle old.world)) (λ d either. either_same either) p.moments
 
 pub none_failed : (old mid new : Status) → mid.failures ≡ old.failures → HasNotFailed mid new → HasNotFailed old new
 none_failed old mid new same none = none ∙ same
@@ -104,14 +104,43 @@ pub some_failed : (old mid new : Status) → mid.failures ≡ old.failures → H
 some_failed old mid new same (inl more) = inl (omega (arith, same, more))
 some_failed old mid new same (inr ended) = inr ended
 
--- ---- a call that is served behind it
+-- ---- one that brings no snapshot back
 
-module _ (old mid new : Held) (session : ℕ) (c : Call) (needed : LacksFirst old session c) (p : IsPointed (event.Call session c) Plain old mid) where
+-- is built of what changed
+pub builds_changed : (asked : AskedPoint) (h : Held) → is_restore asked ≡ false → BuildsFor asked h h.base.changed
+builds_changed Unasked h other = refl
+builds_changed Plain h other = refl
+builds_changed (Freezes name) h other = refl
+builds_changed (Thaws name) h other = refl
+builds_changed (Restores name) h other = absurd (true≢false other)
+
+-- and leaves the live tree
+pub leaves_live : (asked : AskedPoint) → is_restore asked ≡ false → LeavesLive asked
+leaves_live Unasked other = tt
+leaves_live Plain other = tt
+leaves_live (Freezes name) other = tt
+leaves_live (Thaws name) other = tt
+leaves_live (Restores name) other = absurd (true≢false other)
+
+-- ---- a call that is answered behind one that makes room
+
+-- what needs room needs a point
+pub needs_room : (h : Held) (session : ℕ) (c : Call) → NeedsRoom h session c → NeedsPoint h (event.Call session c)
+needs_room h session c (inl lacks) = inl lacks
+needs_room h session c (inr (asks, over)) = inr (record { asks = asks; outcome = over.outcome; decided = over.decided })
+
+-- a point takes the log to another epoch
+never_again : {A : Type 0} (world : World) (Builds : Layer → Type 0) (old new : Held) → HasMadePoint world Builds old new → new ≡ old → A
+never_again world Builds old new made same =
+    let epoch : old.at.epoch ≡ old.at.epoch + 1 = sym (ap (λ (h : Held). h.at.epoch) same) ∙ ap (λ (at : LogPosition). at.epoch) made.log in
+    absurd (omega (arith, epoch))
+
+module _ (old mid new : Held) (session : ℕ) (c : Call) (needed : NeedsRoom old session c) (p : IsPointed Plain old mid) where
   abbrev e : Event
   e = event.Call session c
 
-  made : HasMadePoint e old mid
-  made = made_point e old mid (inl needed) p
+  made : HasMadeRoom old mid
+  made = made_point old.world (BuildsFor Plain old) old mid p
 
   no_failures : mid.status.failures ≡ old.status.failures
   no_failures = ap (λ (s : Status). s.failures) p.costs
@@ -119,47 +148,58 @@ module _ (old mid new : Held) (session : ℕ) (c : Call) (needed : LacksFirst ol
   later : IsLater old.status mid.status
   later = later-is _ _ old.status mid.status p.costs
 
-  may_meet : (at : Held) (met : Option Mishap) → ServesTo met mid session c new → MayMeet mid at e met new.status → MayMeet old mid e met new.status
-  may_meet at None to may = none_failed old.status mid.status new.status no_failures may
-  may_meet at (Some Memory) to may = none_failed old.status mid.status new.status no_failures may
-  may_meet at (Some Read) to may = some_failed old.status mid.status new.status no_failures may
-  may_meet at (Some Write) to may = some_failed old.status mid.status new.status no_failures may
-  may_meet at (Some Space) to may = absurd to
-  may_meet at (Some Age) to may = absurd to
+  may_meet : (fin at : Held) (met : Option Mishap) → fin ≡ mid → at ≡ mid → MayMeet fin at e met new.status → MayMeet old mid e met new.status
+  may_meet fin at None first same may = none_failed old.status mid.status new.status no_failures (subst (λ (h : Held). HasNotFailed h.status new.status) first may)
+  may_meet fin at (Some Memory) first same may = none_failed old.status mid.status new.status no_failures (subst (λ (h : Held). HasNotFailed h.status new.status) first may)
+  may_meet fin at (Some Read) first same may = some_failed old.status mid.status new.status no_failures (subst (λ (h : Held). HasFailed h.status new.status) first may)
+  may_meet fin at (Some Write) first same may = some_failed old.status mid.status new.status no_failures (subst (λ (h : Held). HasFailed h.status new.status) first may)
+  may_meet fin at (Some Space) first same may = never_again fin.world (BuildsFor Plain fin) fin at may.0.1 (same ∙ sym first)
+  may_meet fin at (Some Age) first same may = (subst (λ (h : Held). NeedsPoint h e × IsLastRoot h.base.root) same may.0, none_failed old.status mid.status new.status no_failures (subst (λ (h : Held). HasNotFailed h.status new.status) first may.1))
 
-  -- the point changes nothing of what is asked for
-  asks_there : (at : Held) → at ≡ mid → AsksFirst old session c → AsksFirst at session c
-  asks_there at same asked = record { asks = asked.asks; outcome = asked.outcome; decided = subst (λ (w : World). decision limits_written w session c ≡ Ok asked.outcome) (sym (ap (λ (x : Held). x.world) same ∙ p.world)) asked.decided }
-
-  leaves_call : (fin at : Held) (met : Option Mishap) → fin ≡ mid → at ≡ mid → ServesTo met mid session c new → LeavesCall fin at session c met new → LeavesCall old mid session c met new
-  leaves_call fin at None first same to leaves = (λ asked. (made, (leaves.0 (asks_there fin first asked)).1 ∙ same), subst (λ (x : Held). HasTold session c x new ⊎ HasLogged session c x new) same leaves.1)
+  leaves_call : (fin at : Held) (met : Option Mishap) → fin ≡ mid → at ≡ mid → CutsTo met mid session c new → LeavesCall fin at session c met new → LeavesCall old mid session c met new
+  leaves_call fin at None first same to leaves = subst (λ (x : Held). HasPointed session c x new ⊎ HasServed session c x new) same leaves
   leaves_call fin at (Some Memory) first same to leaves = leaves ∙ same
   leaves_call fin at (Some Read) first same to leaves = subst (λ (x : Held). IsUnchanged Read x new) same leaves
-  leaves_call fin at (Some Write) first same to leaves = inl to
-  leaves_call fin at (Some Space) first same to leaves = absurd to
-  leaves_call fin at (Some Age) first same to leaves = absurd to
+  leaves_call fin at (Some Write) first same (inl tried) leaves = inl tried
+  leaves_call fin at (Some Write) first same (inr cut) leaves = inr (inl cut)
+  leaves_call fin at (Some Space) first same to leaves = leaves ∙ same
+  leaves_call fin at (Some Age) first same to leaves = leaves ∙ same
+
+  -- from what was held behind it
+  behind_room : {has_stopped : Bool} {reply : Reply} (a : AnswersFrom (Running old.world) e reply mid new has_stopped) → a.fin ≡ mid → a.mid ≡ mid → CutsTo a.met mid session c new → AnswersFrom (Running old.world) e reply old new has_stopped
+  behind_room {has_stopped} {reply} a first same to = record {
+    met = a.met;
+    fin = old;
+    finish = inl refl;
+    mid = mid;
+    point = inr (needed, made);
+    may = may_meet a.fin a.mid a.met first same a.may;
+    next = a.next;
+    step = a.step;
+    means = a.means;
+    lasts = record {
+      moments = LeavesOnly-join old.disk mid.disk new.disk (λ d. ShowsState (Running old.world) d ⊎ ShowsState a.next d)
+          (LeavesOnly-weaker old.disk mid.disk (λ d. IsImage d (settle old.world)) (λ d. ShowsState (Running old.world) d ⊎ ShowsState a.next d) (λ d h. inl h) (settled_all old mid p)) a.lasts.moments;
+      answered = a.lasts.answered;
+    };
+    later = later-join old.status mid.status new.status later a.later;
+    leaves = leaves_call a.fin a.mid a.met first same to a.leaves;
+  }
+
+  -- so it is of one that makes its own point
+  pub asks_behind : {has_stopped : Bool} {reply : Reply} → AsksFrom old.world session c reply mid new has_stopped → AnswersFrom (Running old.world) e reply old new has_stopped
+  asks_behind asked = behind_room asked.answers asked.at_once.0 asked.at_once.1 asked.cuts
+
+  served_cuts : (met : Option Mishap) → ServesTo met mid session c new → CutsTo met mid session c new
+  served_cuts None to = tt
+  served_cuts (Some Memory) to = tt
+  served_cuts (Some Read) to = tt
+  served_cuts (Some Write) to = inl to
+  served_cuts (Some Space) to = tt
+  served_cuts (Some Age) to = tt
 
   behind_point : {has_stopped : Bool} {reply : Reply} → ServesFrom (Running old.world) session c reply mid new has_stopped → AnswersFrom (Running old.world) e reply old new has_stopped
-  behind_point {has_stopped} {reply} served =
-      let a = served.answers in
-      record {
-        met = a.met;
-        fin = old;
-        finish = inl refl;
-        mid = mid;
-        point = inr (tt, made);
-        may = may_meet a.mid a.met served.met (subst (λ (x : Held). MayMeet x a.mid e a.met new.status) served.at_once.0 a.may);
-        next = a.next;
-        step = a.step;
-        means = a.means;
-        lasts = record {
-          moments = LeavesOnly-join old.disk mid.disk new.disk (λ d. ShowsState (Running old.world) d ⊎ ShowsState a.next d)
-              (LeavesOnly-weaker old.disk mid.disk (λ d. IsImage d (settle old.world)) (λ d. ShowsState (Running old.world) d ⊎ ShowsState a.next d) (λ d h. inl h) (settled_all session c old mid p)) a.lasts.moments;
-          answered = a.lasts.answered;
-        };
-        later = later-join old.status mid.status new.status later a.later;
-        leaves = leaves_call a.fin a.mid a.met served.at_once.0 served.at_once.1 served.met a.leaves;
-      }
+  behind_point served = behind_room served.answers served.at_once.0 served.at_once.1 (served_cuts served.answers.met served.met)
 
 -- ---- one that doesn't fit behind it
 
@@ -177,8 +217,13 @@ gives_none (SetSize number size) kept none = refl
 gives_none (SetAttributes number o) kept none = refl
 
 -- what lacks behind a point is room for the charge
-still_lacks : PayloadsFit → (old mid : Held) (session : ℕ) (c : Call) → IsWorld limits_written mid.world → IsPointed (event.Call session c) Plain old mid → LacksFirst mid session c → DoesNotFit mid session c
-still_lacks fit old mid session c whole p lacks = record { change = change; is = is; over = told lacks.lacks }
+still_lacks : PayloadsFit → (old mid : Held) (session : ℕ) (c : Call) → IsWorld limits_written mid.world → IsPointed Plain old mid → LacksFirst mid session c → DoesNotFit mid session c
+still_lacks fit old mid session c whole p lacks = record {
+  outcome = is.outcome;
+  decided = is.decided;
+  some = is_charged mid.world mid.kept session c is.outcome is.picked change is.decided is.chosen is.is;
+  over = told lacks.lacks;
+}
   where
     change : Change
     change = lacks.change
@@ -195,27 +240,27 @@ still_lacks fit old mid session c whole p lacks = record { change = change; is =
     told (inr (inr (inl kept))) = absurd (true≢false (sym kept ∙ gives_none change mid.kept p.fresh.none_kept))
     told (inr (inr (inr over))) = absurd (over p.age)
 
-space_answers : PayloadsFit → (old mid : Held) (session : ℕ) (c : Call) → IsWorld limits_written mid.world → LacksFirst old session c → IsPointed (event.Call session c) Plain old mid → LacksFirst mid session c → AnswersFrom (Running old.world) (event.Call session c) (refused Enospc) old mid false
-space_answers fit old mid session c whole needed p lacks = record {
+pub space_answers : (old mid : Held) (session : ℕ) (c : Call) → NeedsRoom old session c → IsPointed Plain old mid → DoesNotFit mid session c → AnswersFrom (Running old.world) (event.Call session c) (refused Enospc) old mid false
+space_answers old mid session c needed p over = record {
   met = Some Space;
   fin = old;
   finish = inl refl;
   mid = mid;
-  point = inr (tt, made);
-  may = (still_lacks fit old mid session c whole p lacks, made, ap (λ (s : Status). s.failures) p.costs);
+  point = inr (needed, made);
+  may = ((needed, made, over), ap (λ (s : Status). s.failures) p.costs);
   next = Running old.world;
-  step = (subst (λ (w : World). IsCharged limits_written w session c) p.world (lacks.is.outcome, lacks.is.decided, is_charged mid.world mid.kept session c lacks.is.outcome lacks.is.picked lacks.change lacks.is.decided lacks.is.chosen lacks.is.is), record { told = refl; same = refl });
+  step = (subst (λ (w : World). IsCharged limits_written w session c) p.world (over.outcome, over.decided, over.some), record { told = refl; same = refl });
   means = (refl, running_between mid old.world p.fresh.between p.runs);
   lasts = record {
-    moments = LeavesOnly-weaker old.disk mid.disk (λ d. IsImage d (settle old.world)) (λ d. ShowsState (Running old.world) d ⊎ ShowsState (Running old.world) d) (λ d h. inl h) (settled_all session c old mid p);
+    moments = LeavesOnly-weaker old.disk mid.disk (λ d. IsImage d (settle old.world)) (λ d. ShowsState (Running old.world) d ⊎ ShowsState (Running old.world) d) (λ d h. inl h) (settled_all old mid p);
     answered = runs_show mid old.world p.runs.runs;
   };
   later = later-is _ _ old.status mid.status p.costs;
   leaves = refl;
 }
   where
-    made : HasMadePoint (event.Call session c) old mid
-    made = made_point (event.Call session c) old mid (inl needed) p
+    made : HasMadeRoom old mid
+    made = made_point old.world (BuildsFor Plain old) old mid p
 
 -- ---- a point that isn't made
 
@@ -223,42 +268,44 @@ pub not_device : (fault : PointFault) → stops_for fault ≡ false → fault �
 not_device fault runs is = true≢false (subst (λ (f : PointFault). stops_for f ≡ false) is runs)
 
 -- what is left of what is held, in which the world is the same where the disk is
-module _ (e : Event) (old new : Held) (world : new.disk ≡ old.disk → new.world ≡ old.world) (kept : new.kept ≡ old.kept) (since : new.kept_since ≡ old.kept_since) (going : new.point ≡ old.point) (room : new.room ≡ old.room) (base : new.base ≡ old.base) (built : Layer) (builds : BuildsOf e old built) where
-  pub point_unmade : (fault : PointFault) (asked : AskedPoint) (of : World) (settled_is : settle of ≡ settle old.world) → pointed asked of ≡ pointed asked (world_behind e old.world) → (h : Held) (k : Kept) → h.disk ≡ new.disk → (fault ≢ point.Device → new.at ≡ old.at) → MakesPoint (Err fault) asked of old.disk h k
+module _ (after : World) (Builds : Layer → Type 0) (old new : Held) (world : new.disk ≡ old.disk → new.world ≡ old.world) (kept : new.kept ≡ old.kept) (since : new.kept_since ≡ old.kept_since) (going : new.point ≡ old.point) (room : new.room ≡ old.room) (base : new.base ≡ old.base) (built : Layer) (builds : Builds built) where
+  pub point_unmade : (fault : PointFault) (asked : AskedPoint) (of : World) (settled_is : settle of ≡ settle old.world) → pointed asked of ≡ after → (h : Held) (k : Kept) → h.disk ≡ new.disk → (fault ≢ point.Device → new.at ≡ old.at) → MakesPoint (Err fault) asked of old.disk h k
       → Touches (IsBesideRoot old) old.disk new.disk → HasCauseFor fault old.status new.status → IsLater old.status new.status
-      → CostsAtMost (most_writes old.at.blocks (need old.base.root.limits built)) most_syncs old.status new.status → (fault ≡ point.Age → IsLastRoot old.base.root) → IsUnpointed fault e asked old new
-  point_unmade point.Memory asked of settled_is after_is h k disk at made touched cause later costs aged = λ i. record { world = world (sym disk ∙ made) i; kept = kept i; kept_since = since i; point = going i; room = room i; at = at (not_device point.Memory refl) i; base = base i; disk = (sym disk ∙ made) i; status = cause i }
-  point_unmade point.Age asked of settled_is after_is h k disk at made touched cause later costs aged = (λ i. record { world = world (sym disk ∙ made) i; kept = kept i; kept_since = since i; point = going i; room = room i; at = at (not_device point.Age refl) i; base = base i; disk = (sym disk ∙ made) i; status = cause i }, aged refl)
-  point_unmade point.Read asked of settled_is after_is h k disk at made touched cause later costs aged = (λ i. record { world = world (sym disk ∙ made) i; kept = kept i; kept_since = since i; point = going i; room = room i; at = at (not_device point.Read refl) i; base = base i; disk = (sym disk ∙ made) i; status = new.status }, cause)
-  point_unmade point.Damaged asked of settled_is after_is h k disk at made touched cause later costs aged = absurd made
-  point_unmade point.Device asked of settled_is after_is h k disk at made touched cause later costs aged = record {
+      → CostsAtMost (most_writes old.at.blocks (need old.base.root.limits built)) most_syncs old.status new.status → (fault ≡ point.Age → IsLastRoot old.base.root) → IsUnpointedTo fault after Builds old new
+  point_unmade point.Memory asked of settled_is after_is h k disk at made touched cause on costs aged = λ i. record { world = world (sym disk ∙ made) i; kept = kept i; kept_since = since i; point = going i; room = room i; at = at (not_device point.Memory refl) i; base = base i; disk = (sym disk ∙ made) i; status = cause i }
+  point_unmade point.Age asked of settled_is after_is h k disk at made touched cause on costs aged = (λ i. record { world = world (sym disk ∙ made) i; kept = kept i; kept_since = since i; point = going i; room = room i; at = at (not_device point.Age refl) i; base = base i; disk = (sym disk ∙ made) i; status = cause i }, aged refl)
+  point_unmade point.Read asked of settled_is after_is h k disk at made touched cause on costs aged = (λ i. record { world = world (sym disk ∙ made) i; kept = kept i; kept_since = since i; point = going i; room = room i; at = at (not_device point.Read refl) i; base = base i; disk = (sym disk ∙ made) i; status = new.status }, cause)
+  point_unmade point.Damaged asked of settled_is after_is h k disk at made touched cause on costs aged = absurd made
+  point_unmade point.Device asked of settled_is after_is h k disk at made touched cause on costs aged = record {
     touched = touched;
     built = built;
     builds = builds;
-    moments = subst (λ (d : Disk). LeavesOnly old.disk d (EitherImage old.world (pointed asked (world_behind e old.world)))) disk
+    moments = subst (λ (d : Disk). LeavesOnly old.disk d (EitherImage old.world after)) disk
         (subst (λ (w : World). LeavesOnly old.disk h.disk (λ c. IsImage c (settle old.world) ⊎ IsImage c (settle w))) after_is (subst (λ (w : World). LeavesOnly old.disk h.disk (λ c. IsImage c w ⊎ IsImage c (settle (pointed asked of)))) settled_is made));
     failed = cause;
-    later = later;
+    later = on;
     costs = costs;
   }
 
 -- ---- an event whose point isn't made
 
--- what it answers from this world, and what it may cost
-pub record PointEvent (e : Event) (old : Held) (w : World) : Type 0 where
+-- what it answers from this world, and what it leaves, where its point isn't made, which is built so
+pub record PointEvent (e : Event) (Builds : Layer → Type 0) (old : Held) (w : World) : Type 0 where
   pub needed : NeedsPoint old e
   pub memory : EventStep limits_written (Running w) e (Some Memory) (refused Enomem) (Running w)
   pub read : EventStep limits_written (Running w) e (Some Read) (refused Eio) (Running w)
   pub age : EventStep limits_written (Running w) e (Some Age) (refused Elimit) (Running w)
+  pub aged : IsLastRoot old.base.root → LacksAge e old old
   pub after : World
   pub cut : EventStep limits_written (Running w) e (Some Write) (refused Eio) (Stopped (settle w) after)
   pub unchanged : (m : Mishap) (new : Held) → IsUnchanged m old new → Leaves (Running w) e (Some m) (refused (errno_of m)) (Running w) old old new
-  pub cut_off : (new : Held) → IsCutAtPoint old e new.disk new.status → Leaves (Running w) e (Some Write) (refused Eio) (Stopped (settle w) after) old old new
+  pub cut_point : (new : Held) → IsCutPoint Builds old new.disk new.status → Leaves (Running w) e (Some Write) (refused Eio) (Stopped (settle w) after) old old new
+  pub cut_finish : (new : Held) → IsCutFinish old e new.disk new.status → Leaves (Running w) e (Some Write) (refused Eio) (Stopped (settle w) after) old old new
 
 -- it was cut off, and either world may be there
-pub is_cut : (e : Event) (old : Held) (x : PointEvent e old old.world) (new : Held) → LeavesOnly old.disk new.disk (λ c. IsImage c (settle old.world) ⊎ IsImage c x.after) → HasFailed old.status new.status → IsLater old.status new.status → IsCutAtPoint old e new.disk new.status
-    → AnswersFrom (Running old.world) e (refused Eio) old new true
-is_cut e old x new moments failed later cut =
+pub is_cut : (e : Event) (Builds : Layer → Type 0) (old : Held) (x : PointEvent e Builds old old.world) (new : Held) → LeavesOnly old.disk new.disk (λ c. IsImage c (settle old.world) ⊎ IsImage c x.after) → HasFailed old.status new.status → IsLater old.status new.status
+    → Leaves (Running old.world) e (Some Write) (refused Eio) (Stopped (settle old.world) x.after) old old new → AnswersFrom (Running old.world) e (refused Eio) old new true
+is_cut e Builds old x new moments failed later leaves =
     let now = LeavesOnly-now old.disk new.disk (λ d. IsImage d (settle old.world) ⊎ IsImage d x.after) moments in
     record {
       met = Some Write;
@@ -275,55 +322,82 @@ is_cut e old x new moments failed later cut =
         answered = now;
       };
       later = later;
-      leaves = x.cut_off new cut;
+      leaves = leaves;
     }
 
-module _ (e : Event) (old : Held) (x : PointEvent e old old.world) (between : old.point ≡ None) (r : RunsReady old old.world old.base) where
+-- It is answered at once, and where it was cut off, its point was.
+pub record IsUnmade (e : Event) (Builds : Layer → Type 0) (reply : Reply) (old new : Held) (has_stopped : Bool) : Type 0 where
+  pub answers : AnswersFrom (Running old.world) e reply old new has_stopped
+  pub at_once : (answers.fin ≡ old) × (answers.mid ≡ old)
+  pub cut : answers.met ≡ Some Write → IsCutPoint Builds old new.disk new.status
+
+module _ (e : Event) (Builds : Layer → Type 0) (old : Held) (x : PointEvent e Builds old old.world) (between : old.point ≡ None) (r : RunsReady old old.world old.base) where
   abbrev running : RunsWith old.point old old.world
   running = running_between old old.world between r
 
+  not_cut : (m : Mishap) → (m ≡ Write → ⊥) → (new : Held) → Some m ≡ Some Write → IsCutPoint Builds old new.disk new.status
+  not_cut m other new same = let is : m ≡ Write = cc in absurd (other is)
+
   -- nothing has changed
-  refuses : (m : Mishap) → IsUnchanged m old old → MayMeet old old e (Some m) old.status → EventStep limits_written (Running old.world) e (Some m) (refused (errno_of m)) (Running old.world) → AnswersFrom (Running old.world) e (refused (errno_of m)) old old false
-  refuses m is may step = record {
-    met = Some m;
-    fin = old;
-    finish = inl refl;
-    mid = old;
-    point = inl refl;
-    may = may;
-    next = Running old.world;
-    step = step;
-    means = (refl, running);
-    lasts = stays_lasts old false (Running old.world) (refl, running);
-    later = later-same old.status old.status refl;
-    leaves = x.unchanged m old is;
+  refuses : (m : Mishap) → (m ≡ Write → ⊥) → IsUnchanged m old old → MayMeet old old e (Some m) old.status → EventStep limits_written (Running old.world) e (Some m) (refused (errno_of m)) (Running old.world) → IsUnmade e Builds (refused (errno_of m)) old old false
+  refuses m other is may step = record {
+    answers = record {
+      met = Some m;
+      fin = old;
+      finish = inl refl;
+      mid = old;
+      point = inl refl;
+      may = may;
+      next = Running old.world;
+      step = step;
+      means = (refl, running);
+      lasts = stays_lasts old false (Running old.world) (refl, running);
+      later = later-same old.status old.status refl;
+      leaves = x.unchanged m old is;
+    };
+    at_once = (refl, refl);
+    cut = not_cut m other old;
   }
 
   -- but what the device counts
-  cannot_read : (new : Held) → new ≡ record old { status = new.status } → FailsRead old.status new.status → AnswersFrom (Running old.world) e (refused Eio) old new false
+  cannot_read : (new : Held) → new ≡ record old { status = new.status } → FailsRead old.status new.status → IsUnmade e Builds (refused Eio) old new false
   cannot_read new is fails =
       let told = fails_read old.status new.status fails in
-      subst (λ (h : Held). AnswersFrom (Running old.world) e (refused Eio) old h false) (sym is) (record {
-        met = Some Read;
-        fin = old;
-        finish = inl refl;
-        mid = old;
-        point = inl refl;
-        may = told.0;
-        next = Running old.world;
-        step = x.read;
-        means = (refl, running_between (record old { status = new.status }) old.world between (ready_with old old.world old.base old.kept old.kept_since old.base old.point new.status r));
-        lasts = stays_lasts old false (Running old.world) (refl, running);
-        later = told.1;
-        leaves = x.unchanged Read (record old { status = new.status }) (refl, fails);
+      subst (λ (h : Held). IsUnmade e Builds (refused Eio) old h false) (sym is) (record {
+        answers = record {
+          met = Some Read;
+          fin = old;
+          finish = inl refl;
+          mid = old;
+          point = inl refl;
+          may = told.0;
+          next = Running old.world;
+          step = x.read;
+          means = (refl, running_between (record old { status = new.status }) old.world between (ready_with old old.world old.base old.kept old.kept_since old.base old.point new.status r));
+          lasts = stays_lasts old false (Running old.world) (refl, running);
+          later = told.1;
+          leaves = x.unchanged Read (record old { status = new.status }) (refl, fails);
+        };
+        at_once = (refl, refl);
+        cut = not_cut Read (λ e. cc e) (record old { status = new.status });
       })
 
-  pub unpointed_answers : (asked : AskedPoint) → ((d : Contents) → EitherImage old.world (pointed asked (world_behind e old.world)) d → IsImage d (settle old.world) ⊎ IsImage d x.after) → (fault : PointFault) (new : Held) → IsUnpointed fault e asked old new → AnswersFrom (Running old.world) e (refused (errno_of_point fault)) old new (stops_for fault)
-  unpointed_answers asked shows point.Memory new is = subst (λ (h : Held). AnswersFrom (Running old.world) e (refused Enomem) old h false) (sym is) (refuses Memory refl refl x.memory)
-  unpointed_answers asked shows point.Age new is = subst (λ (h : Held). AnswersFrom (Running old.world) e (refused Elimit) old h false) (sym is.0) (refuses Age refl (x.needed, is.1, refl) x.age)
-  unpointed_answers asked shows point.Read new is = cannot_read new is.0 is.1
-  unpointed_answers asked shows point.Damaged new is = absurd is
-  unpointed_answers asked shows point.Device new is = is_cut e old x new (LeavesOnly-weaker old.disk new.disk (EitherImage old.world (pointed asked (world_behind e old.world))) (λ d. IsImage d (settle old.world) ⊎ IsImage d x.after) shows is.moments) is.failed is.later (inl (record { needed = x.needed; touched = is.touched; built = is.built; builds = is.builds; costs = is.costs }))
+  is_cut_point : (new : Held) (world_after : World) → ((d : Contents) → EitherImage old.world world_after d → IsImage d (settle old.world) ⊎ IsImage d x.after) → IsCutOffIn world_after Builds old new → IsUnmade e Builds (refused Eio) old new true
+  unfolding is_cut
+  is_cut_point new world_after shows is =
+      let cut : IsCutPoint Builds old new.disk new.status = record { touched = is.touched; built = is.built; builds = is.builds; costs = is.costs } in
+      record {
+        answers = is_cut e Builds old x new (LeavesOnly-weaker old.disk new.disk (EitherImage old.world world_after) (λ d. IsImage d (settle old.world) ⊎ IsImage d x.after) shows is.moments) is.failed is.later (x.cut_point new cut);
+        at_once = (refl, refl);
+        cut = λ _. cut;
+      }
+
+  pub unpointed_answers : (world_after : World) → ((d : Contents) → EitherImage old.world world_after d → IsImage d (settle old.world) ⊎ IsImage d x.after) → (fault : PointFault) (new : Held) → IsUnpointedTo fault world_after Builds old new → IsUnmade e Builds (refused (errno_of_point fault)) old new (stops_for fault)
+  unpointed_answers world_after shows point.Memory new is = subst (λ (h : Held). IsUnmade e Builds (refused Enomem) old h false) (sym is) (refuses Memory (λ e. cc e) refl refl x.memory)
+  unpointed_answers world_after shows point.Age new is = subst (λ (h : Held). IsUnmade e Builds (refused Elimit) old h false) (sym is.0) (refuses Age (λ e. cc e) refl (x.aged is.1, refl) x.age)
+  unpointed_answers world_after shows point.Read new is = cannot_read new is.0 is.1
+  unpointed_answers world_after shows point.Damaged new is = absurd is
+  unpointed_answers world_after shows point.Device new is = is_cut_point new world_after shows is
 
 -- ---- a call
 
@@ -335,16 +409,18 @@ unchanged_call old session c Write new is = absurd is
 unchanged_call old session c Space new is = is
 unchanged_call old session c Age new is = is
 
-pub call_point : (old : Held) (session : ℕ) (c : Call) → IsCall c → IsWorld limits_written old.world → LacksFirst old session c → PointEvent (event.Call session c) old old.world
+pub call_point : (old : Held) (session : ℕ) (c : Call) → IsCall c → IsWorld limits_written old.world → LacksFirst old session c → PointEvent (event.Call session c) (BuildsFor Plain old) old old.world
 call_point old session c numbers whole needed = record {
   needed = inl needed;
   memory = (takes, record { told = refl; same = refl });
   read = (takes, record { told = refl; same = refl });
   age = ((o, is.decided, inl charged), record { told = refl; same = refl });
+  aged = λ last. (inl needed, last);
   after = settle next;
   cut = record { outcome = o; decided = is.decided; writes = inl charged; next = next; comes = comes old session c o is.picked needed.change numbers whole is.decided is.chosen is.is can.tree can.applied; stops = record { told = refl; left = refl } };
   unchanged = unchanged_call old session c;
-  cut_off = λ new cut. inr cut;
+  cut_point = λ new cut. inr (inr (inl (inl needed, cut)));
+  cut_finish = λ new cut. inr (inr (inr cut));
 }
   where
     is : IsChangeOf old.world old.kept session c needed.change
@@ -365,44 +441,42 @@ call_point old session c numbers whole needed = record {
     takes : TakesMemory c × IsOk (ready old.world session c)
     takes = change_takes old.world old.kept session c o is.picked needed.change is.decided is.chosen is.is
 
-unpointed_call : (old new : Held) (session : ℕ) (c : Call) (fault : PointFault) → IsCall c → IsWorld limits_written old.world → LacksFirst old session c → old.point ≡ None → RunsReady old old.world old.base → IsUnpointed fault (event.Call session c) Plain old new
+unpointed_call : (old new : Held) (session : ℕ) (c : Call) (fault : PointFault) → IsCall c → IsWorld limits_written old.world → LacksFirst old session c → old.point ≡ None → RunsReady old old.world old.base → IsUnpointed fault Plain old new
     → AnswersFrom (Running old.world) (event.Call session c) (refused (errno_of_point fault)) old new (stops_for fault)
-unpointed_call old new session c fault numbers whole needed between r is = unpointed_answers (event.Call session c) old (call_point old session c numbers whole needed) between r Plain (λ d either. inl (either_same either)) fault new is
+unpointed_call old new session c fault numbers whole needed between r is = (unpointed_answers (event.Call session c) (BuildsFor Plain old) old (call_point old session c numbers whole needed) between r old.world (λ d either. inl (either_same either)) fault new is).answers
 
--- a point that isn't made in a call is as one in a step
-pub unmade_in_call : (fault : PointFault) (session : ℕ) (c : Call) (asked : AskedPoint) (old new : Held) → IsUnpointed fault event.Step asked old new → IsUnpointed fault (event.Call session c) asked old new
-unmade_in_call point.Memory session c asked old new is = is
-unmade_in_call point.Age session c asked old new is = is
-unmade_in_call point.Read session c asked old new is = is
-unmade_in_call point.Damaged session c asked old new is = is
-unmade_in_call point.Device session c asked old new is = is
+-- room can be made of any world
+pub can_make_room : (old : Held) → IsWorld limits_written old.world → CanPoint Plain old.world
+can_make_room old whole = record { can = tt; whole = whole; other = refl }
 
 -- the same in each world that is meant
-pub call_behind : (old mid new : Held) (session : ℕ) (c : Call) (reply : Reply) (has_stopped : Bool) → old.point ≡ None → LacksFirst old session c → Points (Ok tt) Plain old mid → Serves (Some reply) mid session c new has_stopped → Answers (event.Call session c) reply old false new has_stopped
-call_behind old mid new session c reply has_stopped between needed points serves =
-    in_its_world (event.Call session c) old new reply has_stopped between (λ r. let p = points r tt in behind_point old mid new session c needed p (serves (Running old.world) (refl, running_between mid old.world p.fresh.between p.runs)))
+pub call_behind : (old mid new : Held) (session : ℕ) (c : Call) (reply : Reply) (has_stopped : Bool) → IsWorld limits_written old.world → old.point ≡ None → LacksFirst old session c → Points (Ok tt) Plain old mid → Serves (Some reply) mid session c new has_stopped → Answers (event.Call session c) reply old false new has_stopped
+call_behind old mid new session c reply has_stopped whole between needed points serves =
+    in_its_world (event.Call session c) old new reply has_stopped between (λ r. let p = points r (can_make_room old whole) in behind_point old mid new session c (inl needed) p (serves (Running old.world) (refl, running_between mid old.world p.fresh.between p.runs)))
 
-pub call_without_room : PayloadsFit → (old mid new : Held) (session : ℕ) (c : Call) → IsWorld limits_written mid.world → old.point ≡ None → LacksFirst old session c → Points (Ok tt) Plain old mid → Serves None mid session c new false → Answers (event.Call session c) (refused Enospc) old false new false
-call_without_room fit old mid new session c whole between needed points serves =
+pub call_without_room : PayloadsFit → (old mid new : Held) (session : ℕ) (c : Call) → IsWorld limits_written old.world → IsWorld limits_written mid.world → old.point ≡ None → LacksFirst old session c → Points (Ok tt) Plain old mid → Serves None mid session c new false → Answers (event.Call session c) (refused Enospc) old false new false
+call_without_room fit old mid new session c before whole between needed points serves =
     subst (λ (h : Held). Answers (event.Call session c) (refused Enospc) old false h false) (sym serves.1)
-    (in_its_world (event.Call session c) old mid (refused Enospc) false between (λ r. space_answers fit old mid session c whole needed (points r tt) serves.0))
+    (in_its_world (event.Call session c) old mid (refused Enospc) false between (λ r. let p = points r (can_make_room old before) in space_answers old mid session c (inl needed) p (still_lacks fit old mid session c whole p serves.0)))
 
 pub call_unpointed : (old new : Held) (session : ℕ) (c : Call) (fault : PointFault) → IsCall c → IsWorld limits_written old.world → old.point ≡ None → LacksFirst old session c → Points (Err fault) Plain old new → Answers (event.Call session c) (refused (errno_of_point fault)) old false new (stops_for fault)
 call_unpointed old new session c fault numbers whole between needed points =
-    in_its_world (event.Call session c) old new (refused (errno_of_point fault)) (stops_for fault) between (λ r. unpointed_call old new session c fault numbers whole needed between r (unmade_in_call fault session c Plain old new (points r tt)))
+    in_its_world (event.Call session c) old new (refused (errno_of_point fault)) (stops_for fault) between (λ r. unpointed_call old new session c fault numbers whole needed between r (points r (can_make_room old whole)))
 
 -- ---- a restart whose unmount is refused
 
-pub unmount_point : (old : Held) → PointEvent event.Restart old old.world
+pub unmount_point : (old : Held) → PointEvent event.Restart (BuildsLast old) old old.world
 unmount_point old = record {
   needed = tt;
   memory = inl (record { told = refl; same = refl });
   read = inl (record { told = refl; same = refl });
   age = inl (record { told = refl; same = refl });
+  aged = λ last. last;
   after = settle old.world;
   cut = inl (record { told = refl; left = refl });
   unchanged = unchanged;
-  cut_off = λ new cut. cut;
+  cut_point = λ new cut. inl cut;
+  cut_finish = λ new cut. inr cut;
 }
   where
     unchanged : (m : Mishap) (new : Held) → IsUnchanged m old new → LeavesRestart old old (Some m) (Running old.world) new
@@ -412,6 +486,6 @@ unmount_point old = record {
     unchanged Space new is = is
     unchanged Age new is = is
 
-pub unpointed_restart : (old new : Held) (fault : PointFault) → old.point ≡ None → RunsReady old old.world old.base → IsUnpointed fault event.Restart Plain old new
+pub unpointed_restart : (old new : Held) (fault : PointFault) → old.point ≡ None → RunsReady old old.world old.base → IsUnpointedLast fault old new
     → AnswersFrom (Running old.world) event.Restart (refused (errno_of_point fault)) old new (stops_for fault)
-unpointed_restart old new fault between r is = unpointed_answers event.Restart old (unmount_point old) between r Plain (λ d either. inl (settles_same old.world either)) fault new is
+unpointed_restart old new fault between r is = (unpointed_answers event.Restart (BuildsLast old) old (unmount_point old) between r (settle old.world) (λ d either. inl (settles_same old.world either)) fault new is).answers

@@ -161,7 +161,7 @@ unmade_step : (old new : Held) (fault : PointFault) → RunsWith old.point old o
 unmade_step old new point.Memory runs is =
     subst (λ (h : Held). AnswersFrom (Running old.world) event.Step (refused Enomem) old h false) (sym is) (refused_step old Memory runs refl (record { told = refl; same = refl }) refl)
 unmade_step old new point.Age runs is =
-    subst (λ (h : Held). AnswersFrom (Running old.world) event.Step (refused Elimit) old h false) (sym is.0) (refused_step old Age runs (tt, is.1, refl) (record { told = refl; same = refl }) refl)
+    subst (λ (h : Held). AnswersFrom (Running old.world) event.Step (refused Elimit) old h false) (sym is.0) (refused_step old Age runs (is.1, refl) (record { told = refl; same = refl }) refl)
 unmade_step old new point.Read runs is = unread_step old new runs is.0 is.1
 unmade_step old new point.Damaged runs is = absurd is
 unmade_step old new point.Device runs is = cut_step old new is

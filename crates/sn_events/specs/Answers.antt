@@ -1,6 +1,6 @@
 -- What an event leads a mounted file system to, on its disk too.
-use Rattle.std.specs.Prelude.{◌≡◌, ◌≢◌, ◌⊎◌, ℕ, ◌+◌, ◌-◌, ◌*◌, ◌≤◌, Bool, false, true, ◌||◌, Option, None, Some, Ok, length}
-use Rattle.std.proofs.Common.{inl, inr}
+use Rattle.std.specs.Prelude.{◌≡◌, ◌≢◌, ◌⊎◌, ℕ, ◌+◌, ◌-◌, ◌*◌, ◌<◌, ◌≤◌, Bool, false, true, ◌||◌, Option, None, Some, List, Ok, length}
+use Rattle.std.specs.FinMap as map
 use Rattle.sn_device.specs.Crash.{Touches}
 use Rattle.sn_device.specs.Disk.{Disk, reads}
 use Rattle.sn_device.specs.declared.status.Status.{Status}
@@ -12,17 +12,18 @@ use Rattle.sn_model.specs.declared.call.Event.{Event}
 use Rattle.sn_model.specs.declared.call.Event.TheVariants as event
 use Rattle.sn_model.specs.declared.change.Change.{Change}
 use Rattle.sn_model.specs.declared.outcome.AskedPoint.{AskedPoint}
-use Rattle.sn_model.specs.declared.outcome.AskedPoint.TheVariants.{Plain}
+use Rattle.sn_model.specs.declared.outcome.AskedPoint.TheVariants.{Plain, Restores}
 use Rattle.sn_model.specs.declared.outcome.Outcome.{Outcome}
 use Rattle.sn_model.specs.declared.reply.Progress.TheVariants as progress
 use Rattle.sn_model.specs.declared.reply.Reply.{Reply}
 use Rattle.sn_model.specs.declared.reply.Reply.TheVariants as answer
 use Rattle.sn_model.specs.Changes.{apply}
-use Rattle.sn_model.specs.Machine.{State, Running, Stopped, Mishap, Memory, Read, Write, Space, Age, EventStep}
-use Rattle.sn_model.specs.Settling.{dropped, nameless_in, settle}
+use Rattle.sn_model.specs.Machine.{State, Running, Stopped, Mishap, Read, Write, Space, Age, EventStep}
+use Rattle.sn_model.specs.Settling.{dropped, nameless_in, settle, settled}
 use Rattle.sn_model.specs.Steps.{AsksForPoint, decision, pointed, with_caller, with_live}
 use Rattle.sn_model.specs.Tree.{Tree}
 use Rattle.sn_model.specs.World.{World}
+use Rattle.sn_changed.specs.Changed.{HasChanged}
 use Rattle.sn_block.specs.Counts.{FailsRead, IsLater, called}
 use Rattle.sn_ondisk.specs.LogHalf.{InHalf, body_sectors}
 use Rattle.sn_record.specs.Payload.{payload_bytes}
@@ -69,11 +70,12 @@ pub record IsChangeOf (world : World) (kept : ℕ → Bool) (session : ℕ) (c :
 abbrev pub is_fitting : Held → Outcome → Bool
 is_fitting h o = fits limits_written h.room (nameless_in h.world.live) o
 
--- the charge of a call's change, with those from before it, is more than is free
+-- What a call is charged for, with what was charged before it, is more than is free. One that is charged for nothing takes no block.
 pub record DoesNotFit (h : Held) (session : ℕ) (c : Call) : Type 0 where
-  pub change : Change
-  pub is : IsChangeOf h.world h.kept session c change
-  pub over : is_fitting h is.outcome ≡ false
+  pub outcome : Outcome
+  pub decided : decision limits_written h.world session c ≡ Ok outcome
+  pub some : 0 < outcome.charge
+  pub over : is_fitting h outcome ≡ false
 
 -- What the change of a call lacks: room for its record in the log, or for its charge on the disk; a number, where one that is kept back would be given out; or a root that could follow, so that a mount could make a point of what is logged.
 abbrev pub Lacks : Held → Change → Outcome → Type 0
@@ -91,50 +93,52 @@ pub record AsksFirst (h : Held) (session : ℕ) (c : Call) : Type 0 where
   pub outcome : Outcome
   pub decided : decision limits_written h.world session c ≡ Ok outcome
 
--- Then the point in progress is finished first, and a whole point comes where that isn't enough. A step asks for a point, and the unmount of a restart for a whole one.
+-- Then the point in progress is finished first. A step asks for a point, and the unmount of a restart for a whole one.
 abbrev pub NeedsPoint : Held → Event → Type 0
 NeedsPoint h (event.Call session c) = LacksFirst h session c ⊎ AsksFirst h session c
-NeedsPoint h event.Step = Unit {0}
-NeedsPoint h event.Restart = Unit {0}
+NeedsPoint h e = Unit {0}
 
--- which point it is: a plain one, but that of a call on snapshots
-abbrev pub asked_in : (h : Held) (e : Event) → NeedsPoint h e → AskedPoint
-asked_in h (event.Call session c) (inl lacks) = Plain
-asked_in h (event.Call session c) (inr asked) = asked.outcome.point
-asked_in h event.Step needed = Plain
-asked_in h event.Restart needed = Plain
+-- The layer drops the files without names of a snapshot's tree, and nothing else.
+pub record DropsUnnamed (name : List ℕ) (old : Held) (built : Layer) : Type 0 where
+  pub tree : Tree
+  pub frozen : map.get old.world.frozen name ≡ Some tree
+  pub changed : HasChanged limits_written built tree (settled tree) 0
 
--- The world that a point is made of: an unmount drops the files that no name stands for.
-abbrev pub world_behind : Event → World → World
-world_behind (event.Call session c) world = world
-world_behind event.Step world = world
-world_behind event.Restart world = settle world
+-- What the point of a call is built of: what changed since the root, and where it brings a snapshot back, what drops the files without names of that one's tree.
+abbrev pub BuildsFor : AskedPoint → Held → Layer → Type 0
+BuildsFor (Restores name) old built = DropsUnnamed name old built
+BuildsFor asked old built = built ≡ old.base.changed
 
--- what a point is built of: what changed since the root, without the files that go
-abbrev pub BuildsOf : Event → Held → Layer → Type 0
-BuildsOf (event.Call session c) old built = built ≡ old.base.changed
-BuildsOf event.Step old built = built ≡ old.base.changed
-BuildsOf event.Restart old built = DropsFiles old.base old.world.live (record old.base { changed = built }) (settle old.world).live
+-- and that of an unmount: of that without the files that no name stands for
+abbrev pub BuildsLast : Held → Layer → Type 0
+BuildsLast old built = DropsFiles old.base old.world.live (record old.base { changed = built }) (settle old.world).live
 
 -- the sectors beside the root that counts
 abbrev pub IsBesideRoot : Held → ℕ → Type 0
 IsBesideRoot h = IsApart h.at.blocks h.base.slot
 
--- A whole point was made first, where none was in progress, with its writes and syncs, beside the root that counted: nothing was done since its root, which follows on that, and the snapshots are those that were asked for.
-pub record HasMadePoint (e : Event) (old mid : Held) : Type 0 where
-  pub needed : NeedsPoint old e
+-- A whole point was made, where none was in progress, with its writes and syncs, beside the root that counted: nothing was done since its root, which follows on that and has this world.
+pub record HasMadePoint (world : World) (Builds : Layer → Type 0) (old new : Held) : Type 0 where
   pub between : old.point ≡ None
-  pub world : mid.world ≡ pointed (asked_in old e needed) (world_behind e old.world)
-  pub fresh : IsFresh mid
-  pub log : mid.at ≡ first_of old.at.blocks (old.at.epoch + 1)
-  pub follows : IsFollowing Ordinary old.base.root mid.base.root
-  pub touched : Touches (IsBesideRoot old) old.disk mid.disk
+  pub is : new.world ≡ world
+  pub fresh : IsFresh new
+  pub log : new.at ≡ first_of old.at.blocks (old.at.epoch + 1)
+  pub follows : IsFollowing Ordinary old.base.root new.base.root
+  pub touched : Touches (IsBesideRoot old) old.disk new.disk
   pub built : Layer
-  pub builds : BuildsOf e old built
+  pub builds : Builds built
   pub count : ℕ
   pub few : count ≤ need old.base.root.limits built
   pub gate : Gate
-  pub costs : mid.status ≡ called (writes_of_point old.at.blocks gate count) (syncs_of_point gate) old.status
+  pub costs : new.status ≡ called (writes_of_point old.at.blocks gate count) (syncs_of_point gate) old.status
+
+-- one that only makes room
+abbrev pub HasMadeRoom : Held → Held → Type 0
+HasMadeRoom old new = HasMadePoint old.world (BuildsFor Plain old) old new
+
+-- that of an unmount
+abbrev pub HasMadeLast : Held → Held → Type 0
+HasMadeLast old new = HasMadePoint (settle old.world) (BuildsLast old) old new
 
 -- what is kept once a point in progress is done
 abbrev pub base_of : Going → Kept → Kept
@@ -154,39 +158,51 @@ pub record HasFinished (old new : Held) : Type 0 where
   pub touched : Touches (IsBesideRoot old) old.disk new.disk
   pub costs : new.status ≡ called (writes_left going.work going.stage) (syncs_left going.work going.stage) old.status
 
--- What may finish the point in progress, or make a whole one: a call or a restart of a mount that runs. A step makes one step alone.
+-- What may finish the point in progress: a call or a restart of a mount that runs. A step makes one step alone.
 abbrev pub MayPoint : State → Event → Type 0
-MayPoint (Running w) (event.Call session c) = Unit {0}
 MayPoint (Running w) event.Step = ⊥
-MayPoint (Running w) event.Restart = Unit {0}
+MayPoint (Running w) e = Unit {0}
 MayPoint (Stopped before after) e = ⊥
 
 -- What is held once the point in progress is finished, where an event needs that: else what was held.
 abbrev pub IsBehindFinish : State → Event → Held → Held → Type 0
 IsBehindFinish s e old fin = (fin ≡ old) ⊎ (MayPoint s e × NeedsPoint old e × HasFinished old fin)
 
+-- A call needs a whole point first whose change lacks something, or one that asks for a point of its own, where it doesn't fit.
+abbrev pub NeedsRoom : Held → ℕ → Call → Type 0
+NeedsRoom h session c = LacksFirst h session c ⊎ (AsksForPoint c × DoesNotFit h session c)
+
+-- the whole point that an event of a mount that runs makes first: one that makes room for a call, or that of an unmount
+abbrev pub MakesFirst : State → Event → Held → Held → Type 0
+MakesFirst (Running w) (event.Call session c) old mid = NeedsRoom old session c × HasMadeRoom old mid
+MakesFirst (Running w) event.Restart old mid = HasMadeLast old mid
+MakesFirst s e old mid = ⊥
+
 -- What is held behind the whole point that an event makes first, where it makes one: else what was held.
 abbrev pub IsBehindPoint : State → Event → Held → Held → Type 0
-IsBehindPoint s e old mid = (mid ≡ old) ⊎ (MayPoint s e × HasMadePoint e old mid)
-
--- what lacks right behind a whole point
-abbrev pub LacksRoom : Held → Event → Type 0
-LacksRoom h (event.Call session c) = DoesNotFit h session c
-LacksRoom h event.Step = ⊥
-LacksRoom h event.Restart = ⊥
+IsBehindPoint s e old mid = (mid ≡ old) ⊎ MakesFirst s e old mid
 
 -- no root can follow on it that leaves an age for another
 abbrev pub IsLastRoot : RootBody → Type 0
 IsLastRoot root = HasAgeFor Ordinary root → ⊥
 
+-- A call doesn't fit right behind a whole point that made room for it.
+abbrev pub LacksRoom : Event → Held → Held → Type 0
+LacksRoom (event.Call session c) old mid = NeedsRoom old session c × HasMadeRoom old mid × DoesNotFit mid session c
+LacksRoom e old mid = ⊥
+
+-- The root is too old of which a point is needed: of a call behind one that made room for it, too.
+abbrev pub LacksAge : Event → Held → Held → Type 0
+LacksAge (event.Call session c) old mid = NeedsPoint mid (event.Call session c) × IsLastRoot mid.base.root
+LacksAge e old mid = IsLastRoot old.base.root
+
 -- what an event may meet with: EIO only where the device failed, ENOSPC only where the call doesn't fit right behind a whole point, ELIMIT for age only where a point is needed and its root would be too old, and nothing but EIO where the device failed
 abbrev pub MayMeet : Held → Held → Event → Option Mishap → Status → Type 0
-MayMeet old mid e None new = HasNotFailed old.status new
-MayMeet old mid e (Some Memory) new = HasNotFailed old.status new
 MayMeet old mid e (Some Read) new = HasFailed old.status new
 MayMeet old mid e (Some Write) new = HasFailed old.status new
-MayMeet old mid e (Some Space) new = LacksRoom mid e × HasMadePoint e old mid × HasNotFailed old.status new
-MayMeet old mid e (Some Age) new = NeedsPoint old e × IsLastRoot old.base.root × HasNotFailed old.status new
+MayMeet old mid e (Some Space) new = LacksRoom e old mid × HasNotFailed old.status new
+MayMeet old mid e (Some Age) new = LacksAge e old mid × HasNotFailed old.status new
+MayMeet old mid e met new = HasNotFailed old.status new
 
 -- the writes of a record: its body's sectors, the next gate closed and its own gate opened
 abbrev pub writes_of : Change → ℕ
@@ -251,12 +267,11 @@ pub record IsTried (h : Held) (session : ℕ) (c : Call) (disk : Disk) (status :
   pub touched : Touches (InHalf (base_at h.at)) h.disk disk
   pub costs : CostsAtMost (writes_of change) 2 h.status status
 
--- a point that was needed was cut off
-pub record IsCutPoint (old : Held) (e : Event) (disk : Disk) (status : Status) : Type 0 where
-  pub needed : NeedsPoint old e
+-- a whole point was cut off
+pub record IsCutPoint (Builds : Layer → Type 0) (old : Held) (disk : Disk) (status : Status) : Type 0 where
   pub touched : Touches (IsBesideRoot old) old.disk disk
   pub built : Layer
-  pub builds : BuildsOf e old built
+  pub builds : Builds built
   pub costs : CostsAtMost (most_writes old.at.blocks (need old.base.root.limits built)) most_syncs old.status status
 
 -- the point in progress was cut off while it was finished
@@ -267,19 +282,37 @@ pub record IsCutFinish (old : Held) (e : Event) (disk : Disk) (status : Status) 
   pub is : old.point ≡ Some going
   pub costs : CostsAtMost (writes_left going.work going.stage) (syncs_left going.work going.stage) old.status status
 
--- one or the other
-abbrev pub IsCutAtPoint : Held → Event → Disk → Status → Type 0
-IsCutAtPoint old e disk status = IsCutPoint old e disk status ⊎ IsCutFinish old e disk status
+-- A call that asks for a point, and whose tests pass, has made it, where it fits.
+pub record HasPointed (session : ℕ) (c : Call) (old new : Held) : Type 0 where
+  pub asked : AsksFirst old session c
+  pub fits : DoesNotFit old session c → ⊥
+  pub made : HasMadePoint (pointed asked.outcome.point old.world) (BuildsFor asked.outcome.point old) old new
 
--- A call that asks for a point, and whose tests pass, is answered behind one, and leaves what is held there.
-abbrev pub MakesAsked : Held → Held → ℕ → Call → Held → Type 0
-MakesAsked old mid session c new = AsksFirst old session c → HasMadePoint (event.Call session c) old mid × (new ≡ mid)
+-- or it was cut off
+pub record IsCutAsked (session : ℕ) (c : Call) (old : Held) (disk : Disk) (status : Status) : Type 0 where
+  pub asked : AsksFirst old session c
+  pub fits : DoesNotFit old session c → ⊥
+  pub cut : IsCutPoint (BuildsFor asked.outcome.point old) old disk status
 
--- Behind the point that a call makes first, where it needs one: a call that comes to a change is recorded, also where the change alters nothing, and any other writes nothing; nor does one that is refused.
+-- any other call
+pub record HasServed (session : ℕ) (c : Call) (old new : Held) : Type 0 where
+  pub alone : AsksFirst old session c → ⊥
+  pub leaves : HasTold session c old new ⊎ HasLogged session c old new
+
+-- a call was cut off: its record, its own point, the one that made room for it, or the one in progress
+abbrev pub IsCutCall : Held → Held → ℕ → Call → Disk → Status → Type 0
+IsCutCall old mid session c disk status = IsTried mid session c disk status ⊎ IsCutAsked session c mid disk status
+    ⊎ (NeedsRoom old session c × IsCutPoint (BuildsFor Plain old) old disk status) ⊎ IsCutFinish old (event.Call session c) disk status
+
+-- Behind the point that a call makes first, where it needs one: one that asks for a point makes it, a call that comes to a change is recorded, also where the change alters nothing, and any other writes nothing; nor does one that is refused.
 abbrev pub LeavesCall : Held → Held → ℕ → Call → Option Mishap → Held → Type 0
-LeavesCall old mid session c None new = MakesAsked old mid session c new × (HasTold session c mid new ⊎ HasLogged session c mid new)
-LeavesCall old mid session c (Some Write) new = IsTried mid session c new.disk new.status ⊎ IsCutAtPoint old (event.Call session c) new.disk new.status
+LeavesCall old mid session c None new = HasPointed session c mid new ⊎ HasServed session c mid new
+LeavesCall old mid session c (Some Write) new = IsCutCall old mid session c new.disk new.status
 LeavesCall old mid session c (Some m) new = IsUnchanged m mid new
+
+-- the whole point of an unmount was cut off, or the one in progress
+abbrev pub IsCutLast : Held → Disk → Status → Type 0
+IsCutLast old disk status = IsCutPoint (BuildsLast old) old disk status ⊎ IsCutFinish old event.Restart disk status
 
 -- A step has begun a point of what changed since the root, with a write and a sync: the log goes on in the other half, under the next epoch. Nothing is charged, has changed or is kept back since.
 pub record HasBegun (old new : Held) : Type 0 where
@@ -362,19 +395,18 @@ LeavesMount old (Stopped before after) new = HasNotMounted old new
 
 -- A restart makes a whole point, and mounts behind it, unless the point isn't made.
 abbrev pub LeavesRestart : Held → Held → Option Mishap → State → Held → Type 0
-LeavesRestart old mid None next new = HasMadePoint event.Restart old mid × LeavesMount mid next new
-LeavesRestart old mid (Some Write) next new = IsCutAtPoint old event.Restart new.disk new.status
+LeavesRestart old mid None next new = HasMadeLast old mid × LeavesMount mid next new
+LeavesRestart old mid (Some Write) next new = IsCutLast old new.disk new.status
 LeavesRestart old mid (Some m) (Running world) new = IsUnchanged m old new
-LeavesRestart old mid (Some m) (Stopped before after) new = HasMadePoint event.Restart old mid × HasNotMounted mid new
+LeavesRestart old mid (Some m) (Stopped before after) new = HasMadeLast old mid × HasNotMounted mid new
 
 -- What is held behind an event, from what was held once the point in progress was finished, and behind the whole point that was made. In a mount that has stopped all but a restart leaves what was held, and calls nothing of the device.
 abbrev pub Leaves : State → Event → Option Mishap → Reply → State → Held → Held → Held → Type 0
 Leaves (Running w) (event.Call session c) met reply next fin mid new = LeavesCall fin mid session c met new
 Leaves (Running w) event.Step met reply next fin mid new = LeavesStep fin met reply new
 Leaves (Running w) event.Restart met reply next fin mid new = LeavesRestart fin mid met next new
-Leaves (Stopped before after) (event.Call session c) met reply next fin mid new = new ≡ mid
-Leaves (Stopped before after) event.Step met reply next fin mid new = new ≡ mid
 Leaves (Stopped before after) event.Restart met reply next fin mid new = LeavesMount mid next new
+Leaves (Stopped before after) e met reply next fin mid new = new ≡ mid
 
 -- The event is a step of the machine, from this state to the next: a crash at any moment of its course leaves one of the two, and once it is answered the next alone. First the point in progress is finished, where the event needs that, and then a whole one is made, where it needs one: what is held then is told by what was held behind them.
 pub record AnswersFrom (s : State) (e : Event) (reply : Reply) (old new : Held) (has_stopped : Bool) : Type 0 where

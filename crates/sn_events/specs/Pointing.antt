@@ -1,5 +1,6 @@
 -- A whole point between two events, or in the course of one.
-use Rattle.std.specs.Prelude.{◌≡◌, ◌⊎◌, ℕ, ◌+◌, ◌<◌, ◌≤◌, Bool, true, false, Option, None, Some, Result, Ok, Err}
+use Rattle.std.specs.Prelude.{◌≡◌, ◌⊎◌, ℕ, ◌+◌, ◌*◌, ◌<◌, ◌≤◌, Bool, true, false, List, Option, None, Some, Result, Ok, Err}
+use Rattle.std.specs.FinMap as map
 use Rattle.sn_device.specs.Crash.{LeavesOnly, Touches}
 use Rattle.sn_layout.specs.declared.gate.Gate.{Gate}
 use Rattle.sn_log.specs.Positions.{first_of}
@@ -8,14 +9,18 @@ use Rattle.sn_model.specs.declared.reply.Errno.{Errno}
 use Rattle.sn_model.specs.declared.reply.Progress.{Progress}
 use Rattle.sn_model.specs.declared.reply.Progress.TheVariants as progress
 use Rattle.sn_model.specs.declared.reply.Errno.TheVariants.{Elimit, Enomem, Eio}
-use Rattle.sn_model.specs.Settling.{settle}
+use Rattle.sn_model.specs.Settling.{nameless_in, settle}
 use Rattle.sn_model.specs.declared.outcome.AskedPoint.{AskedPoint}
+use Rattle.sn_model.specs.declared.outcome.AskedPoint.TheVariants.{Restores}
 use Rattle.sn_model.specs.Steps.{pointed}
+use Rattle.sn_model.specs.Tree.{Tree}
 use Rattle.sn_model.specs.World.{World}
 use Rattle.sn_model.specs.Worlds.{IsWorld}
 use Rattle.sn_block.specs.Counts.{FailsRead, IsLater, called}
-use Rattle.sn_model.specs.declared.call.Event.{Event}
-use Rattle.sn_model.specs.declared.call.Event.TheVariants as event
+use Rattle.sn_live_world.specs.Restored.{IsRestored}
+use Rattle.sn_live_world.specs.declared.fault.LookFault.{LookFault}
+use Rattle.sn_live_world.specs.declared.fault.LookFault.TheVariants as look
+use Rattle.sn_live_world.specs.declared.restoring.RestoredTree.{RestoredTree}
 use Rattle.sn_overlay.specs.Layers.{Layer}
 use Rattle.sn_overlay.specs.Needs.{need}
 use Rattle.sn_held.specs.Held.{Going, Held, RunsReady}
@@ -28,7 +33,7 @@ use Rattle.sn_cp_whole.specs.Making.{CanBeAsked, most_syncs, most_writes, syncs_
 use Rattle.sn_cp_whole.specs.declared.fault.PointFault.{PointFault}
 use Rattle.sn_cp_whole.specs.declared.fault.PointFault.TheVariants.{Memory, Age, Read, Damaged, Device}
 use Rattle.sn_examine.specs.Failing.{CostsAtMost, HasFailed}
-use Rattle.sn_events.specs.Answers.{BuildsOf, HasBegun, HasFinished, HasGoneOn, IsBesideRoot, IsLastRoot, world_behind}
+use Rattle.sn_events.specs.Answers.{BuildsFor, BuildsLast, HasBegun, HasFinished, HasGoneOn, IsBesideRoot, IsLastRoot}
 use Rattle.sn_events.specs.Mounting.{IsFresh}
 use Rattle.sn_root.specs.declared.following.PointKind.TheVariants.{Ordinary}
 use Rattle.sn_cp_held.specs.Wholes.{IsFollowing}
@@ -51,9 +56,13 @@ pub record IsPointedTo (world_after : World) (Builds : Layer → Type 0) (old ne
   pub gate : Gate
   pub costs : new.status ≡ called (writes_of_point old.at.blocks gate count) (syncs_of_point gate) old.status
 
--- the point of an event, with the snapshots that it asks for
-abbrev pub IsPointed : Event → AskedPoint → Held → Held → Type 0
-IsPointed e asked old new = IsPointedTo (pointed asked (world_behind e old.world)) (λ built. BuildsOf e old built) old new
+-- the point of a call, as it asks for it
+abbrev pub IsPointed : AskedPoint → Held → Held → Type 0
+IsPointed asked old new = IsPointedTo (pointed asked old.world) (BuildsFor asked old) old new
+
+-- that of an unmount, which drops the files that no name stands for
+abbrev pub IsPointedLast : Held → Held → Type 0
+IsPointedLast old new = IsPointedTo (settle old.world) (BuildsLast old) old new
 
 -- It was cut off, and a crash leaves the settled world from before, or this one.
 pub record IsCutOffIn (world_after : World) (Builds : Layer → Type 0) (old new : Held) : Type 0 where
@@ -65,16 +74,19 @@ pub record IsCutOffIn (world_after : World) (Builds : Layer → Type 0) (old new
   pub later : IsLater old.status new.status
   pub costs : CostsAtMost (most_writes old.at.blocks (need old.base.root.limits built)) most_syncs old.status new.status
 
-abbrev pub IsCutOff : Event → AskedPoint → Held → Held → Type 0
-IsCutOff e asked old new = IsCutOffIn (pointed asked (world_behind e old.world)) (λ built. BuildsOf e old built) old new
+-- It wasn't begun: nothing has changed but what the device counts; or it was cut off.
+abbrev pub IsUnpointedTo : PointFault → World → (Layer → Type 0) → Held → Held → Type 0
+IsUnpointedTo Memory world_after Builds old new = new ≡ old
+IsUnpointedTo Age world_after Builds old new = (new ≡ old) × IsLastRoot old.base.root
+IsUnpointedTo Read world_after Builds old new = (new ≡ record old { status = new.status }) × FailsRead old.status new.status
+IsUnpointedTo Damaged world_after Builds old new = ⊥
+IsUnpointedTo Device world_after Builds old new = IsCutOffIn world_after Builds old new
 
--- It wasn't begun: nothing has changed but what the device counts.
-abbrev pub IsUnpointed : PointFault → Event → AskedPoint → Held → Held → Type 0
-IsUnpointed Memory e asked old new = new ≡ old
-IsUnpointed Age e asked old new = (new ≡ old) × IsLastRoot old.base.root
-IsUnpointed Read e asked old new = (new ≡ record old { status = new.status }) × FailsRead old.status new.status
-IsUnpointed Damaged e asked old new = ⊥
-IsUnpointed Device e asked old new = IsCutOff e asked old new
+abbrev pub IsUnpointed : PointFault → AskedPoint → Held → Held → Type 0
+IsUnpointed fault asked old new = IsUnpointedTo fault (pointed asked old.world) (BuildsFor asked old) old new
+
+abbrev pub IsUnpointedLast : PointFault → Held → Held → Type 0
+IsUnpointedLast fault old new = IsUnpointedTo fault (settle old.world) (BuildsLast old) old new
 
 -- A step was cut off, and a crash leaves the settled world still.
 pub record IsCutStep (old new : Held) : Type 0 where
@@ -119,18 +131,50 @@ FinishesSo (Err fault) (Some going) old new = (fault ≡ Device) × IsCutFinishO
 abbrev pub Finishes : Result (Unit {0}) PointFault → Held → Held → Type 0
 Finishes result old new = RunsWith old.point old old.world → FinishesSo result old.point old new
 
+-- it brings a snapshot back
+abbrev pub is_restore : AskedPoint → Bool
+is_restore (Restores name) = true
+is_restore asked = false
+
 -- What is asked for can be made of the snapshots, and leaves a world.
 pub record CanPoint (asked : AskedPoint) (world : World) : Type 0 where
   pub can : CanBeAsked asked world
   pub whole : IsWorld limits_written (pointed asked world)
+  pub other : is_restore asked ≡ false
 
--- of what runs, where no point is in progress, and is ready for one that can be asked for
+-- A snapshot can be brought back: it is there, what that leaves is a world, and a charge for each of its files without names is free.
+pub record CanBringBack (name : List ℕ) (h : Held) : Type 0 where
+  pub tree : Tree
+  pub frozen : map.get h.world.frozen name ≡ Some tree
+  pub whole : IsWorld limits_written (pointed (Restores name) h.world)
+  pub fits : limits_written.inode_charge * nameless_in tree ≤ h.room.free
+
+-- one or the other
+abbrev pub CanMake : AskedPoint → Held → Type 0
+CanMake (Restores name) h = CanBringBack name h
+CanMake asked h = CanPoint asked h.world
+
+-- and this was prepared to take the live tree's place
+pub record IsToBringBack (restored : RestoredTree) (name : List ℕ) (h : Held) : Type 0 where
+  pub can : CanBringBack name h
+  pub restores : IsRestored restored can.tree
+
+-- of what runs, where no point is in progress
 abbrev pub PointsSo : Result (Unit {0}) PointFault → AskedPoint → Held → Held → Type 0
-PointsSo (Ok _) asked old new = IsPointed event.Step asked old new
-PointsSo (Err fault) asked old new = IsUnpointed fault event.Step asked old new
+PointsSo (Ok _) asked old new = IsPointed asked old new
+PointsSo (Err fault) asked old new = IsUnpointed fault asked old new
 
+-- where it is ready for one that can be asked for
 abbrev pub Points : Result (Unit {0}) PointFault → AskedPoint → Held → Held → Type 0
-Points result asked old new = RunsReady old old.world old.base → CanBeAsked asked old.world → PointsSo result asked old new
+Points result asked old new = RunsReady old old.world old.base → CanPoint asked old.world → PointsSo result asked old new
+
+-- as it was asked for
+abbrev pub MakesAsked : Result (Unit {0}) PointFault → AskedPoint → Held → Held → Type 0
+MakesAsked result asked old new = RunsReady old old.world old.base → PointsSo result asked old new
+
+-- or for a snapshot that can be brought back
+abbrev pub BringsBack : Result (Unit {0}) PointFault → List ℕ → Held → Held → Type 0
+BringsBack result name old new = RunsReady old old.world old.base → CanBringBack name old → PointsSo result (Restores name) old new
 
 -- A point has begun: a crash at any moment leaves the settled world, which runs on with it in progress.
 pub record IsBegunTo (old new : Held) : Type 0 where
@@ -170,6 +214,11 @@ AdvancesSo (Err fault) old new = IsUnbegun fault old new
 
 abbrev pub Advances : Result Progress PointFault → Held → Held → Type 0
 Advances result old new = RunsWith old.point old old.world → AdvancesSo result old new
+
+-- why a point isn't made of a snapshot that couldn't be read
+abbrev pub point_fault : LookFault → PointFault
+point_fault look.Memory = Memory
+point_fault look.Read = Read
 
 -- what an event is refused with
 abbrev pub errno_of_point : PointFault → Errno

@@ -1,28 +1,30 @@
 -- A call that is served without a point, or that needs one.
-use Rattle.std.specs.Prelude.{◌≡◌, ◌⊎◌, ℕ, ◌-◌, Bool, false, true, ◌||◌, Option, None, Some, Err}
+use Rattle.std.specs.Prelude.{◌≡◌, ◌⊎◌, ℕ, ◌-◌, ◌==◌, Bool, false, true, ◌||◌, Option, None, Some, Ok, Err}
 use Rattle.sn_model.specs.declared.call.Call.{Call}
 use Rattle.sn_model.specs.declared.call.Event.TheVariants as event
 use Rattle.sn_model.specs.declared.change.Change.{Change}
 use Rattle.sn_model.specs.declared.outcome.Caller.{Caller}
+use Rattle.sn_model.specs.declared.outcome.Outcome.{Outcome}
 use Rattle.sn_model.specs.declared.reply.Errno.TheVariants.{Eio, Enomem}
 use Rattle.sn_model.specs.declared.reply.Reply.{Reply}
 use Rattle.sn_model.specs.declared.reply.Reply.TheVariants as answer
 use Rattle.sn_live_world.specs.declared.fault.CallFault.{CallFault}
 use Rattle.sn_live_world.specs.declared.fault.CallFault.TheVariants as lack
 use Rattle.sn_block.specs.Counts.{FailsRead}
-use Rattle.sn_model.specs.Machine.{State, Mishap, Memory, Read, Write, Space, Age, refused}
+use Rattle.sn_model.specs.Machine.{State, Running, Mishap, Memory, Read, Write, Space, Age, refused}
 use Rattle.sn_model.specs.Settling.{dropped, nameless_in}
-use Rattle.sn_model.specs.Steps.{decision, with_caller}
+use Rattle.sn_model.specs.Steps.{asks_for_point, decision, with_caller}
 use Rattle.sn_limits.specs.Versions.{limits_written}
 use Rattle.sn_core_files.specs.Decided.{MayLack}
+use Rattle.sn_model.specs.World.{World}
 use Rattle.sn_model.specs.Worlds.{IsCall}
 use Rattle.sn_core.specs.Numbering.{gives_kept, has_closed}
 use Rattle.sn_room.specs.Rooms.{dropping}
-use Rattle.sn_held.specs.Held.{Held}
+use Rattle.sn_held.specs.Held.{Held, RunsReady}
 use Rattle.sn_cp_progress.specs.Meaning.{Means}
 use Rattle.sn_log.specs.Positions.{HasRoom}
 use Rattle.sn_sound.specs.Logs.{HasAgeLeft}
-use Rattle.sn_events.specs.Answers.{AnswersFrom, IsTried, LacksFirst}
+use Rattle.sn_events.specs.Answers.{AnswersFrom, DoesNotFit, IsCutAsked, IsTried, LacksFirst, is_fitting}
 pub use Rattle.sn_events.specs.Dropping.{DropsFiles}
 
 -- what a call is answered that comes to nothing
@@ -78,3 +80,36 @@ abbrev pub IsUndecided : CallFault → Held → ℕ → Call → Held → Type 0
 IsUndecided (lack.Refused r) h session c new = (decision limits_written h.world session c ≡ Err r) × (new ≡ h)
 IsUndecided lack.Memory h session c new = MayLack h.world session c × (new ≡ h)
 IsUndecided lack.Read h session c new = MayLack h.world session c × (new ≡ record h { status = new.status }) × FailsRead h.status new.status
+
+-- ---- a call that asks for a point
+
+-- what cut a call off that made no room and finished nothing
+abbrev pub CutsTo : Option Mishap → Held → ℕ → Call → Held → Type 0
+CutsTo (Some Write) h session c new = IsTried h session c new.disk new.status ⊎ IsCutAsked session c h new.disk new.status
+CutsTo met h session c new = Unit {0}
+
+-- It is answered from this world, and no point came first but its own.
+pub record AsksFrom (w : World) (session : ℕ) (c : Call) (reply : Reply) (old new : Held) (has_stopped : Bool) : Type 0 where
+  pub answers : AnswersFrom (Running w) (event.Call session c) reply old new has_stopped
+  pub at_once : (answers.fin ≡ old) × (answers.mid ≡ old)
+  pub cuts : CutsTo answers.met old session c new
+
+-- of what runs, where no point is in progress
+abbrev pub ServesAsked : Reply → Held → ℕ → Call → Held → Bool → Type 0
+ServesAsked reply old session c new has_stopped = RunsReady old old.world old.base → AsksFrom old.world session c reply old new has_stopped
+
+-- The tests of a call that asks for a point have passed, and it fits.
+pub record IsToAsk (h : Held) (session : ℕ) (c : Call) (o : Outcome) : Type 0 where
+  pub decided : decision limits_written h.world session c ≡ Ok o
+  pub fits : DoesNotFit h session c → ⊥
+
+-- whether one that comes to this fits: what is charged for nothing does
+abbrev pub has_room_of : Held → Outcome → Bool
+has_room_of h o = (o.charge == 0) || is_fitting h o
+
+-- It is one that asks for a point, in some session.
+pub record IsAsked (h : Held) (o : Outcome) : Type 0 where
+  pub session : ℕ
+  pub call : Call
+  pub asks : asks_for_point call ≡ true
+  pub to : IsToAsk h session call o

@@ -1,11 +1,12 @@
 -- What a point makes of a live tree that is read: what is shown over its root is what was shown.
 use Rattle.std.proofs.Common.{◌≡◌, Option, None, Some, refl, sym, ap, subst, ◌∙◌}
+use Rattle.std.specs.FinMap as map
 use Rattle.sn_changed.specs.Changed.{HasChanged}
 use Rattle.sn_cp_progress.specs.Meaning.{EitherImage, RunsWith, progress_over}
 use Rattle.sn_cp_progress.specs.Progress.{RunsOn}
 use Rattle.sn_cp_progress.proofs.MeaningLemmas.{on_with}
 use Rattle.sn_cp_whole.specs.Going.{going_of, with_disk, with_frozen, with_log}
-use Rattle.sn_cp_whole.specs.Making.{CanBeAsked, over_world, with_parts}
+use Rattle.sn_cp_whole.specs.Making.{over_world, with_parts}
 use Rattle.sn_cp_whole.specs.Planning.{kept_in}
 use Rattle.sn_cp_whole.specs.declared.base.PointBase.{PointBase}
 use Rattle.sn_cp_whole.specs.declared.going.GoingPoint.{GoingPoint}
@@ -23,12 +24,11 @@ use Rattle.sn_live_world.specs.World.{changes_of, tree_over, world_in, world_ove
 use Rattle.sn_live_world.specs.declared.world.LiveWorld.{LiveWorld}
 use Rattle.sn_log.specs.Positions.{LogPosition}
 use Rattle.sn_model.specs.declared.outcome.AskedPoint.{AskedPoint}
-use Rattle.sn_model.specs.declared.outcome.AskedPoint.TheVariants.{Unasked, Plain, Freezes, Thaws}
+use Rattle.sn_model.specs.declared.outcome.AskedPoint.TheVariants.{Unasked, Plain, Freezes, Thaws, Restores}
 use Rattle.sn_model.specs.Settling.{settle}
-use Rattle.sn_model.specs.Steps.{pointed}
+use Rattle.sn_model.specs.Steps.{pointed, restored}
 use Rattle.sn_model.specs.Tree.{Tree}
 use Rattle.sn_model.specs.World.{Trees, World, trees_of}
-use Rattle.sn_model.proofs.PointedLemmas.{pointed_live}
 use Rattle.sn_overlay.specs.Layers.{through}
 use Rattle.sn_overlay.specs.Overlays.{no_changes}
 use Rattle.sn_room.specs.Rooms.{RoomCounts, begun, done}
@@ -46,16 +46,21 @@ same_world w0 w1 old new frozen live = λ i. record (live i) { frozen = frozen i
 
 -- ---- a whole point was made
 
--- it makes no difference of the live tree
-pointed_is : (p : AskedPoint) (w : World) → pointed p w ≡ record w { frozen = (pointed p w).frozen }
+-- it makes no difference but of the trees
+restored_is : (o : Option Tree) (w : World) → restored o w ≡ record w { live = (restored o w).live; frozen = (restored o w).frozen }
+restored_is None w = refl
+restored_is (Some tree) w = refl
+
+pointed_is : (p : AskedPoint) (w : World) → pointed p w ≡ record w { live = (pointed p w).live; frozen = (pointed p w).frozen }
 pointed_is Unasked w = refl
 pointed_is Plain w = refl
 pointed_is (Freezes name) w = refl
 pointed_is (Thaws name) w = refl
+pointed_is (Restores name) w = restored_is (map.get w.frozen name) w
 
-module _ (d0 d1 : Disk) (s0 s1 : Status) (at0 at1 : LogPosition) (w0 w1 : LiveWorld) (room0 room1 : RoomCounts) (base0 base1 : PointBase) (going : Option GoingPoint) (none : going_in going ≡ None) (whole : AreSectors (reads d1)) (asked : AskedPoint) (can : CanBeAsked asked (world_in w0 (trees_there d0 base0.root)))
-    (point : (h : Held) (world : World) → RunsReady (with_parts h at0 room0 d0) world (kept_in base0 (changes_of w0)) → CanBeAsked asked world → LeavesOnly d0 d1 (EitherImage world (pointed asked world)) × RunsReady (over_world (pointed asked world) (with_parts h at1 room1 d1)) (pointed asked world) (kept_in base1 no_changes))
-    (shown : (old new : Tree) → new ≡ tree_over w0 old → world_over w1 new ≡ world_over w0 old) (empty : changes_of w1 ≡ no_changes) where
+module _ (d0 d1 : Disk) (s0 s1 : Status) (at0 at1 : LogPosition) (w0 w1 : LiveWorld) (room0 room1 : RoomCounts) (base0 base1 : PointBase) (going : Option GoingPoint) (none : going_in going ≡ None) (whole : AreSectors (reads d1)) (asked : AskedPoint) (Can : World → Type 0) (can : Can (world_in w0 (trees_there d0 base0.root)))
+    (point : (h : Held) (world : World) → RunsReady (with_parts h at0 room0 d0) world (kept_in base0 (changes_of w0)) → Can world → LeavesOnly d0 d1 (EitherImage world (pointed asked world)) × RunsReady (over_world (pointed asked world) (with_parts h at1 room1 d1)) (pointed asked world) (kept_in base1 no_changes))
+    (shown : (new : Tree) → new ≡ (pointed asked (world_in w0 (trees_there d0 base0.root))).live → world_over w1 new ≡ record (world_over w0 (tree_at d0 base0.root)) { live = new }) (empty : changes_of w1 ≡ no_changes) where
   abbrev old : Held
   old = holding_on d0 s0 at0 w0 room0 base0 going
 
@@ -72,14 +77,16 @@ module _ (d0 d1 : Disk) (s0 s1 : Status) (at0 at1 : LogPosition) (w0 w1 : LiveWo
     pub moments_pointed : LeavesOnly d0 d1 (EitherImage old.world after)
     moments_pointed = made.0
 
-    tree_pointed : tree_at d1 base1.root ≡ tree_over w0 (tree_at d0 base0.root)
-    tree_pointed = bare_root (over_world after (with_parts old at1 room1 d1)) after (kept_in base1 no_changes) whole refl made.1 ∙ pointed_live asked old.world
+    tree_pointed : tree_at d1 base1.root ≡ after.live
+    tree_pointed = bare_root (over_world after (with_parts old at1 room1 d1)) after (kept_in base1 no_changes) whole refl made.1
 
     frozen_pointed : (trees_there d1 base1.root).frozen ≡ after.frozen
     frozen_pointed = frozen_read (over_world after (with_parts old at1 room1 d1)) after made.1.runs whole base1.root made.1.ready.root
 
     pub world_pointed : new.world ≡ after
-    world_pointed = (λ i. record (shown (tree_at d0 base0.root) (tree_at d1 base1.root) tree_pointed i) { frozen = frozen_pointed i }) ∙ sym (pointed_is asked old.world)
+    world_pointed =
+        (λ i. record (shown (tree_at d1 base1.root) tree_pointed i) { frozen = frozen_pointed i })
+        ∙ (λ i. record old.world { live = tree_pointed i; frozen = after.frozen }) ∙ sym (pointed_is asked old.world)
 
     pub ready_pointed : RunsReady new after new.base
     ready_pointed =
@@ -91,7 +98,7 @@ module _ (d0 d1 : Disk) (s0 s1 : Status) (at0 at1 : LogPosition) (w0 w1 : LiveWo
     ready : RunsReady old old.world old.base
     ready = subst (λ (p : Option Going). RunsWith p old old.world) none r
 
-    pub tree_made : tree_at d1 base1.root ≡ tree_over w0 (tree_at d0 base0.root)
+    pub tree_made : tree_at d1 base1.root ≡ after.live
     tree_made = tree_pointed ready
 
     pub world_made : new.world ≡ after

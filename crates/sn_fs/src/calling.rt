@@ -1,11 +1,14 @@
 //! Calls.
-ghost use Rattle.std.specs.Prelude.{◌≡◌, false, true, None, IsTrue};
+ghost use Rattle.std.specs.Prelude.{◌≡◌, ℕ, false, true, None, Ok, IsTrue};
 ghost use Rattle.sn_held.specs.Held.{Runs};
-ghost use Rattle.sn_model.specs.Steps.{asks_for_point};
+ghost use Rattle.sn_limits.specs.Versions.{limits_written};
+ghost use Rattle.sn_model.specs.Steps.{asks_for_point, decision};
+ghost use Rattle.sn_model.specs.declared.call.Call.{Call as TheCall};
 ghost use Rattle.sn_model.specs.World.{World};
 ghost use Rattle.sn_sound.specs.Maps.{free_blocks};
 ghost use Rattle.sn_model.specs.declared.call.Event.TheVariants as event;
 ghost use Rattle.sn_events.specs.Answers.{Answers};
+ghost use Rattle.sn_events.specs.Serving.{IsAsked, IsToAsk, ServesAsked};
 ghost use Rattle.sn_fs.specs.Filesystem.{IsFs, has_stopped, held};
 
 use crate::Fs;
@@ -32,6 +35,48 @@ impl<D: Device> Fs<D> {
         self.room.free()
     }
 
+    /// Makes the whole consistency point that a call asks for, whose tests have passed, and which fits, where no other is in
+    /// progress.
+    fn point_for(&mut self, outcome: Outcome<'_>) -> Reply
+        requires running { has_stopped self.old ≡ false }
+        requires sound { IsFs self.old }
+        requires between { (held self.old).point ≡ None }
+        requires asked { IsTrue D.tells_bytes → IsAsked (held self.old) outcome }
+        ensures answered { IsTrue D.tells_bytes → (session : ℕ) (c : TheCall) → asks_for_point c ≡ true → IsToAsk (held self.old) session c outcome.entry
+            → ServesAsked result (held self.old) session c (held self.new) (has_stopped self.new) }
+        ensures sound { IsFs self.new }
+    {
+        let Outcome { told, point, .. } = outcome;
+        match self.make_asked(&point) {
+            Ok(()) => told,
+            Err(fault) => refused(errno_of(fault)),
+        }
+    }
+
+    /// Answers a call that asks for a whole consistency point, whose tests have passed, where no other is in progress. One
+    /// that is charged for something comes behind a plain one where it doesn't fit.
+    fn ask_between(&mut self, session: u32, call: &Call, outcome: Outcome<'_>) -> Reply
+        requires running { has_stopped self.old ≡ false }
+        requires sound { IsFs self.old }
+        requires between { (held self.old).point ≡ None }
+        requires asks { asks_for_point call.now ≡ true }
+        requires decided { IsTrue D.tells_bytes → decision limits_written (held self.old).world session call.now ≡ Ok outcome }
+        ensures answered { IsTrue D.tells_bytes → Answers (event.Call session call.now) result
+            (held self.old) false (held self.new) (has_stopped self.new) }
+        ensures sound { IsFs self.new }
+    {
+        if self.has_room_for(&outcome) {
+            return self.point_for(outcome);
+        }
+        if let Err(fault) = self.make_point(&AskedPoint::Plain) {
+            return refused(errno_of(fault));
+        }
+        if !self.has_room_for(&outcome) {
+            return refused(Errno::Enospc);
+        }
+        self.point_for(outcome)
+    }
+
     /// Answers a call that asks for a whole consistency point. It is made once the call's tests have passed, behind the one
     /// in progress, and makes of the snapshots what the call asks for.
     fn ask(&mut self, session: u32, call: &Call) -> Reply
@@ -46,14 +91,10 @@ impl<D: Device> Fs<D> {
             Ok(outcome) => outcome,
             Err(fault) => return reply_of(fault),
         };
-        let Outcome { told, point, .. } = outcome;
         if let Err(fault) = self.finish() {
             return refused(errno_of(fault));
         }
-        match self.make_point(&point) {
-            Ok(()) => told,
-            Err(fault) => refused(errno_of(fault)),
-        }
+        self.ask_between(session, call, outcome)
     }
 
     /// Whether no consistency point is in progress.

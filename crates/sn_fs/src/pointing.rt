@@ -4,13 +4,16 @@ ghost use Rattle.sn_cp.specs.Points.{stage_of};
 ghost use Rattle.sn_cp.specs.declared.stage.Stage.TheVariants.{Bodied};
 ghost use Rattle.sn_model.specs.declared.call.Event.TheVariants as event;
 ghost use Rattle.sn_events.specs.Answers.{Answers, left_of};
+ghost use Rattle.sn_live_world.specs.Restored.{IsBetween};
 ghost use Rattle.sn_fs.specs.Filesystem.{IsFs, has_stopped, held, with_point};
-ghost use Rattle.sn_events.specs.Pointing.{Advances, Begins, CanPoint, Finishes, GoesOn, Points, errno_of_point, stops_for, stops_point};
+ghost use Rattle.sn_events.specs.Pointing.{Advances, Begins, BringsBack, CanBringBack, CanMake, CanPoint, Finishes, GoesOn, IsToBringBack, MakesAsked, Points, errno_of_point, point_fault, stops_for, stops_point};
 
 use crate::Fs;
 use crate::serving::refused;
-use sn_cp_whole::{Begun, GoingPoint, PointFault, begin_point, make_point};
+use sn_cp_whole::{Begun, GoingPoint, PointFault, begin_point, make_point, make_restore};
 use sn_device::Device;
+use sn_limits::SnapshotName;
+use sn_live_world::{LookFault, RestoredTree, prepare_restore};
 use sn_model::{AskedPoint, Errno, Progress, Reply};
 
 /// What an event is refused with whose point isn't made.
@@ -31,6 +34,16 @@ pub(crate) fn stops(fault: PointFault) -> bool
     fault == PointFault::Device
 }
 
+/// Why a point isn't made of a snapshot that couldn't be read.
+fn unread(fault: LookFault) -> PointFault
+    ensures { result ≡ point_fault fault }
+{
+    match fault {
+        LookFault::Memory => PointFault::Memory,
+        LookFault::Read => PointFault::Read,
+    }
+}
+
 impl<D: Device> Fs<D> {
     /// Makes a whole consistency point, where none is in progress, and of the snapshots what is asked for: then the log is
     /// empty, nothing is charged, and no number is kept back. A failure of the device while it is written stops the mount.
@@ -41,6 +54,7 @@ impl<D: Device> Fs<D> {
         requires asked { IsTrue D.tells_bytes → CanPoint asked.now (held self.old).world }
         ensures points { IsTrue D.tells_bytes → Points result asked.now (held self.old) (held self.new) }
         ensures stopped { has_stopped self.new ≡ stops_point result }
+        ensures between { OnOk result ((held self.new).point ≡ None) }
         ensures sound { IsFs self.new }
     {
         let drops = self.world.open_files();
@@ -62,6 +76,84 @@ impl<D: Device> Fs<D> {
                 self.has_stopped = stops(fault);
                 Err(fault)
             }
+        }
+    }
+
+    /// Brings a snapshot back by a whole consistency point, where none is in progress: the live tree becomes the snapshot's
+    /// without its files without names, and what was logged on top of the root goes with it. All that is read and grown
+    /// comes before the first write, and where that is refused nothing changes. A failure of the device while it is written
+    /// stops the mount.
+    fn bring_back(&mut self, name: &SnapshotName) -> Result<(), PointFault>
+        requires running { has_stopped self.old ≡ false }
+        requires sound { IsFs self.old }
+        requires between { (held self.old).point ≡ None }
+        requires there { IsTrue D.tells_bytes → CanBringBack name.now (held self.old) }
+        ensures brings { IsTrue D.tells_bytes → BringsBack result name.now (held self.old) (held self.new) }
+        ensures stopped { has_stopped self.new ≡ stops_point result }
+        ensures sound { IsFs self.new }
+    {
+        let restored = match prepare_restore(self.alloc, &mut self.blocks, &self.base.root, name) {
+            Ok(restored) => restored,
+            Err(fault) => return Err(unread(fault)),
+        };
+        self.replace_tree(restored, name)
+    }
+
+    /// Makes the point that brings a snapshot back, of which this tree was prepared.
+    fn replace_tree(
+        &mut self,
+        restored: RestoredTree,
+        name: &SnapshotName,
+    ) -> Result<(), PointFault>
+        requires running { has_stopped self.old ≡ false }
+        requires sound { IsFs self.old }
+        requires between { (held self.old).point ≡ None }
+        requires apart { IsBetween restored }
+        requires there { IsTrue D.tells_bytes → IsToBringBack restored name.now (held self.old) }
+        ensures brings { IsTrue D.tells_bytes → BringsBack result name.now (held self.old) (held self.new) }
+        ensures stopped { has_stopped self.new ≡ stops_point result }
+        ensures sound { IsFs self.new }
+    {
+        let drops = self.world.open_files();
+        match make_restore(
+            self.alloc,
+            &mut self.blocks,
+            &mut self.base,
+            restored.changes(),
+            &mut self.log,
+            &mut self.room,
+            drops,
+            name,
+        ) {
+            Ok(since) => {
+                self.world.restore(self.alloc, restored, since);
+                // It bounds the files without names.
+                let _nameless = self.world.nameless();
+                Ok(())
+            }
+            Err(fault) => {
+                self.has_stopped = stops(fault);
+                Err(fault)
+            }
+        }
+    }
+
+    /// Makes the whole consistency point that is asked for, where none is in progress.
+    pub(crate) fn make_asked(&mut self, asked: &AskedPoint) -> Result<(), PointFault>
+        requires running { has_stopped self.old ≡ false }
+        requires sound { IsFs self.old }
+        requires between { (held self.old).point ≡ None }
+        requires can { IsTrue D.tells_bytes → CanMake asked.now (held self.old) }
+        ensures makes { IsTrue D.tells_bytes → MakesAsked result asked.now (held self.old) (held self.new) }
+        ensures stopped { has_stopped self.new ≡ stops_point result }
+        ensures sound { IsFs self.new }
+    {
+        match asked {
+            AskedPoint::Restores(name) => self.bring_back(name),
+            AskedPoint::Unasked
+            | AskedPoint::Plain
+            | AskedPoint::Freezes(_)
+            | AskedPoint::Thaws(_) => self.make_point(asked),
         }
     }
 

@@ -12,7 +12,7 @@ ghost use Rattle.sn_sound.specs.Logs.{HasAgeLeft};
 ghost use Rattle.sn_room.specs.Rooms.{charged_behind, dropping};
 ghost use Rattle.sn_events.specs.Answers.{is_fitting};
 ghost use Rattle.sn_fs.specs.Filesystem.{IsFs, has_stopped, held, tree_of};
-ghost use Rattle.sn_events.specs.Serving.{Serves, TellsLack, Turns, reply_to};
+ghost use Rattle.sn_events.specs.Serving.{Serves, TellsLack, Turns, has_room_of, reply_to};
 
 use crate::Fs;
 use sn_changed::changed_laws;
@@ -74,6 +74,13 @@ impl<D: Device> Fs<D> {
     {
         self.room
             .fits(&Limits::WRITTEN, self.world.nameless(), outcome)
+    }
+
+    /// Whether a call fits that asks for a point and comes to this: one that is charged for nothing always does.
+    pub(crate) fn has_room_for(&self, outcome: &Outcome<'_>) -> bool
+        ensures { IsOver self.now.world (tree_of self.now) → result ≡ has_room_of (held self.now) outcome.now }
+    {
+        outcome.charge == 0 || self.fits(outcome)
     }
 
     /// Whether a change lacks something that a whole point gives: room for its record in the log or for its charge on

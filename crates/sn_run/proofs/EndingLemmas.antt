@@ -15,7 +15,6 @@ use Rattle.sn_model.specs.declared.reply.Errno.TheVariants.{Eio, Elimit, Enomem,
 use Rattle.sn_model.specs.declared.reply.Refusal.{Refusal}
 use Rattle.sn_model.specs.declared.reply.Reply.TheVariants as answer
 use Rattle.sn_model.specs.Machine.{Running, Stopped, Memory, Read, Write, Age, refused}
-use Rattle.sn_model.specs.declared.outcome.AskedPoint.TheVariants.{Plain}
 use Rattle.sn_model.specs.Settling.{settle}
 use Rattle.sn_model.specs.Tests.{plain}
 use Rattle.sn_model.specs.World.{World}
@@ -27,8 +26,8 @@ use Rattle.sn_held.specs.Moments.{ShowsState}
 use Rattle.sn_held.proofs.EventLemmas.{runs_show}
 use Rattle.sn_cp_whole.specs.declared.fault.PointFault.{PointFault}
 use Rattle.sn_cp_whole.specs.declared.fault.PointFault.TheVariants as point
-use Rattle.sn_events.specs.Answers.{HasMadePoint, IsCutAtPoint, MayMeet}
-use Rattle.sn_events.specs.Pointing.{FinishesSo, IsUnpointed, errno_of_point}
+use Rattle.sn_events.specs.Answers.{BuildsLast, HasMadeLast, IsCutLast, MayMeet}
+use Rattle.sn_events.specs.Pointing.{FinishesSo, IsUnpointedLast, errno_of_point}
 use Rattle.sn_events.proofs.FinishLemmas.{IsFin, is_fin, one_finish}
 use Rattle.sn_events.specs.Unmounting.{HasUnmounted, IsRefusedFor, IsRefusedTo, IsUnmountedTo}
 use Rattle.sn_events.proofs.PointLemmas.{made_point, settles_same}
@@ -104,14 +103,14 @@ ends_clean last disk status unmounts = in_its_world last ending.Clean disk statu
     at : (u : IsUnmountedTo last disk status) → IsEnded (Running u.fin.world) u.fin ending.Clean disk status
     at u =
         let p = u.pointed in
-        let made : HasMadePoint event.Restart u.fin u.mid = made_point event.Restart u.fin u.mid tt p in
+        let made : HasMadeLast u.fin u.mid = made_point (settle u.fin.world) (BuildsLast u.fin) u.fin u.mid p in
         let over : IsEnded (Running u.fin.world) u.fin ending.Clean u.mid.disk u.mid.status = record {
           met = None;
           ends = record { reply = answer.Done; unmounts = refl; ends = refl };
           fin = u.fin;
           finish = inl refl;
           mid = u.mid;
-          point = inr (tt, made);
+          point = inr made;
           may = ap (λ (s : Status). s.failures) p.costs;
           lasts = settled_last u.fin u.mid p.moments;
           later = later-is _ _ u.fin.status u.mid.status p.costs;
@@ -126,7 +125,7 @@ ends_clean last disk status unmounts = in_its_world last ending.Clean disk statu
 
 -- the device failed while a point was made or finished, at no moment of which a crash leaves another world
 ends_cut_off : (last new : Held) → MayMeet last last event.Restart (Some Write) new.status → LeavesOnly last.disk new.disk (λ c. IsImage c (settle last.world))
-    → IsLater last.status new.status → IsCutAtPoint last event.Restart new.disk new.status → IsEnded (Running last.world) last ending.Stopped new.disk new.status
+    → IsLater last.status new.status → IsCutLast last new.disk new.status → IsEnded (Running last.world) last ending.Stopped new.disk new.status
 ends_cut_off last new may moments later costs = record {
   met = Some Write;
   ends = record { reply = refused Eio; unmounts = refl; ends = (done_is_refused Eio, is_memory Eio (λ e. cc e)) };
@@ -149,7 +148,7 @@ module _ (last : Held) (r : RunsReady last last.world last.base) where
   shows_still : LeavesOnly last.disk last.disk (ShowsState (Running last.world))
   shows_still = LeavesOnly-start last.disk (ShowsState (Running last.world)) (runs_show last last.world r.runs)
 
-  ends_refused : (fault : PointFault) (new : Held) → IsUnpointed fault event.Restart Plain last new → IsEnded (Running last.world) last (end_for (errno_of_point fault)) new.disk new.status
+  ends_refused : (fault : PointFault) (new : Held) → IsUnpointedLast fault last new → IsEnded (Running last.world) last (end_for (errno_of_point fault)) new.disk new.status
   ends_refused point.Memory new is = subst (λ (h : Held). IsEnded (Running last.world) last ending.Memory h.disk h.status) (sym is) (record {
     met = Some Memory;
     ends = record { reply = refused Enomem; unmounts = refl; ends = refl };
@@ -172,7 +171,7 @@ module _ (last : Held) (r : RunsReady last last.world last.base) where
     finish = inl refl;
     mid = last;
     point = inl refl;
-    may = (tt, is.1, refl);
+    may = (is.1, refl);
     lasts = shows_still;
     later = later-same last.status last.status refl;
     new = last;
@@ -198,7 +197,7 @@ module _ (last : Held) (r : RunsReady last last.world last.base) where
         leaves = (refl, is.1);
       })
   ends_refused point.Damaged new is = absurd is
-  ends_refused point.Device new cut = ends_cut_off last new cut.failed (settled_last last new cut.moments) cut.later (inl (record { needed = tt; touched = cut.touched; built = cut.built; builds = cut.builds; costs = cut.costs }))
+  ends_refused point.Device new cut = ends_cut_off last new cut.failed (settled_last last new cut.moments) cut.later (inl (record { touched = cut.touched; built = cut.built; builds = cut.builds; costs = cut.costs }))
 
 -- the point in progress was cut off
 ends_cut : (last : Held) (fault : PointFault) (new : Held) → FinishesSo (Err fault) last.point last new → IsEnded (Running last.world) last (end_for (errno_of_point fault)) new.disk new.status

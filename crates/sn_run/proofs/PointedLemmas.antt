@@ -1,5 +1,5 @@
 -- What points leave of a run, and of their steps.
-use Rattle.std.proofs.Common.{◌≡◌, inl, inr, ℕ, ◌+◌, Bool, false, true, List, [], ◌∷◌, Option, None, Some, Result, Ok, Err, refl, sym, ap, subst, ◌∙◌, arith}
+use Rattle.std.proofs.Common.{◌≡◌, ◌⊎◌, inl, inr, ℕ, ◌+◌, Bool, false, true, List, [], ◌∷◌, Option, None, Some, Result, Ok, Err, refl, sym, ap, subst, ◌∙◌, arith}
 use Rattle.std.proofs.lemmas.Bool.{true≢false}
 use Rattle.sn_device.specs.Disk.{Always}
 use Rattle.sn_limits.specs.Versions.{limits_written}
@@ -21,9 +21,8 @@ use Rattle.sn_held.specs.Held.{Going, Held, RunsReady}
 use Rattle.sn_cp_progress.specs.Meaning.{Means, RunsWith, progress_over}
 use Rattle.sn_cp_progress.proofs.CallLemmas.{fits_on_next}
 use Rattle.sn_cp_progress.proofs.MeaningLemmas.{runs_with}
-use Rattle.sn_events.specs.Answers.{AnswersFrom, AsksFirst, HasMadePoint, IsBehindFinish, Leaves, is_fitting, left_of}
+use Rattle.sn_events.specs.Answers.{AnswersFrom, AsksFirst, HasPointed, HasServed, IsBehindFinish, IsBehindPoint, Leaves, is_fitting, left_of}
 use Rattle.sn_events.specs.Durable.{IsInItsRoot}
-use Rattle.sn_events.specs.Mounting.{IsFresh}
 use Rattle.sn_events.proofs.CountedLemmas.{counts_event}
 use Rattle.sn_events.proofs.DurableLemmas.{in_its_root}
 use Rattle.sn_run.specs.Laws.{GoesUnder, steps_on}
@@ -47,25 +46,37 @@ module _ (old new : Held) (had has : Bool) (session : ℕ) (c : Call) (asks : As
   world_there w fin (inl same) r = ap (λ (h : Held). h.world) same ∙ (runs_with old w old.point r).is
   world_there w fin (inr f) r = f.2.world ∙ (runs_with old w old.point r).is
 
-  leaves_all : (s : State) (met : Option Mishap) (state : State) (fin mid : Held) → IsBehindFinish s e old fin → EventStep limits_written s e met answer.Done state → Means old had s → Means new has state → Leaves s e met answer.Done state fin mid new → Always new.disk (IsInItsRoot new.world.live (settle new.world))
-  leaves_all (Stopped before after) None state fin mid f step m n l = absurd (done_is_refused Estopped step.0)
-  leaves_all (Stopped before after) (Some met) state fin mid f step m n l = absurd step
-  leaves_all (Running w) None state fin mid f step m n l =
-      let d = done_so w session (decision limits_written w session c) step.next step.becomes in
-      let asked : AsksFirst fin session c = record { asks = asks; outcome = d.0; decided = subst (λ (x : World). decision limits_written x session c ≡ Ok d.0) (sym (world_there w fin f m.1)) d.1 } in
-      let made : HasMadePoint e fin mid × (new ≡ mid) = l.0 asked in
-      let fresh : IsFresh new = subst IsFresh (sym made.1) made.0.fresh in
-      let runs : Means new has (Running step.next) = subst (Means new has) step.runs n in
-      let ready : RunsReady new step.next new.base = subst (λ (p : Option Going). RunsWith p new step.next) fresh.between runs.1 in
-      subst (λ (x : World). Always new.disk (IsInItsRoot x.live (settle x))) (sym ready.runs.is) (in_its_root new step.next ready fresh)
-  leaves_all (Running w) (Some Memory) state fin mid f step m n l = absurd (done_is_refused Enomem step.1.told)
-  leaves_all (Running w) (Some Read) state fin mid f step m n l = absurd (done_is_refused Eio step.1.told)
-  leaves_all (Running w) (Some Write) state fin mid f step m n l = absurd (done_is_refused Eio step.stops.told)
-  leaves_all (Running w) (Some Space) state fin mid f step m n l = absurd (done_is_refused Enospc step.1.told)
-  leaves_all (Running w) (Some Age) state fin mid f step m n l = absurd (done_is_refused Elimit step.1.told)
+  -- nor does one that makes room
+  world_behind : (w : World) (fin mid : Held) → IsBehindPoint (Running w) e fin mid → mid.world ≡ fin.world
+  world_behind w fin mid (inl same) = ap (λ (h : Held). h.world) same
+  world_behind w fin mid (inr made) = made.1.is
+
+  leaves_all : (s : State) (met : Option Mishap) (state : State) (fin mid : Held) → IsBehindFinish s e old fin → IsBehindPoint s e fin mid → EventStep limits_written s e met answer.Done state → Means old had s → Means new has state → Leaves s e met answer.Done state fin mid new → Always new.disk (IsInItsRoot new.world.live (settle new.world))
+  leaves_all (Stopped before after) None state fin mid f p step m n l = absurd (done_is_refused Estopped step.0)
+  leaves_all (Stopped before after) (Some met) state fin mid f p step m n l = absurd step
+  leaves_all (Running w) None state fin mid f p step m n l = told l
+    where
+      d : (o : Outcome) × (decision limits_written w session c ≡ Ok o)
+      d = done_so w session (decision limits_written w session c) step.next step.becomes
+
+      asked : AsksFirst mid session c
+      asked = record { asks = asks; outcome = d.0; decided = subst (λ (x : World). decision limits_written x session c ≡ Ok d.0) (sym (world_behind w fin mid p ∙ world_there w fin f m.1)) d.1 }
+
+      told : HasPointed session c mid new ⊎ HasServed session c mid new → Always new.disk (IsInItsRoot new.world.live (settle new.world))
+      told (inl pointed) =
+          let fresh = pointed.made.fresh in
+          let runs : Means new has (Running step.next) = subst (Means new has) step.runs n in
+          let ready : RunsReady new step.next new.base = subst (λ (p : Option Going). RunsWith p new step.next) fresh.between runs.1 in
+          subst (λ (x : World). Always new.disk (IsInItsRoot x.live (settle x))) (sym ready.runs.is) (in_its_root new step.next ready fresh)
+      told (inr served) = absurd (served.alone asked)
+  leaves_all (Running w) (Some Memory) state fin mid f p step m n l = absurd (done_is_refused Enomem step.1.told)
+  leaves_all (Running w) (Some Read) state fin mid f p step m n l = absurd (done_is_refused Eio step.1.told)
+  leaves_all (Running w) (Some Write) state fin mid f p step m n l = absurd (done_is_refused Eio step.stops.told)
+  leaves_all (Running w) (Some Space) state fin mid f p step m n l = absurd (done_is_refused Enospc step.1.told)
+  leaves_all (Running w) (Some Age) state fin mid f p step m n l = absurd (done_is_refused Elimit step.1.told)
 
 pub syncs_leave_all : (old new : Standing) (session : ℕ) (c : Call) → AsksForPoint c → Means old.held old.has_stopped old.state → Goes old (event.Call session c) answer.Done new → Always new.held.disk (IsInItsRoot new.held.world.live (settle new.held.world))
-syncs_leave_all old new session c asks means goes = let a = goes.answers in leaves_all old.held new.held old.has_stopped new.has_stopped session c asks old.state a.met a.next a.fin a.mid a.finish a.step means a.means a.leaves
+syncs_leave_all old new session c asks means goes = let a = goes.answers in leaves_all old.held new.held old.has_stopped new.has_stopped session c asks old.state a.met a.next a.fin a.mid a.finish a.point a.step means a.means a.leaves
 
 -- ---- a call that fits
 

@@ -17,7 +17,6 @@ use Rattle.sn_model.specs.declared.fault.MountFault.TheVariants as fault
 use Rattle.sn_model.specs.declared.reply.Reply.{Reply}
 use Rattle.sn_model.specs.declared.reply.Reply.TheVariants as answer
 use Rattle.sn_model.specs.Machine.{State, Running, Stopped, Mishap, Memory, Read, mount_fault_of}
-use Rattle.sn_model.specs.declared.outcome.AskedPoint.TheVariants.{Plain}
 use Rattle.sn_model.specs.Settling.{settle}
 use Rattle.sn_model.specs.World.{World}
 use Rattle.sn_held.specs.Held.{Held}
@@ -31,9 +30,9 @@ use Rattle.sn_sound.specs.Verdicts.{IsFaulty}
 use Rattle.sn_sound.proofs.VerdictLemmas.{never_both}
 use Rattle.sn_examine.proofs.ImageLemmas.{image_clean}
 use Rattle.sn_check.specs.Verdicts.{IsCause}
-use Rattle.sn_events.specs.Answers.{Answers, AnswersFrom, CostsMountOf, HasMadePoint, MayMeet, HasNotMounted, LeavesRestart}
+use Rattle.sn_events.specs.Answers.{Answers, AnswersFrom, BuildsLast, CostsMountOf, HasMadeLast, MayMeet, HasNotMounted, LeavesRestart}
 use Rattle.sn_events.specs.Mounting.{IsLeft, WritesToMount}
-use Rattle.sn_events.specs.Pointing.{IsPointed}
+use Rattle.sn_events.specs.Pointing.{IsPointedLast}
 use Rattle.sn_events.specs.Unmounting.{HasUnmounted, IsUnmountedTo}
 use Rattle.sn_events.proofs.FinishLemmas.{IsFin, behind_finish, is_fin}
 use Rattle.sn_events.proofs.PointLemmas.{in_any_world, made_point, none_failed, settles_same, some_failed}
@@ -113,7 +112,7 @@ module _ (old new : Held) (whole : AreSectors (reads old.disk)) where
 
 -- ---- mounts behind the point of an unmount
 
-module _ (old mid new : Held) (whole : AreSectors (reads mid.disk)) (p : IsPointed event.Restart Plain old mid) where
+module _ (old mid new : Held) (whole : AreSectors (reads mid.disk)) (p : IsPointedLast old mid) where
   settled_here : LeavesOnly old.disk mid.disk (λ c. IsImage c (settle old.world))
   settled_here = LeavesOnly-weaker old.disk mid.disk (EitherImage old.world (settle old.world)) (λ c. IsImage c (settle old.world)) (λ c either. settles_same old.world either) p.moments
 
@@ -123,8 +122,8 @@ module _ (old mid new : Held) (whole : AreSectors (reads mid.disk)) (p : IsPoint
   is_image : IsImage (reads mid.disk) (settle old.world)
   is_image = Always-reads mid.disk (λ c. IsImage c (settle old.world)) whole settled_now
 
-  point_made : HasMadePoint event.Restart old mid
-  point_made = made_point event.Restart old mid tt p
+  point_made : HasMadeLast old mid
+  point_made = made_point (settle old.world) (BuildsLast old) old mid p
 
   same_failures : mid.status.failures ≡ old.status.failures
   same_failures = ap (λ (s : Status). s.failures) p.costs
@@ -142,7 +141,7 @@ module _ (old mid new : Held) (whole : AreSectors (reads mid.disk)) (p : IsPoint
         fin = old;
         finish = inl refl;
         mid = mid;
-        point = inr (tt, point_made);
+        point = inr point_made;
         may = none_failed old.status mid.status new.status same_failures (mount_unfailing mid.status new.status m.costs);
         next = Running (settle old.world);
         step = (refl, refl);
@@ -185,7 +184,7 @@ writes_to_mount fault.Memory sectors old new touched = touched
 writes_to_mount fault.Device sectors old new touched = touched
 
 -- and behind the point of an unmount
-met_behind : (f : MountFault) (c : Contents) (world : World) (sectors : ℕ) (old mid new : Held) (before after : World) → IsImage c world → IsOfDevice sectors c → IsCause sectors c f → IsSoOf f mid.status new.status → mid.status.failures ≡ old.status.failures → HasMadePoint event.Restart old mid → HasNotMounted mid new
+met_behind : (f : MountFault) (c : Contents) (world : World) (sectors : ℕ) (old mid new : Held) (before after : World) → IsImage c world → IsOfDevice sectors c → IsCause sectors c f → IsSoOf f mid.status new.status → mid.status.failures ≡ old.status.failures → HasMadeLast old mid → HasNotMounted mid new
     → (m : Mishap) × (mount_fault_of m ≡ Some f) × MayMeet old mid event.Restart (Some m) new.status × LeavesRestart old mid (Some m) (Stopped before after) new
 met_behind (fault.Damaged damage block) c world sectors old mid new before after is device cause failed same made unmounted = absurd (never_faulty damage sectors c block world device is cause)
 met_behind fault.NotFormatted c world sectors old mid new before after is device cause failed same made unmounted = absurd (found_root fault.NotFormatted sectors c world is device.count cause)
@@ -230,7 +229,7 @@ module _ (old new : Held) (f : MountFault) (disk : IsWholeDisk old.status old.di
       told (inl h) = from before h (λ c k. inl k)
       told (inr h) = from after h (λ c k. inr k)
 
-module _ (old mid new : Held) (disk : IsWholeDisk mid.status mid.disk) (p : IsPointed event.Restart Plain old mid) (f : MountFault) (has : Bool) (n : IsNotRemounted f mid.status mid.disk new has) where
+module _ (old mid new : Held) (disk : IsWholeDisk mid.status mid.disk) (p : IsPointedLast old mid) (f : MountFault) (has : Bool) (n : IsNotRemounted f mid.status mid.disk new has) where
   unmounted_behind : AnswersFrom (Running old.world) event.Restart (answer.Unmounted f) old new true
   unmounted_behind =
       let w = settle old.world in
@@ -248,7 +247,7 @@ module _ (old mid new : Held) (disk : IsWholeDisk mid.status mid.disk) (p : IsPo
         fin = old;
         finish = inl refl;
         mid = mid;
-        point = inr (tt, made);
+        point = inr made;
         may = met.2;
         next = next;
         step = inr (record { fault = f; is = met.1; told = refl; left = refl });

@@ -13,14 +13,14 @@ use Rattle.sn_model.specs.Machine.{State, Running, Stopped, Mishap, Write, Ends}
 use Rattle.sn_held.specs.Held.{Held}
 use Rattle.sn_cp_progress.specs.Meaning.{Means}
 use Rattle.sn_held.specs.Moments.{ShowsState}
-use Rattle.sn_events.specs.Answers.{HasMadePoint, IsBehindFinish, IsBehindPoint, IsCutAtPoint, MayMeet, IsUnchanged}
+use Rattle.sn_events.specs.Answers.{HasMadeLast, IsBehindFinish, IsBehindPoint, IsCutLast, MayMeet, IsUnchanged}
 use Rattle.sn_model.specs.Settling.{settle}
 use Rattle.sn_events.specs.Durable.{IsInItsRoot}
 
 -- What the last unmount leaves, behind the point in progress: its own whole point, whose root has all, or where that isn't made, what was held. One that has stopped calls nothing.
 abbrev pub LeavesLast : State → Held → Held → Option Mishap → Held → Type 0
-LeavesLast (Running w) fin mid None new = HasMadePoint event.Restart fin mid × (new ≡ mid) × Always new.disk (IsInItsRoot (settle fin.world).live (settle fin.world))
-LeavesLast (Running w) fin mid (Some Write) new = IsCutAtPoint fin event.Restart new.disk new.status
+LeavesLast (Running w) fin mid None new = HasMadeLast fin mid × (new ≡ mid) × Always new.disk (IsInItsRoot (settle fin.world).live (settle fin.world))
+LeavesLast (Running w) fin mid (Some Write) new = IsCutLast fin new.disk new.status
 LeavesLast (Running w) fin mid (Some m) new = IsUnchanged m fin new
 LeavesLast (Stopped before after) fin mid met new = new ≡ mid
 

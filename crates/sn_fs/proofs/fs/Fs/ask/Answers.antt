@@ -6,7 +6,7 @@ use Rattle.sn_model.specs.Machine.{refused}
 use Rattle.sn_events.specs.Answers.{Answers, AsksFirst}
 use Rattle.sn_events.specs.Pointing.{Finishes, errno_of_point}
 use Rattle.sn_events.specs.Serving.{reply_to}
-use Rattle.sn_events.proofs.AskLemmas.{asked_behind, asked_cut, asked_unpointed, can_point}
+use Rattle.sn_events.proofs.AskLemmas.{asked_after_finish, asked_cut, decided_behind}
 use Rattle.sn_events.proofs.CallLemmas.{undecided_serves}
 use Rattle.sn_fs.specs.Filesystem.{has_stopped, held}
 use Rattle.sn_fs.proofs.fs.Fs.ask.Goals as goal
@@ -37,39 +37,22 @@ returns-in-Err-finish-clause-answered g c told =
     (subst (λ (b : Bool). Answers e (refused (errno_of_point fault)) h false new b) (sym c.in-Err-finish.ensures.stopped)
     (asked_cut h new c.args.session c.args.call.now fault asked (c.requires.sound.meant c.requires.running told).whole finishes)))
 
-pub make_point-requires-clause-asked : goal.make_point-requires-clause-asked
-make_point-requires-clause-asked g c told =
+pub ask_between-requires-clause-decided : goal.ask_between-requires-clause-decided
+ask_between-requires-clause-decided g c told =
     let h = held c.args.self.now in
     let fin = held c.finish.new.self in
-    let m = c.requires.sound.meant c.requires.running told in
-    let asked : AsksFirst h c.args.session c.args.call.now = record { asks = c.requires.asks; outcome = c.in-Ok.outcome; decided = c.in-Ok.ensures.decided told } in
     let finishes = subst (λ (x : Held). Finishes (Ok tt) x fin) (c.in-Ok.ensures.quiet told) (c.in_default.ensures.finishes told) in
-    can_point h fin c.args.session c.args.call.now asked m.whole m.runs finishes
+    decided_behind h fin c.args.session c.args.call.now c.in-Ok.outcome (c.requires.sound.meant c.requires.running told).runs finishes (c.in-Ok.ensures.decided told)
 
-pub returns-in-Ok-make_point-clause-answered : goal.returns-in-Ok-make_point-clause-answered
-returns-in-Ok-make_point-clause-answered g c told =
+pub returns-clause-answered : goal.returns-clause-answered
+returns-clause-answered g c told =
     let h = held c.args.self.now in
     let e = Call c.args.session c.args.call.now in
     let fin = held c.finish.new.self in
-    let new = held c.make_point.new.self in
-    let o = c.in-Ok.outcome in
-    let asked : AsksFirst h c.args.session c.args.call.now = record { asks = c.requires.asks; outcome = o; decided = c.in-Ok.ensures.decided told } in
-    let finishes = subst (λ (x : Held). Finishes (Ok tt) x fin) (c.in-Ok.ensures.quiet told) (c.in_default.ensures.finishes told) in
-    subst (λ (b : Bool). Answers e o.told h b new (has_stopped c.make_point.new.self)) (sym c.requires.running)
-    (subst (λ (b : Bool). Answers e o.told h false new b) (sym c.in-Ok-make_point.ensures.stopped)
-    (asked_behind h fin new c.args.session c.args.call.now asked (c.requires.sound.meant c.requires.running told).whole finishes (c.in-Ok-make_point.ensures.points told)))
-
-pub returns-in-Err-make_point-clause-answered : goal.returns-in-Err-make_point-clause-answered
-returns-in-Err-make_point-clause-answered g c told =
-    let h = held c.args.self.now in
-    let e = Call c.args.session c.args.call.now in
-    let fin = held c.finish.new.self in
-    let new = held c.make_point.new.self in
-    let stopped = has_stopped c.make_point.new.self in
-    let fault = c.in-Err-make_point.fault in
+    let new = held c.ask_between.new.self in
+    let reply = c.ask_between.result in
+    let stopped = has_stopped c.ask_between.new.self in
     let asked : AsksFirst h c.args.session c.args.call.now = record { asks = c.requires.asks; outcome = c.in-Ok.outcome; decided = c.in-Ok.ensures.decided told } in
     let finishes = subst (λ (x : Held). Finishes (Ok tt) x fin) (c.in-Ok.ensures.quiet told) (c.in_default.ensures.finishes told) in
-    subst (λ (r : Reply). Answers e r h c.args.self.now.has_stopped new stopped) (sym (c.refused-in-Err-make_point.ensures ∙ ap refused c.errno_of-in-Err-make_point.ensures))
-    (subst (λ (b : Bool). Answers e (refused (errno_of_point fault)) h b new stopped) (sym c.requires.running)
-    (subst (λ (b : Bool). Answers e (refused (errno_of_point fault)) h false new b) (sym c.in-Err-make_point.ensures.stopped)
-    (asked_unpointed h fin new c.args.session c.args.call.now fault asked (c.requires.sound.meant c.requires.running told).whole finishes (c.in-Err-make_point.ensures.points told))))
+    subst (λ (b : Bool). Answers e reply h b new stopped) (sym c.requires.running)
+    (asked_after_finish h fin new c.args.session c.args.call.now reply stopped asked finishes (c.ask_between.ensures.answered told))

@@ -9,12 +9,12 @@ use Rattle.sn_held.specs.Held.{Going}
 use Rattle.sn_held.specs.Images.{IsImage}
 use Rattle.sn_held.proofs.EventLemmas.{ready_with}
 use Rattle.sn_live_world.specs.World.{changes_of, world_in}
-use Rattle.sn_model.specs.declared.call.Event.TheVariants.{Restart}
 use Rattle.sn_model.specs.declared.outcome.AskedPoint.TheVariants.{Plain}
 use Rattle.sn_model.specs.Settling.{settle, settled}
 use Rattle.sn_model.specs.World.{World}
 use Rattle.sn_overlay.specs.Overlays.{layer_of, no_changes}
 use Rattle.sn_room.specs.Rooms.{RoomCounts, dropping, fresh}
+use Rattle.sn_events.specs.Answers.{BuildsLast}
 use Rattle.sn_events.specs.Dropping.{DropsFiles}
 use Rattle.sn_events.specs.Mounted.{trees_there}
 use Rattle.sn_events.proofs.BasedLemmas.{base_none, first_there}
@@ -93,7 +93,7 @@ returns-in-Err-clause-points g c told r =
     let new = held (record fs { blocks = c.make_point.new.blocks; base = c.make_point.new.base; log = c.make_point.new.log }) in
     let base_is = ap (λ (b : PointBase). kept_in b (changes_of fs.world)) e.keeps.0 in
     let parts = with_parts from c.make_point.new.log c.make_point.new.room disk in
-    point_unmade Restart old new (λ same. λ i. world_in fs.world (trees_there (same i) (e.keeps.0 i).root)) refl refl refl refl base_is built drops c.in-Err.fault Plain (settle old.world) (settles_twice old.world) refl parts (kept_in c.make_point.new.base no_changes) refl e.stays (e.point told from (settle old.world) ready tt) (e.touched told) e.costs.cause e.costs.later
+    point_unmade (settle old.world) (BuildsLast old) old new (λ same. λ i. world_in fs.world (trees_there (same i) (e.keeps.0 i).root)) refl refl refl refl base_is built drops c.in-Err.fault Plain (settle old.world) (settles_twice old.world) refl parts (kept_in c.make_point.new.base no_changes) refl e.stays (e.point told from (settle old.world) ready tt) (e.touched told) e.costs.cause e.costs.later
     (record { writes = e.costs.writes; syncs = e.costs.syncs }) (λ is. e.aged (ap Err is))
 
 pub returns-in-Err-clause-sound : goal.returns-in-Err-clause-sound

@@ -1,4 +1,4 @@
-use Rattle.std.proofs.Common.{Bool, Err, Ok, false, sym, ap, subst, ◌∙◌}
+use Rattle.std.proofs.Common.{Bool, Err, Ok, false, refl, sym, ap, subst, ◌∙◌}
 use Rattle.sn_held.specs.Held.{Held}
 use Rattle.sn_model.specs.declared.call.Event.TheVariants.{Call}
 use Rattle.sn_model.specs.declared.reply.Errno.TheVariants.{Enospc}
@@ -15,7 +15,7 @@ pub make_point-requires-clause-between : goal.make_point-requires-clause-between
 make_point-requires-clause-between g c = c.serve.ensures.point ∙ c.requires.between
 
 pub make_point-requires-clause-asked : goal.make_point-requires-clause-asked
-make_point-requires-clause-asked g c told = record { can = tt; whole = (c.serve.ensures.sound.meant (c.in_default.ensures.running) told).whole }
+make_point-requires-clause-asked g c told = record { can = tt; whole = (c.serve.ensures.sound.meant (c.in_default.ensures.running) told).whole; other = refl }
 
 pub returns-in-Some-clause-answered : goal.returns-in-Some-clause-answered
 returns-in-Some-clause-answered g c told = λ s m. (c.in-Some.ensures.served told s m).answers
@@ -40,7 +40,7 @@ returns-in-Some-serve-clause-answered g c told =
     let new = c.serve-2.new.self in
     let lacks = c.in_default.ensures.served told in
     let points = subst (λ (x : Held). Points (Ok tt) Plain x mid) lacks.1 (c.in_default-make_point.ensures.points told) in
-    call_behind h mid (held new) c.args.session c.args.call.now c.in-Some-serve.reply (has_stopped new) c.requires.between lacks.0 points (c.in-Some-serve.ensures.served told)
+    call_behind h mid (held new) c.args.session c.args.call.now c.in-Some-serve.reply (has_stopped new) (c.requires.sound.meant c.requires.running told).whole c.requires.between lacks.0 points (c.in-Some-serve.ensures.served told)
 
 pub returns-in-None-clause-answered : goal.returns-in-None-clause-answered
 returns-in-None-clause-answered g c told =
@@ -52,5 +52,5 @@ returns-in-None-clause-answered g c told =
     let lacks = c.in_default.ensures.served told in
     let points = subst (λ (x : Held). Points (Ok tt) Plain x mid) lacks.1 (c.in_default-make_point.ensures.points told) in
     let whole = (c.make_point.ensures.sound.meant c.in_default-make_point.ensures.stopped told).whole in
-    let a = call_without_room c.payloads_fit.ensures h mid new c.args.session c.args.call.now whole c.requires.between lacks.0 points (c.in-None.ensures.served told) in
+    let a = call_without_room c.payloads_fit.ensures h mid new c.args.session c.args.call.now (c.requires.sound.meant c.requires.running told).whole whole c.requires.between lacks.0 points (c.in-None.ensures.served told) in
     subst (λ (r : Reply). Answers e r h false new stopped) (sym c.refused-in-None.ensures) (subst (λ (b : Bool). Answers e (refused Enospc) h false new b) (sym c.in-None.ensures.running) a)
