@@ -50,7 +50,7 @@ pub record IsNextRoot (kind : PointKind) (root : RootBody) (asked : AskedPoint) 
   pub body : IsRootBody next
   pub age : LeavesAge kind next
 
--- What is planned for a point of this kind over what is kept, on a disk of n blocks: what was built of what changed over the inode file that it begins from, and the root that follows with it, with the bit of the snapshot that is made, goes, or is brought back. What it comes to over these blocks is said of a device that tells them.
+-- What is planned for a point of this kind over what is kept, on a disk of n blocks: what was built of what changed over the inode file that it begins from, and the root that follows with it, with the bit of the snapshot that is made, goes, or is brought back. What the new inode file denotes is said where the device tells its bytes.
 pub record IsPlanned (Told : Type 0) (n : ℕ) (s : Store) (kind : PointKind) (k : Kept) (asked : AskedPoint) (built : Built) (next : RootBody) : Type 0 where
   pub bit : ℕ
   pub file : BlockTree
