@@ -1,5 +1,5 @@
 -- Why events are refused, mounts fail and runs stop over a device that counts no failure: only since it came to its end, or memory was refused.
-use Rattle.std.specs.Prelude.{◌≡◌, ◌⊎◌, List, Contains, IsTrue, Option, None, Some}
+use Rattle.std.specs.Prelude.{◌≡◌, ◌⊎◌, List, Contains, IsTrue, Option, Some}
 use Rattle.sn_device.specs.Disk.{Disk, reads}
 use Rattle.sn_device.specs.Status.{has_ended}
 use Rattle.sn_device.specs.declared.status.Status.{Status}
@@ -10,7 +10,7 @@ use Rattle.sn_model.specs.declared.fault.MountFault.{MountFault}
 use Rattle.sn_model.specs.declared.fault.MountFault.TheVariants as mount
 use Rattle.sn_model.specs.declared.reply.Reply.{Reply}
 use Rattle.sn_model.specs.declared.reply.Reply.TheVariants as answer
-use Rattle.sn_model.specs.Machine.{Mishap, Memory, Read, Write, Space, Age, RunBy}
+use Rattle.sn_model.specs.Machine.{Mishap, Read, Write, Age, RunBy}
 use Rattle.sn_model.specs.World.{World}
 use Rattle.sn_held.specs.Images.{IsImage}
 use Rattle.sn_run.specs.Runs.{Goes, RunsTo, Served, Standing, start}

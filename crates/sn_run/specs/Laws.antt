@@ -1,5 +1,5 @@
 -- What crashes leave of runs, life by life, and what points leave and cost.
-use Rattle.std.specs.Prelude.{◌≡◌, false, true, Option, None, Some, List, [], ◌∷◌, ℕ, ◌+◌, ◌<◌, ◌≤◌}
+use Rattle.std.specs.Prelude.{◌≡◌, false, true, Option, Some, List, [], ◌∷◌, ℕ, ◌+◌, ◌<◌, ◌≤◌}
 use Rattle.sn_device.specs.Sectors.{Contents}
 use Rattle.sn_device.specs.Status.{has_ended}
 use Rattle.sn_limits.specs.Versions.{limits_written}
@@ -8,7 +8,7 @@ use Rattle.sn_model.specs.declared.call.Event.TheVariants as event
 use Rattle.sn_model.specs.declared.reply.Progress.TheVariants as progress
 use Rattle.sn_model.specs.declared.reply.Reply.{Reply}
 use Rattle.sn_model.specs.declared.reply.Reply.TheVariants as answer
-use Rattle.sn_model.specs.Machine.{Running, Anything, Life, Mishap, Memory, Read, Write, Space, Age, Run, RunBy}
+use Rattle.sn_model.specs.Machine.{Running, Anything, Life, Mishap, Read, Write, Run, RunBy}
 use Rattle.sn_model.specs.World.{World}
 use Rattle.sn_held.specs.Images.{IsImage}
 use Rattle.sn_run.specs.Runs.{Goes, ShowsCut, Standing}
