@@ -158,13 +158,21 @@ def worlds_behind(lines, replies):
     return followed.worlds
 
 
+def all_paths(world):
+    """Each path of the live tree and of those of the snapshots, with what it stands for."""
+    yield from world.paths()
+    for name, root in world.snapshots.items():
+        yield f"/.snapshot/{name}", root
+        yield from world.paths(f"/.snapshot/{name}", root)
+
+
 def look_at(worlds):
     """A script that looks at all that these worlds have, and its replies in each of them."""
     longest = {"/": 0}
     for world in worlds:
-        for path, node in world.paths():
+        for path, node in all_paths(world):
             longest[path] = max(longest.get(path, 0), len(node.data or b""))
-    lines = ["0 login 0 0 -"]
+    lines = ["0 login 0 0 -", "0 snap-list"]
     for path, length in sorted(longest.items()):
         lines += [f"0 {call.format(path)}" for call in ("stat {}", "readdir {}", "getacl {} a", "getacl {} d", "open {} r")]
         lines += [f"0 read 0 {MOST_READ}"] * (length // MOST_READ + 1) + ["0 close 0"]
@@ -189,6 +197,9 @@ class Case:
         self.replies = self.program("run", "whole", "script").stdout.splitlines()
         self.counts["lines"] += len(self.lines)
         self.counts["refused for room"] += self.replies.count(NO_ROOM)
+        told = [reply for line, reply in zip(self.lines, self.replies) if " snap-restore " in line]
+        self.counts["snapshots brought back"] += told.count("ok")
+        self.counts["refused to be brought back"] += len(told) - told.count("ok")
 
     def program(self, *words, status=0, environment=None):
         """A run of the program that ends with this status, or with any."""

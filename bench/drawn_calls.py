@@ -22,8 +22,11 @@ ACLS = (
 WEIGHTS = {
     "make": (8, 2), "open": (14, 4), "write": (34, 6), "seek": (4, 2), "cut": (3, 6), "close": (9, 9), "link": (3, 1),
     "rename": (5, 5), "unlink": (2, 16), "rmdir": (1, 6), "attributes": (6, 4), "acl": (3, 2), "step": (20, 20), "sync": (1, 1),
-    "restart": (1, 1), "logout": (1, 1), "wrong": (3, 3),
+    "restart": (1, 1), "logout": (1, 1), "wrong": (3, 3), "freeze": (1, 1), "thaw": (1, 1), "restore": (2, 2), "frozen": (4, 3),
 }
+SNAPSHOTS = ("s", "t", "old")
+# Calls that read of a snapshot, of which an open is closed by a later line.
+READING = ("stat {}", "readdir {}", "getacl {} a", "getacl {} d", "open {} r")
 # Calls that are refused by what is there, or only read.
 WRONG = ("mkdir {} 0755", "rmdir {}", "unlink {}/x", "rename {} {}/x", "stat {}", "readdir {}", "open {} rwcx 0644")
 
@@ -148,3 +151,23 @@ class Script:
         """A call that is refused by what is there, or reads alone."""
         path = self.drawn.choice(self.paths())
         self.add(f"{session} {self.drawn.choice(WRONG).format(path, path)}")
+
+    def draw_freeze(self, session):
+        self.add(f"{session} snap-create {self.drawn.choice(SNAPSHOTS)}")
+
+    def draw_thaw(self, session):
+        self.add(f"{session} snap-delete {self.drawn.choice(SNAPSHOTS)}")
+
+    def draw_restore(self, session):
+        """A snapshot that there is, if there is one. Mostly all sessions end first, since a live file that is open is a bar."""
+        name = self.drawn.choice([*self.world.snapshots] or SNAPSHOTS)
+        if self.drawn.randrange(4) > 0:
+            for number in sorted(self.world.sessions):
+                self.add(f"{number} logout")
+            self.add(f"{session} login 0 0 -")
+        self.add(f"{session} snap-restore {name}")
+
+    def draw_frozen(self, session):
+        name = self.drawn.choice([*self.world.snapshots])
+        paths = [path for path, _ in self.world.paths(f"/.snapshot/{name}", self.world.snapshots[name])]
+        self.add(f"{session} {self.drawn.choice(READING).format(self.drawn.choice(paths))}")

@@ -1,10 +1,14 @@
 """A plain name tree in memory, which answers the calls of user 0 by docs/RULES.md and docs/SCRIPT.md alone.
 
-It knows no device: no call finds the disk full, and a point, which each step ends, changes nothing. Paths through `/.snapshot`,
-arguments that no call takes and sessions of other users aren't there, since its callers draw none.
+It knows no device: no call finds the disk full, and a point, which each step ends, changes nothing. A snapshot is a copy of the
+tree, and so is the live tree behind a restore: a file that has no name isn't copied. Below `/.snapshot/NAME` it answers what reads alone.
+Arguments that no call takes and sessions of other users aren't there, since its callers draw none.
 """
 
-LARGEST_FILE, DESCRIPTORS = 68_719_476_736, 64
+import copy
+
+LARGEST_FILE, DESCRIPTORS, MOST_SNAPSHOTS = 68_719_476_736, 64, 31
+FROZEN = "/.snapshot/"
 SET_GROUP = 0o2000
 
 
@@ -59,18 +63,18 @@ class Node:
 
 
 class Open:
-    """A descriptor."""
+    """A descriptor, of a file of the live tree or of that of a snapshot."""
 
-    def __init__(self, node, flags):
-        self.node, self.flags, self.offset = node, flags, 0
+    def __init__(self, node, flags, snapshot):
+        self.node, self.flags, self.offset, self.snapshot = node, flags, 0, snapshot
 
 
 class World:
-    """The tree, and the sessions with their umask and their descriptors."""
+    """The tree, those of the snapshots by their names, and the sessions with their umask and their descriptors."""
 
     def __init__(self):
         self.root = Node(True, Acl("u::rwx,g::r-x,o::r-x"), 0, 0)
-        self.sessions = {}
+        self.snapshots, self.sessions = {}, {}
 
     def answer(self, line):
         """Carries out a line of a script, and gives its reply."""
@@ -81,7 +85,7 @@ class World:
             return "ok"
         session, call, *words = line.split(" ")
         try:
-            return getattr(self, f"call_{call}")(int(session), *words)
+            return getattr(self, f"call_{call.replace('-', '_')}")(int(session), *words)
         except Refused as refused:
             return f"err {refused}"
 
@@ -91,9 +95,21 @@ class World:
 
     # ---- paths
 
+    @staticmethod
+    def snapshot_of(path):
+        """The name of the snapshot that a path leads into, or None."""
+        return path[len(FROZEN) :].split("/")[0] if path.startswith(FROZEN) else None
+
     def walk(self, path):
         """The directory of the last name, that name, and what it stands for, or None; of `/` itself, with no name."""
-        directory, name, found = None, "", self.root
+        snapshot = self.snapshot_of(path)
+        if snapshot is not None:
+            return self.walk_from(self.snapshots.get(snapshot), path[len(FROZEN + snapshot) :] or "/")
+        return self.walk_from(self.root, path)
+
+    @staticmethod
+    def walk_from(root, path):
+        directory, name, found = None, "", root
         for part in path.split("/")[1:] if path != "/" else []:
             if found is None:
                 raise Refused("ENOENT")
@@ -138,6 +154,43 @@ class World:
     def call_sync(self, number):
         self.session(number)
         return "ok"
+
+    # ---- snapshots
+
+    def opens_in(self, snapshot):
+        """Whether a session has a file of a snapshot open, or of the live tree, which is None."""
+        return any(opened.snapshot == snapshot for it in self.sessions.values() for opened in it["open"].values())
+
+    def call_snap_create(self, number, name):
+        self.session(number)
+        if name in self.snapshots:
+            raise Refused("EEXIST")
+        if len(self.snapshots) == MOST_SNAPSHOTS:
+            raise Refused("ELIMIT")
+        self.snapshots[name] = copy.deepcopy(self.root)
+        return "ok"
+
+    def call_snap_delete(self, number, name):
+        self.session(number)
+        if name not in self.snapshots:
+            raise Refused("ENOENT")
+        if self.opens_in(name):
+            raise Refused("EBUSY")
+        del self.snapshots[name]
+        return "ok"
+
+    def call_snap_restore(self, number, name):
+        self.session(number)
+        if name not in self.snapshots:
+            raise Refused("ENOENT")
+        if self.opens_in(None):
+            raise Refused("EBUSY")
+        self.root = copy.deepcopy(self.snapshots[name])
+        return "ok"
+
+    def call_snap_list(self, number):
+        self.session(number)
+        return " ".join(["ok", *sorted(self.snapshots)])
 
     # ---- names
 
@@ -296,7 +349,7 @@ class World:
         elif "t" in flags:
             found.data = bytearray()
         least = min({*range(DESCRIPTORS)} - {*descriptors})
-        descriptors[least] = Open(found, flags)
+        descriptors[least] = Open(found, flags, self.snapshot_of(path))
         return f"ok {least}"
 
     def call_close(self, number, which):
