@@ -1,11 +1,5 @@
 //! Heads that tables have.
 
-ghost use Rattle.std.specs.Prelude.{◌≡◌, IsTrue};
-ghost use Rattle.std.specs.List.{list_all};
-ghost use Rattle.sn_tar.specs.Entries.{CanStand};
-ghost use Rattle.sn_tar.specs.Fields.{is_text_byte};
-ghost use Rattle.sn_tar.specs.Heads.{kind_of, letter_of};
-
 use crate::{bytes_of, word_of};
 use anyhow::{Context, Result, bail};
 use sn_tar::{BLOCK_SIZE, Entry, Head, Kind, Text, decode, encode, join};
@@ -52,31 +46,8 @@ fn written(alloc: Global, case: Case<'_>) -> Result<String> {
     }
 }
 
-fn is_text(bytes: &[u8]) -> bool
-    ensures { result ≡ list_all is_text_byte bytes.now }
-{
-    bytes.iter().all(|byte| *byte != 0)
-}
-
-fn is_own_kind(kind: Kind) -> bool
-    ensures { IsTrue result → kind_of (letter_of kind) ≡ kind }
-{
-    Kind::of_letter(kind.letter()) == kind
-}
-
-/// Whether an entry is one that a head and records can say.
-fn can_stand(entry: &Entry<'_>) -> bool
-    ensures { IsTrue result → CanStand entry.now }
-{
-    let _letter = entry.kind.letter();
-    is_text(entry.path.as_bytes())
-        && is_text(entry.link.as_bytes())
-        && entry.mode < 2_097_152
-        && is_own_kind(entry.kind)
-}
-
 fn head_of(alloc: Global, entry: &Entry<'_>) -> Result<String> {
-    if !can_stand(entry) {
+    if !entry.is_writable() {
         bail!("no entry");
     }
     Ok(hex::encode(alloc, encode(&entry.head()).as_slice())?)
