@@ -1,0 +1,4 @@
+pub mod Numbers
+pub mod Joined
+pub mod Words
+pub mod Again

@@ -1,0 +1,3 @@
+pub mod Long
+pub mod Reading
+pub mod Laws
