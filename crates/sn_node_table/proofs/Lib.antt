@@ -1,0 +1,4 @@
+pub mod FreshLemmas
+pub mod IdleLemmas
+pub mod SweepLemmas
+pub mod UndoLemmas

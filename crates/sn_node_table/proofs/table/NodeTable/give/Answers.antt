@@ -1,0 +1,20 @@
+use Rattle.std.proofs.Common.{ℕ, Option, None, ap, sym, ◌∙◌, rules, refl, arith}
+use Rattle.std.specs.Ordering.{nat_cmp}
+use Rattle.std.specs.Cmp.{nat_cmp_total}
+use Rattle.std.specs.FinMap as map
+use Rattle.std.proofs.lemmas.Map.Lookups.{exact_unsigned}
+use Rattle.sn_nodes.specs.Maps.{updated, restored}
+use Rattle.sn_nodes.proofs.MapLemmas.{remove-insert, restored-insert}
+use Rattle.sn_node_table.specs.Stored.{nodes_of, current_of}
+use Rattle.sn_node_table.specs.Nodes.{Node, link_to, new_node, with_link, without_name, without_link, without_last_link, with_name}
+use Rattle.sn_node_table.specs.Tables.{Nodes, Table, IsFresh}
+use Rattle.sn_node_table.specs.Told.{table_of}
+use Rattle.sn_node_table.proofs.FreshLemmas.{fresh-inserted, fresh-is, fresh-removed, fresh-updated, none-unless}
+use Rattle.sn_node_table.proofs.UndoLemmas.{unlinked_last}
+use Rattle.sn_node_table.proofs.table.NodeTable.give.Goals as goal
+
+pub undo_add-requires : goal.undo_add-requires
+undo_add-requires c = ap (λ (u : Table). u.next) (c.in-Err.ensures.err ∙ c.in_ok-old.ensures.ok)
+
+pub returns-in-Err-clause-err : goal.returns-in-Err-clause-err
+returns-in-Err-clause-err c = c.undo_add.ensures (table_of c.args.self.now) (c.in-Err.ensures.err ∙ c.in_ok-old.ensures.ok) c.in_ok-old.ensures.old refl c.in_ok-old.ensures.unused

@@ -1,0 +1,36 @@
+-- The paths that first names make.
+use Rattle.std.specs.Prelude.{ℕ, ◌+◌, ◌==◌, nat_le, zero, suc, List, [], ◌∷◌, ◌++◌, length, Option, None, Some, Result, Ok, Err, if◌then◌else◌}
+use Rattle.std.specs.Option.{option_and_then}
+use Rattle.sn_node_table.specs.declared.node.Link.{Link}
+use Rattle.sn_node_table.specs.declared.path.NoPath.{NoPath}
+use Rattle.sn_node_table.specs.declared.path.NoPath.TheVariants.{Stale, TooLong}
+use Rattle.sn_node_table.specs.Nodes.{first_link}
+use Rattle.sn_node_table.specs.Tables.{Table, node_at}
+
+-- a name at the end, behind a slash, where there is room for it
+abbrev pub extended : List ℕ → Result (List ℕ) NoPath → Result (List ℕ) NoPath
+extended name (Err fault) = Err fault
+extended name (Ok text) = if nat_le (length text + 1 + length name) 1023 then Ok (text ++ 47 ∷ name) else Err TooLong
+
+-- what leads to the directory that a first name is in, and that name
+abbrev pub by_link : (ℕ → Result (List ℕ) NoPath) → Option Link → Result (List ℕ) NoPath
+by_link above None = Err Stale
+by_link above (Some link) = extended link.name (above link.parent)
+
+-- the names down to a node, in so many steps at most, each behind a slash
+abbrev pub climbed : Table → ℕ → ℕ → Result (List ℕ) NoPath
+climbed t zero id = if id == 1 then Ok [] else Err TooLong
+climbed t (suc hops) id = if id == 1 then Ok [] else by_link (climbed t hops) (option_and_then first_link (node_at t id))
+
+-- the root's path is a slash alone
+abbrev pub spelled : Result (List ℕ) NoPath → Result (List ℕ) NoPath
+spelled (Err fault) = Err fault
+spelled (Ok []) = Ok (47 ∷ [])
+spelled (Ok (byte ∷ bytes)) = Ok (byte ∷ bytes)
+
+-- No path has more than 511 names.
+abbrev pub path_of : Table → ℕ → Result (List ℕ) NoPath
+path_of t id = spelled (climbed t 512 id)
+
+abbrev pub child_path_of : Table → ℕ → List ℕ → Result (List ℕ) NoPath
+child_path_of t parent name = extended name (climbed t 512 parent)

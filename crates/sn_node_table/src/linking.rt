@@ -1,0 +1,93 @@
+//! The names that nodes are met under.
+ghost use Rattle.std.specs.Prelude.{◌≡◌, OnOk, OnErr};
+ghost use Rattle.std.specs.FinMap as map;
+ghost use Rattle.std.specs.Option.{option_and_then, option_map};
+ghost use Rattle.sn_node_table.specs.Nodes.{first_link};
+ghost use Rattle.sn_node_table.specs.declared.node.Link.{Link as TheLink};
+ghost use Rattle.sn_node_table.specs.Tables.{dropped, linked, moved, put, unlinked};
+
+use crate::node::Link;
+use crate::table::NodeTable;
+use sn_model::Word;
+use std::alloc::AllocError;
+
+impl NodeTable {
+    ghost use Rattle.sn_node_table.specs.Told.{table_of};
+
+    /// A name leads to an id from now on, as the last of that id's names. What had the name has it no more.
+    pub(crate) fn link(&mut self, parent: u64, name: &[u8], id: u64) -> Result<(), AllocError>
+        ensures ok { OnOk result (table_of self.new ≡ linked (table_of self.old) parent name.now id) }
+        ensures err { OnErr result (table_of self.new ≡ table_of self.old) }
+    {
+        match self.named(parent, name) {
+            Some(old) if old == id => Ok(()),
+            Some(old) => {
+                self.put_link(parent, name, id)?;
+                self.nodes.drop_link(old, parent, name);
+                Ok(())
+            }
+            None => self.put_link(parent, name, id),
+        }
+    }
+
+    /// The same where another id that had the name still has it among its names.
+    fn put_link(&mut self, parent: u64, name: &[u8], id: u64) -> Result<(), AllocError>
+        ensures ok { OnOk result (table_of self.new ≡ put (table_of self.old) parent name.now id) }
+        ensures err { OnErr result (table_of self.new ≡ table_of self.old) }
+    {
+        let link = Link::new(self.alloc, parent, name)?;
+        let key = Word::new(self.alloc, name)?;
+        self.nodes.push_link(id, link)?;
+        match self.nodes.put_name(parent, key, id) {
+            Ok(_) => Ok(()),
+            Err(refused) => {
+                self.nodes.pop_link(id);
+                Err(refused)
+            }
+        }
+    }
+
+    /// A name leads nowhere from now on, whether or not its directory is still held.
+    pub(crate) fn take_name(&mut self, parent: u64, name: &[u8])
+        ensures { table_of self.new ≡ unlinked (table_of self.old) parent name.now }
+    {
+        if let Some(id) = self.named(parent, name) {
+            self.nodes.take_name(parent, name);
+            self.nodes.drop_link(id, parent, name);
+        }
+    }
+
+    /// What a name led to is under another name, whether or not their directories are still held.
+    pub(crate) fn move_name(
+        &mut self,
+        parent: u64,
+        name: &[u8],
+        directory: u64,
+        other: &[u8],
+    ) -> Result<(), AllocError>
+        ensures ok { OnOk result (table_of self.new ≡ moved (table_of self.old) parent name.now directory other.now) }
+        ensures err { OnErr result (table_of self.new ≡ table_of self.old) }
+    {
+        let Some(id) = self.named(parent, name) else {
+            self.take_name(directory, other);
+            return Ok(());
+        };
+        if self.named(directory, other) == Some(id) {
+            return Ok(());
+        }
+        self.link(directory, other, id)?;
+        self.take_name(parent, name);
+        Ok(())
+    }
+
+    /// The first name of a node leads to it no more. Hands back the directory of that name, whether or not it is
+    /// still held.
+    pub(crate) fn take_first_link(&mut self, id: u64) -> Option<u64>
+        ensures table { table_of self.new ≡ dropped (table_of self.old) id }
+        ensures parent { result ≡ option_map (λ (link : TheLink). link.parent) (option_and_then first_link (map.get (table_of self.old).nodes id)) }
+    {
+        let link = self.nodes.take_first_link(id)?;
+        self.nodes.take_name(link.parent, link.name.as_bytes());
+        Some(link.parent)
+    }
+}

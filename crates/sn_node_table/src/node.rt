@@ -1,0 +1,130 @@
+//! What is kept of a node.
+ghost use Rattle.std.specs.Prelude.{◌≡◌, ◌↔◌, IfOk, OnOk, OnErr, IsTrue};
+ghost use Rattle.std.specs.Option.{option_copied};
+
+use crate::names::Names;
+use sn_model::Word;
+use std::alloc::{AllocError, Global};
+
+/// A name of a directory that was met.
+#[derive(Drop)]
+pub struct Link {
+    /// The id of the directory.
+    pub parent: u64,
+    pub name: Word,
+}
+
+impl Link {
+    ghost use Rattle.sn_node_table.specs.Nodes.{is_link, link_to};
+
+    /// The link of a name, which is copied.
+    pub fn new(alloc: Global, parent: u64, name: &[u8]) -> Result<Link, AllocError>
+        ensures { IfOk result (λ link. link ≡ link_to parent name.now) }
+    {
+        let name = Word::new(alloc, name)?;
+        Ok(Link { parent, name })
+    }
+
+    /// Whether it is that of this name of this directory.
+    pub fn is(&self, parent: u64, name: &[u8]) -> bool
+        ensures { result ≡ is_link parent name.now self.now }
+    {
+        self.parent == parent && self.name.as_bytes() == name
+    }
+}
+
+/// A node that is known.
+#[derive(Drop)]
+pub(crate) struct StoredNode {
+    /// The number of the object that it is, as a caller of `stat` is told.
+    pub inode: u64,
+    /// The names that it was met under, in the order in which they were met.
+    pub links: Vec<Link>,
+    /// The names that are known below it.
+    pub below: Names,
+    pub lookups: u64,
+    pub handles: u64,
+}
+
+impl StoredNode {
+    ghost use Rattle.sn_node_table.specs.Nodes.{IsIdle, first_link, new_node, with_link, with_name, without_first_link, without_last_link, without_link, without_name};
+    ghost use Rattle.sn_node_table.specs.Stored.{node_of, names_of};
+    ghost use Rattle.std.specs.FinMap as map;
+
+    /// A node that was looked up once. It takes no memory.
+    pub fn new(alloc: Global, inode: u64) -> StoredNode
+        ensures { node_of result ≡ new_node inode }
+    {
+        StoredNode {
+            inode,
+            links: Vec::new(alloc),
+            below: Names::new(alloc),
+            lookups: 1,
+            handles: 0,
+        }
+    }
+
+    /// The first name that it was met under.
+    pub fn first_link(&self) -> Option<&Link>
+        ensures { option_copied result ≡ first_link (node_of self.now) }
+    {
+        self.links.first()
+    }
+
+    /// It was met under one more name.
+    pub fn push_link(&mut self, link: Link) -> Result<(), AllocError>
+        ensures ok { OnOk result (node_of self.new ≡ with_link link (node_of self.old)) }
+        ensures err { OnErr result (node_of self.new ≡ node_of self.old) }
+    {
+        self.links.push(link)?;
+        Ok(())
+    }
+
+    /// Takes back the last name that it was met under.
+    pub fn pop_link(&mut self)
+        ensures { node_of self.new ≡ without_last_link (node_of self.old) }
+    {
+        self.links.pop();
+    }
+
+    /// Takes the first name that it was met under.
+    pub fn take_first_link(&mut self) -> Option<Link>
+        ensures link { result ≡ first_link (node_of self.old) }
+        ensures rest { node_of self.new ≡ without_first_link (node_of self.old) }
+    {
+        if self.links.is_empty() {
+            return None;
+        }
+        Some(self.links.remove(0))
+    }
+
+    /// A name isn't one of its names any more.
+    pub fn drop_link(&mut self, parent: u64, name: &[u8])
+        ensures { node_of self.new ≡ without_link parent name.now (node_of self.old) }
+    {
+        self.links.retain(|link| !link.is(parent, name));
+    }
+
+    /// A name below it leads to an id. Hands back the id that it led to.
+    pub fn put_name(&mut self, name: Word, id: u64) -> Result<Option<u64>, AllocError>
+        ensures ok { OnOk result (node_of self.new ≡ with_name name id (node_of self.old)) }
+        ensures old { IfOk result (λ old. old ≡ map.get (node_of self.old).below name) }
+        ensures err { OnErr result (node_of self.new ≡ node_of self.old) }
+    {
+        self.below.insert(name, id)
+    }
+
+    /// A name below it is known no more.
+    pub fn take_name(&mut self, name: &[u8])
+        ensures { node_of self.new ≡ without_name name.now (node_of self.old) }
+    {
+        self.below.remove(name);
+    }
+
+    /// Whether nothing holds it: no lookup, no handle, and no name below.
+    pub fn is_idle(&self) -> bool
+        ensures { IsTrue result ↔ IsIdle (node_of self.now) }
+    {
+        self.lookups == 0 && self.handles == 0 && self.below.is_empty()
+    }
+}

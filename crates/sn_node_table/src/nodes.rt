@@ -1,0 +1,143 @@
+//! The nodes by id.
+ghost use Rattle.std.specs.Prelude.{◌≡◌, IfOk, OnOk, OnErr};
+ghost use Rattle.std.specs.Option.{option_and_then, option_copied, option_map};
+ghost use Rattle.std.specs.FinMap as map;
+ghost use Rattle.sn_nodes.specs.Maps.{updated};
+ghost use Rattle.sn_node_table.specs.Tables.{unhooked};
+ghost use Rattle.sn_node_table.specs.Nodes.{below_of, first_link, with_handles, with_link, with_lookups, with_name, without_first_link, without_last_link, without_link, without_name};
+
+use crate::node::{Link, StoredNode};
+use sn_model::Word;
+use std::alloc::{AllocError, Global};
+use std::collections::BTreeMap;
+
+/// The nodes that are known, by their ids.
+#[derive(Drop)]
+pub(crate) struct Nodes {
+    map: BTreeMap<u64, StoredNode>,
+}
+
+impl Nodes {
+    ghost use Rattle.sn_node_table.specs.Stored.{node_of, nodes_of};
+
+    /// No node. It takes no memory.
+    pub fn new(alloc: Global) -> Nodes
+        ensures { nodes_of result ≡ map.empty }
+    {
+        Nodes {
+            map: BTreeMap::new(alloc),
+        }
+    }
+
+    /// The node with an id.
+    pub fn get(&self, id: u64) -> Option<&StoredNode>
+        ensures { option_map node_of (option_copied result) ≡ map.get (nodes_of self.now) id }
+    {
+        self.map.get(&id)
+    }
+
+    /// Gives an id a node.
+    pub fn insert(&mut self, id: u64, node: StoredNode) -> Result<(), AllocError>
+        ensures ok { OnOk result (nodes_of self.new ≡ map.insert (nodes_of self.old) id (node_of node)) }
+        ensures err { OnErr result (nodes_of self.new ≡ nodes_of self.old) }
+    {
+        self.map.insert(id, node)?;
+        Ok(())
+    }
+
+    /// Takes a node out, and hands it back.
+    pub fn remove(&mut self, id: u64) -> Option<StoredNode>
+        ensures node { option_map node_of result ≡ map.get (nodes_of self.old) id }
+        ensures gone { nodes_of self.new ≡ map.remove (nodes_of self.old) id }
+    {
+        self.map.remove(&id)
+    }
+
+    /// Sets how many lookups a node has.
+    pub fn set_lookups(&mut self, id: u64, lookups: u64)
+        ensures { nodes_of self.new ≡ updated (nodes_of self.old) id (with_lookups lookups) }
+    {
+        if let Some(node) = self.map.get_mut(&id) {
+            node.lookups = lookups;
+        }
+    }
+
+    /// Sets how many handles a node has.
+    pub fn set_handles(&mut self, id: u64, handles: u64)
+        ensures { nodes_of self.new ≡ updated (nodes_of self.old) id (with_handles handles) }
+    {
+        if let Some(node) = self.map.get_mut(&id) {
+            node.handles = handles;
+        }
+    }
+
+    /// A node was met under one more name.
+    pub fn push_link(&mut self, id: u64, link: Link) -> Result<(), AllocError>
+        ensures ok { OnOk result (nodes_of self.new ≡ updated (nodes_of self.old) id (with_link link)) }
+        ensures err { OnErr result (nodes_of self.new ≡ nodes_of self.old) }
+    {
+        match self.map.get_mut(&id) {
+            Some(node) => node.push_link(link),
+            None => Ok(()),
+        }
+    }
+
+    /// Takes back the last name that a node was met under.
+    pub fn pop_link(&mut self, id: u64)
+        ensures { nodes_of self.new ≡ updated (nodes_of self.old) id without_last_link }
+    {
+        if let Some(node) = self.map.get_mut(&id) {
+            node.pop_link();
+        }
+    }
+
+    /// Takes the first name that a node was met under.
+    pub fn take_first_link(&mut self, id: u64) -> Option<Link>
+        ensures link { result ≡ option_and_then first_link (map.get (nodes_of self.old) id) }
+        ensures rest { nodes_of self.new ≡ updated (nodes_of self.old) id without_first_link }
+    {
+        match self.map.get_mut(&id) {
+            Some(node) => node.take_first_link(),
+            None => None,
+        }
+    }
+
+    /// A name isn't one of a node's names any more.
+    pub fn drop_link(&mut self, id: u64, parent: u64, name: &[u8])
+        ensures { nodes_of self.new ≡ updated (nodes_of self.old) id (without_link parent name.now) }
+    {
+        if let Some(node) = self.map.get_mut(&id) {
+            node.drop_link(parent, name);
+        }
+    }
+
+    /// A name below a node leads to an id. Hands back the id that it led to.
+    pub fn put_name(&mut self, parent: u64, name: Word, id: u64) -> Result<Option<u64>, AllocError>
+        ensures ok { OnOk result (nodes_of self.new ≡ updated (nodes_of self.old) parent (with_name name id)) }
+        ensures old { IfOk result (λ old. old ≡ map.get (below_of (map.get (nodes_of self.old) parent)) name) }
+        ensures err { OnErr result (nodes_of self.new ≡ nodes_of self.old) }
+    {
+        match self.map.get_mut(&parent) {
+            Some(node) => node.put_name(name, id),
+            None => Ok(None),
+        }
+    }
+
+    /// A name below a node is known no more.
+    pub fn take_name(&mut self, parent: u64, name: &[u8])
+        ensures { nodes_of self.new ≡ updated (nodes_of self.old) parent (without_name name.now) }
+    {
+        if let Some(node) = self.map.get_mut(&parent) {
+            node.take_name(name);
+        }
+    }
+
+    /// No name leads to a node any more by these links.
+    pub fn unhook(&mut self, links: &[Link])
+        ensures { nodes_of self.new ≡ unhooked (nodes_of self.old) links.now }
+    {
+        for link in links {
+            self.take_name(link.parent, link.name.as_bytes());
+        }
+    }
+}

@@ -1,0 +1,70 @@
+//! The nodes that nothing holds, which go.
+ghost use Rattle.std.specs.Prelude.{◌≡◌, ◌≢◌, ◌<◌, ◌≤◌, ◌↔◌, ◌⊎◌, ℕ, IsTrue, OnSome, Some};
+ghost use Rattle.std.specs.FinMap as map;
+ghost use Rattle.sn_node_table.specs.Tables.{Goes, IsIdleAt, links_of, without};
+
+use crate::node::{Link, StoredNode};
+use crate::table::{NodeTable, ROOT_ID};
+
+impl NodeTable {
+    ghost use Rattle.sn_node_table.specs.Told.{table_of};
+
+    /// Whether nothing holds an id.
+    fn is_idle(&self, id: u64) -> bool
+        ensures { IsTrue result ↔ IsIdleAt (table_of self.now) id }
+    {
+        match self.nodes.get(id) {
+            Some(node) => id != ROOT_ID && node.is_idle(),
+            None => false,
+        }
+    }
+
+    /// Takes an id out, and hands back the names that led to it.
+    fn take_out(&mut self, id: u64) -> Vec<Link>
+        ensures table { table_of self.new ≡ without (table_of self.old) id }
+        ensures links { result.items ≡ links_of (map.get (table_of self.old).nodes id) }
+    {
+        let Some(node) = self.nodes.remove(id) else {
+            return Vec::new(self.alloc);
+        };
+        let StoredNode { inode, links, .. } = node;
+        if self.current.get(inode) == Some(id) {
+            self.current.remove(inode);
+        }
+        self.nodes.unhook(links.as_slice());
+        links
+    }
+
+    /// Takes out an id that nothing holds, with those that it was the last to hold, but for one: that is handed
+    /// back, so that a long way up takes no room on the stack.
+    #[cycle(sweep)]
+    fn sweep_one(&mut self, id: u64) -> Option<u64>
+        ensures goes { Goes (table_of self.old) (table_of self.new) }
+        ensures idle { (other : ℕ) → IsIdleAt (table_of self.new) other → (IsIdleAt (table_of self.old) other × (other ≢ id)) ⊎ (result ≡ Some other) }
+        ensures fewer { OnSome result (map.len (table_of self.new).nodes < map.len (table_of self.old).nodes) }
+        ensures no_more { map.len (table_of self.new).nodes ≤ map.len (table_of self.old).nodes }
+    {
+        if !self.is_idle(id) {
+            return None;
+        }
+        let mut links = self.take_out(id);
+        let left = links.pop()?;
+        while let Some(link) = links.pop() {
+            self.sweep(link.parent);
+        }
+        Some(left.parent)
+    }
+
+    /// Takes out an id that nothing holds, and those that it was the last to hold.
+    #[cycle(sweep)]
+    pub(crate) fn sweep(&mut self, id: u64)
+        ensures goes { Goes (table_of self.old) (table_of self.new) }
+        ensures idle { (other : ℕ) → IsIdleAt (table_of self.new) other → IsIdleAt (table_of self.old) other × (other ≢ id) }
+        ensures no_more { map.len (table_of self.new).nodes ≤ map.len (table_of self.old).nodes }
+    {
+        let mut next = Some(id);
+        while let Some(at) = next {
+            next = self.sweep_one(at);
+        }
+    }
+}
