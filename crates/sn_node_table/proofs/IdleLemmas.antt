@@ -1,5 +1,5 @@
 -- Which ids nothing holds, after each change of a table.
-use Rattle.std.proofs.Common.{◌≡◌, ◌≢◌, ℕ, ◌+◌, ◌==◌, Bool, true, false, cond, List, [], ◌∷◌, Option, Some, None, refl, subst, sym, ap, ◌∙◌, arith}
+use Rattle.std.proofs.Common.{◌≡◌, ◌≢◌, ℕ, ◌==◌, Bool, true, false, cond, List, Option, Some, None, refl, subst, sym, ap, ◌∙◌, arith}
 use Rattle.std.specs.Ordering.{nat_cmp, eq_by_cmp}
 use Rattle.std.specs.Cmp.{eq_by_cmp_equiv, nat_cmp_total}
 use Rattle.std.specs.Cmp.Lexicographic.{slice_cmp, nat_list_cmp_total}
@@ -10,8 +10,8 @@ use Rattle.std.proofs.lemmas.Map.Views.{tells_apart}
 use Rattle.sn_nodes.specs.Maps.{updated}
 use Rattle.sn_nodes.proofs.MapLemmas.{get-updated}
 use Rattle.sn_node_table.specs.declared.node.Link.{Link}
-use Rattle.sn_node_table.specs.Nodes.{Below, IsIdle, Node, first_link, link_to, with_link, with_name, without_first_link, without_link, without_name}
-use Rattle.sn_node_table.specs.Tables.{IsIdleAt, IsIdleNode, Nodes, Table, dropped, dropped_of, is_id, linked, linked_over, moved, moved_as, named, put, unlinked, unlinked_from}
+use Rattle.sn_node_table.specs.Nodes.{Below, IsIdle, Node, first_link, link_to, new_node, with_handles, with_link, with_lookups, with_name, without_first_link, without_link, without_name}
+use Rattle.sn_node_table.specs.Tables.{IsIdleAt, IsIdleNode, Nodes, Table, added, dropped, dropped_of, handles_of, is_id, linked, linked_over, lookups_of, made, met, met_as, moved, moved_as, named, one_more, opened, put, unlinked, unlinked_from}
 
 -- A change makes no node idle that wasn't.
 abbrev Holds : (Node → Node) → Type 0
@@ -117,5 +117,43 @@ pub idle_moved : (t u : Table) (parent : ℕ) (name : List ℕ) (directory : ℕ
     → u ≡ moved t parent name directory as_name → IsIdleAt u other → IsIdleAt t other
 idle_moved t u parent name directory as_name other apart away is idle = record {
   node = moved_at (named t parent name) t parent name directory as_name other apart away (subst (λ (w : Table). IsIdleNode (map.get w.nodes other)) is idle.node);
+  lower = idle.lower;
+}
+
+-- a new node was looked up once
+new_at : (t : Table) (inode other : ℕ) (b : Bool) → IsIdleNode (cond b (Some (new_node inode)) (map.get t.nodes other)) → IsIdleNode (map.get t.nodes other)
+new_at t inode other true idle = absurd (grind (arith, idle.lookups))
+new_at t inode other false idle = idle
+
+pub idle_made : (t : Table) (parent : ℕ) (name : List ℕ) (inode other : ℕ) → IsIdleAt (made t parent name inode) other → IsIdleAt t other
+idle_made t parent name inode other idle = record {
+  node = new_at t inode other (eq_by_cmp nat_cmp other t.next) (subst IsIdleNode (map.get-insert nat_cmp_total t.nodes t.next (new_node inode) other) (idle_linked (added t inode) parent name t.next other idle.node));
+  lower = idle.lower;
+}
+
+one_more_some : (n : ℕ) → one_more n ≢ 0
+one_more_some n e = absurd (grind (arith, e))
+
+holds-lookups : (n : ℕ) → Holds (with_lookups (one_more n))
+holds-lookups n node idle = absurd (one_more_some n idle.lookups)
+
+holds-handles : (n : ℕ) → Holds (with_handles (one_more n))
+holds-handles n node idle = absurd (one_more_some n idle.handles)
+
+met_at : (o : Option ℕ) (t : Table) (parent : ℕ) (name : List ℕ) (inode other : ℕ) → IsIdleAt (met_as o t parent name inode) other → IsIdleAt t other
+met_at None t parent name inode other idle = idle_made t parent name inode other idle
+met_at (Some id) t parent name inode other idle =
+    let there = linked t parent name id in
+    record {
+      node = idle_linked t parent name id other (idle_updated there.nodes id (with_lookups (one_more (lookups_of (map.get there.nodes id)))) other (holds-lookups (lookups_of (map.get there.nodes id))) idle.node);
+      lower = idle.lower;
+    }
+
+pub idle_met : (t : Table) (parent : ℕ) (name : List ℕ) (inode other : ℕ) → IsIdleAt (met t parent name inode) other → IsIdleAt t other
+idle_met t parent name inode other idle = met_at (map.get t.current inode) t parent name inode other idle
+
+pub idle_opened : (t : Table) (id other : ℕ) → IsIdleAt (opened t id) other → IsIdleAt t other
+idle_opened t id other idle = record {
+  node = idle_updated t.nodes id (with_handles (one_more (handles_of (map.get t.nodes id)))) other (holds-handles (handles_of (map.get t.nodes id))) idle.node;
   lower = idle.lower;
 }

@@ -1,4 +1,5 @@
 pub mod FreshLemmas
 pub mod IdleLemmas
+pub mod PathLemmas
 pub mod SweepLemmas
 pub mod UndoLemmas

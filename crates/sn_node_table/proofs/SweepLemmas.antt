@@ -1,5 +1,5 @@
 -- What becomes of a table whose idle ids go.
-use Rattle.std.proofs.Common.{◌≡◌, ◌≢◌, ℕ, ◌+◌, ◌-◌, ◌*◌, ◌<◌, ◌≤◌, Bool, true, false, cond, zero, suc, inl, inr, List, [], ◌∷◌, ◌++◌, length, Option, Some, None, is_some, refl, subst, sym, ap, ◌∙◌, arith}
+use Rattle.std.proofs.Common.{◌≡◌, ◌≢◌, ℕ, ◌+◌, ◌-◌, ◌<◌, Bool, true, false, cond, zero, suc, inl, inr, List, [], ◌∷◌, ◌++◌, Option, Some, None, is_some, refl, subst, sym, ap, ◌∙◌, arith}
 use Rattle.std.specs.Prelude.{◌⊎◌}
 use Rattle.std.specs.Ordering.{nat_cmp, eq_by_cmp}
 use Rattle.std.specs.Cmp.{eq_by_cmp_equiv, nat_cmp_total}
@@ -10,7 +10,7 @@ use Rattle.std.proofs.lemmas.Map.Views.{tells_apart}
 use Rattle.sn_nodes.specs.Maps.{updated, updated_at}
 use Rattle.sn_nodes.proofs.MapLemmas.{get-updated, remove-absent}
 use Rattle.sn_node_table.specs.declared.node.Link.{Link}
-use Rattle.sn_node_table.specs.Nodes.{IsIdle, Node, without_name}
+use Rattle.sn_node_table.specs.Nodes.{Node, without_name}
 use Rattle.sn_node_table.specs.Tables.{GoInTurn, Goes, IsIdleAt, IsIdleNode, IsParentIn, Nodes, Table, links_of, taken_out, unhooked, without}
 
 -- HOW MANY NODES THERE ARE

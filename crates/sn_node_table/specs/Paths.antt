@@ -1,5 +1,5 @@
 -- The paths that first names make.
-use Rattle.std.specs.Prelude.{ℕ, ◌+◌, ◌==◌, nat_le, zero, suc, List, [], ◌∷◌, ◌++◌, length, Option, None, Some, Result, Ok, Err, if◌then◌else◌}
+use Rattle.std.specs.Prelude.{◌≡◌, ℕ, ◌+◌, ◌==◌, nat_le, zero, suc, List, [], ◌∷◌, ◌++◌, length, Option, None, Some, Result, Ok, Err, if◌then◌else◌}
 use Rattle.std.specs.Option.{option_and_then}
 use Rattle.sn_node_table.specs.declared.node.Link.{Link}
 use Rattle.sn_node_table.specs.declared.path.NoPath.{NoPath}
@@ -34,3 +34,17 @@ path_of t id = spelled (climbed t 512 id)
 
 abbrev pub child_path_of : Table → ℕ → List ℕ → Result (List ℕ) NoPath
 child_path_of t parent name = extended name (climbed t 512 parent)
+
+-- names from a node up: its first name, that of the directory which this is in, and so on to the root
+abbrev pub IsChain : List (List ℕ) → Table → ℕ → Type 0
+IsChain [] t id = id ≡ 1
+IsChain (name ∷ above) t id = (link : Link) × (option_and_then first_link (node_at t id) ≡ Some link) × (link.name ≡ name) × IsChain above t link.parent
+
+-- the path of such names, the last of which comes first in it
+abbrev pub text_up : List (List ℕ) → List ℕ
+text_up [] = []
+text_up (name ∷ above) = text_up above ++ 47 ∷ name
+
+abbrev pub path_up : List (List ℕ) → List ℕ
+path_up [] = 47 ∷ []
+path_up (name ∷ above) = text_up (name ∷ above)

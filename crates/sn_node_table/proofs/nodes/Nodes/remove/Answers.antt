@@ -1,13 +1,10 @@
-use Rattle.std.proofs.Common.{ℕ, refl, sym, ap, ◌∙◌, rules}
-use Rattle.std.specs.BTreeMap.{BTreeMap}
+use Rattle.std.proofs.Common.{sym, ap, ◌∙◌}
 use Rattle.std.specs.Cmp.{nat_cmp_total}
 use Rattle.std.specs.Option.{option_map}
 use Rattle.std.specs.Ordering.{nat_cmp}
 use Rattle.std.proofs.lemmas.Map.Lookups.{exact_unsigned}
-use Rattle.sn_node_table.specs.declared.node.StoredNode.{StoredNode}
-use Rattle.sn_node_table.specs.Nodes.{Node}
 use Rattle.sn_node_table.specs.Stored.{nodes_of, node_of}
-use Rattle.sn_nodes.proofs.MapLemmas.{get-seen_by, insert-seen_by, remove-seen_by}
+use Rattle.sn_nodes.proofs.MapLemmas.{get-seen_by, remove-seen_by}
 use Rattle.sn_node_table.proofs.nodes.Nodes.remove.Goals as goal
 
 pub returns-clause-node : goal.returns-clause-node

@@ -1,7 +1,5 @@
-use Rattle.std.proofs.Common.{ℕ, ◌-◌, take, ap, sym, ◌∙◌, arith, rules}
+use Rattle.std.proofs.Common.{ℕ, ◌-◌, take, ap, ◌∙◌, arith, rules}
 use Rattle.std.proofs.lemmas.List.{append-nil}
-use Rattle.std.specs.FinMap as map
-use Rattle.sn_node_table.specs.Tables.{links_of}
 use Rattle.sn_node_table.specs.Told.{table_of}
 use Rattle.sn_node_table.proofs.SweepLemmas.{after_next, after_sweep, goes_on, idle_alone, idle_last, out_fewer, out_goes, out_idle}
 use Rattle.sn_node_table.proofs.table.NodeTable.+sweep.Goals as goal

@@ -1,8 +1,5 @@
-use Rattle.std.proofs.Common.{sym, ◌∙◌}
 use Rattle.sn_node_table.specs.Told.{table_of}
-use Rattle.sn_node_table.specs.Nodes.{with_handles, with_lookups}
-use Rattle.sn_node_table.specs.Tables.{Goes, Table, handles_of, lookups_of, moved}
-use Rattle.sn_node_table.proofs.IdleLemmas.{elsewhere, idle_dropped, idle_moved, idle_unlinked}
+use Rattle.sn_node_table.proofs.IdleLemmas.{elsewhere}
 use Rattle.sn_node_table.proofs.table.NodeTable.forget.Goals as goal
 
 pub returns-clause-idle : goal.returns-clause-idle

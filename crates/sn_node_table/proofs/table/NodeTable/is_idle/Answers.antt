@@ -1,5 +1,4 @@
-use Rattle.std.proofs.Common.{Option, subst, sym}
-use Rattle.sn_node_table.specs.Nodes.{Node}
+use Rattle.std.proofs.Common.{subst, sym}
 use Rattle.sn_node_table.specs.Tables.{IsIdleNode}
 use Rattle.sn_node_table.proofs.table.NodeTable.is_idle.Goals as goal
 

@@ -1,8 +1,7 @@
-use Rattle.std.proofs.Common.{subst, sym, ◌∙◌}
+use Rattle.std.proofs.Common.{subst}
 use Rattle.sn_node_table.specs.Told.{table_of}
-use Rattle.sn_node_table.specs.Nodes.{with_handles, with_lookups}
-use Rattle.sn_node_table.specs.Tables.{Goes, Table, handles_of, lookups_of, moved}
-use Rattle.sn_node_table.proofs.IdleLemmas.{elsewhere, idle_dropped, idle_moved, idle_unlinked}
+use Rattle.sn_node_table.specs.Tables.{Goes, Table}
+use Rattle.sn_node_table.proofs.IdleLemmas.{idle_moved}
 use Rattle.sn_node_table.proofs.SweepLemmas.{goes_on}
 use Rattle.sn_node_table.proofs.table.NodeTable.rename.Goals as goal
 

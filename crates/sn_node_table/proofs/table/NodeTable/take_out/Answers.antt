@@ -1,6 +1,5 @@
 use Rattle.std.proofs.Common.{ap, sym, ◌∙◌}
-use Rattle.sn_node_table.specs.Stored.{nodes_of}
-use Rattle.sn_node_table.specs.Tables.{Nodes, Table, taken_out}
+use Rattle.sn_node_table.specs.Tables.{Nodes}
 use Rattle.sn_node_table.specs.Told.{table_of}
 use Rattle.sn_node_table.proofs.FreshLemmas.{fresh-is, fresh-removed, fresh-unhooked}
 use Rattle.sn_node_table.proofs.SweepLemmas.{none_taken}
