@@ -1,5 +1,6 @@
 -- Who may do what. acl(5), "ACCESS CHECK ALGORITHM".
 use Rattle.std.specs.Prelude.{ℕ, Bool, true, false, ◌==◌, if◌then◌else◌, List, [], ◌∷◌, Option, Some, None, filter, find}
+use Rattle.std.specs.Option.{option_map_or}
 use Rattle.std.specs.List.{list_any}
 use Rattle.sn_acl.specs.declared.entries.Tag.{Tag}
 use Rattle.sn_acl.specs.declared.entries.Tag.TheVariants.{GroupObj, Group, Other}
@@ -43,8 +44,7 @@ limit_of class entries = if class.masked then find (λ e. is_mask e.tag) entries
 
 -- whether the limit lets all that is wanted through
 abbrev pub is_within : ℕ → Option Entry → Bool
-is_within want None = true
-is_within want (Some mask) = contains mask.permissions want
+is_within want limit = option_map_or (λ mask. contains mask.permissions want) limit true
 
 -- whether one entry of the class contains all that is wanted
 abbrev pub is_contained : ℕ → Class → Bool

@@ -1,9 +1,9 @@
 -- The nine permission bits of a file and the entries that they show. acl(5), "CORRESPONDENCE BETWEEN ACL ENTRIES
 -- AND FILE PERMISSION BITS".
-use Rattle.std.specs.Prelude.{ℕ, ◌+◌, ◌*◌, Bool, if◌then◌else◌, List, [], ◌∷◌, Option, Some, None, is_some, find, map, true, ◌≡◌}
-use Rattle.std.specs.Option.{option_or}
+use Rattle.std.specs.Prelude.{ℕ, ◌+◌, ◌*◌, Bool, if◌then◌else◌, List, [], ◌∷◌, Option, is_some, find, map, true, ◌≡◌}
+use Rattle.std.specs.Option.{option_or, option_map_or}
 use Rattle.sn_acl.specs.declared.entries.Tag.{Tag}
-use Rattle.sn_acl.specs.declared.entries.Tag.TheVariants.{UserObj, User, GroupObj, Group, Mask, Other}
+use Rattle.sn_acl.specs.declared.entries.Tag.TheVariants.{UserObj, GroupObj, Mask, Other}
 use Rattle.sn_acl.specs.declared.entries.Entry.{Entry}
 use Rattle.sn_acl.specs.declared.modes.Mode.{Mode}
 use Rattle.sn_acl.specs.Entries.{is_user_obj, is_group_obj, is_mask, is_other}
@@ -25,8 +25,7 @@ has_mask entries = is_some (entry_of is_mask entries)
 
 -- what an entry grants, nothing where there is none
 abbrev pub granted_by : Option Entry → ℕ
-granted_by None = 0
-granted_by (Some e) = e.permissions
+granted_by found = option_map_or (λ e. e.permissions) found 0
 
 -- The owner bits are USER_OBJ; the group bits are the MASK if there is one, else GROUP_OBJ; the bits of others
 -- are OTHER.
@@ -40,11 +39,10 @@ mode_of entries = record {
 -- what an entry grants once the mode is set, in an ACL with a MASK or without one
 abbrev pub permissions_under : Mode → Bool → Tag → ℕ → ℕ
 permissions_under mode masked UserObj old = mode.owner
-permissions_under mode masked (User n) old = old
 permissions_under mode masked GroupObj old = if masked then old else mode.group
-permissions_under mode masked (Group n) old = old
 permissions_under mode masked Mask old = mode.group
 permissions_under mode masked Other old = mode.other
+permissions_under mode masked named old = old
 
 abbrev pub entry_under : Mode → Bool → Entry → Entry
 entry_under mode masked e = record { tag = e.tag; permissions = permissions_under mode masked e.tag e.permissions }

@@ -20,18 +20,14 @@ version_1 = record {
 
 -- as many nodes, names of a directory and names of a file; 64 GiB a file, 31 snapshots, and charges for one level of blocks more
 abbrev pub version_2 : Limits
-version_2 = record {
+version_2 = record version_1 {
   version = 2;
-  largest_number = 65535;
-  names = 65535;
-  links = 32767;
   largest_file = 68719476736;
   snapshots = 31;
   largest_bit = 31;
   indirect_levels = 2;
   inode_charge = 10;
   block_charge = 3;
-  reserve = 64;
 }
 
 -- the limits of each version that is read

@@ -1,5 +1,6 @@
 -- The calls that ask for rights and set them, each as the list of its tests, in their order, with what it comes to where all pass: POSIX.1-2017, umask(), chmod(), chown() and access(), and acl(5). That ACLs are read and set by calls, and the order of the tests, are rules of this project.
 use Rattle.std.specs.Prelude.{ℕ, ◌/◌, ◌%◌, ◌^◌, ◌==◌, ◌&&◌, ◌||◌, Bool, true, false, nat_lt, List, Option, None, Some, Result, Ok, Err, codes, unwrap_or, if◌then◌else◌}
+use Rattle.std.specs.Option.{option_map_or}
 use Rattle.std.specs.Str.{bytes_eq}
 use Rattle.sn_acl.specs.declared.entries.Entry.{Entry}
 use Rattle.sn_acl.specs.declared.modes.Mode.{Mode}
@@ -40,8 +41,7 @@ mode_bits_argument bits = if nat_lt bits 2048 then Ok (mode_bits_from bits) else
 
 -- an argument that is the number of a user or a group, or none for the one that is there: a number has 32 bits (POSIX.1-2017, chown(), EINVAL)
 abbrev pub id_argument : Option ℕ → Result (Option ℕ) Refusal
-id_argument None = Ok None
-id_argument (Some number) = if nat_lt number (2 ^ 32) then Ok (Some number) else Err (plain Einval)
+id_argument id = option_map_or (λ number. if nat_lt number (2 ^ 32) then Ok (Some number) else Err (plain Einval)) id (Ok None)
 
 abbrev pub kind_of : NewAcl → AclKind
 kind_of (NewAccess acl) = OfAccess

@@ -1,5 +1,6 @@
 -- What a change does to a tree. It can't be applied, and there is no tree, where a number that it names isn't there or of another kind, where a number or a name that it makes is taken, or where the result would break a rule of the name tree.
 use Rattle.std.specs.Prelude.{ℕ, ◌+◌, ◌-◌, ◌^◌, Bool, true, false, not, ◌&&◌, ◌||◌, ◌==◌, nat_lt, nat_le, List, [], ◌∷◌, ◌++◌, zero, suc, length, take, drop, replicate, filter, Option, None, Some, is_none, is_some, if◌then◌else◌}
+use Rattle.std.specs.Option.{option_map_or}
 use Rattle.std.specs.List.{list_any, list_all, flat_map}
 use Rattle.std.specs.FinMap as map
 use Rattle.sn_acl.specs.declared.entries.Entry.{Entry}
@@ -53,8 +54,7 @@ file_at tree number = map.get tree.nodes number >>= (λ node. only_if (is_file n
 
 -- a file has no default ACL
 abbrev pub is_default_acl : Kind → Option (List Entry) → Bool
-is_default_acl kind None = true
-is_default_acl kind (Some entries) = is_directory kind && is_acl entries
+is_default_acl kind acl = option_map_or (λ entries. is_directory kind && is_acl entries) acl true
 
 -- owner, group and ACLs that a node of a kind can have
 abbrev pub is_ownership : Kind → Ownership → Bool
@@ -118,8 +118,7 @@ abbrev pub is_new_name : Tree → Link → ℕ → Node → Bool
 is_new_name tree new number node = is_name new.name && not (is_hidden_name new.directory new.name) && not (is_directory node.kind && is_at_or_below tree number new.directory)
 
 abbrev pub same_number : ℕ → Option ℕ → Bool
-same_number a None = false
-same_number a (Some b) = a == b
+same_number a found = option_map_or (λ b. a == b) found false
 
 -- a name exchanged for another
 abbrev pub exchanged : Limits → Tree → Link → Link → ℕ → Option Tree

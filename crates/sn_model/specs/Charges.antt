@@ -7,7 +7,7 @@ use Rattle.sn_model.specs.declared.change.Change.TheVariants.{Make, AddLink, Rem
 use Rattle.sn_model.specs.declared.link.Link.{Link}
 use Rattle.sn_model.specs.Changes.{is_file}
 use Rattle.sn_model.specs.FileCalls.{blocks_spanned}
-use Rattle.sn_model.specs.Outcomes.{AskedPoint, Unasked, Plain, Freezes, Thaws, Restores, Pending, Nothing, Makes, Does, Outcome}
+use Rattle.sn_model.specs.Outcomes.{AskedPoint, Restores, Pending, Nothing, Makes, Does, Outcome}
 use Rattle.sn_model.specs.Settling.{nameless_if}
 use Rattle.sn_model.specs.Tree.{Node, Tree, link_to}
 use Rattle.sn_model.specs.World.{World}

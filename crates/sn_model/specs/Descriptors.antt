@@ -1,5 +1,6 @@
 -- What calls do to descriptors, and the tests of them: POSIX.1-2017, open(), close(), lseek() and 2.14, File Descriptor Allocation. That a session has 64 descriptors at the most is a rule of this project.
-use Rattle.std.specs.Prelude.{ℕ, ◌+◌, ◌==◌, Bool, not, nat_le, Option, None, Some, Result, Ok, Err, is_some, if◌then◌else◌}
+use Rattle.std.specs.Prelude.{ℕ, ◌==◌, Bool, not, nat_le, Option, None, Some, Result, Ok, Err, is_some, if◌then◌else◌, ok_or}
+use Rattle.std.specs.Option.{option_map_or}
 use Rattle.std.specs.List.{list_any}
 use Rattle.std.specs.FinMap as map
 use Rattle.sn_limits.specs.declared.limits.Limits.{Limits}
@@ -23,16 +24,14 @@ abbrev pub descriptor_for : OpenFlags → Home → ℕ → Descriptor
 descriptor_for flags home number = record { home = home; number = number; readable = flags.read; writable = flags.write; appends = flags.append; offset = 0 }
 
 abbrev pub given : Option ℕ → Result ℕ Refusal
-given None = Err (plain Emfile)
-given (Some fd) = Ok fd
+given number = ok_or number (plain Emfile)
 
 -- the descriptor that a session gets next: the least of 64 that it doesn't have
 abbrev pub next_descriptor : Descriptors → ℕ → Result ℕ Refusal
 next_descriptor table session = given (first_without (λ fd. is_some (map.get table (session, fd))) 0 64)
 
 abbrev pub found : Option Descriptor → Result Descriptor Refusal
-found None = Err (plain Ebadf)
-found (Some d) = Ok d
+found entry = ok_or entry (plain Ebadf)
 
 -- a descriptor that a session has
 abbrev pub descriptor_at : Descriptors → ℕ → ℕ → Result Descriptor Refusal
@@ -66,8 +65,7 @@ at_offset offset d = record d { offset = offset }
 
 -- a descriptor that is there gets another offset
 abbrev pub moved_if : Descriptors → ℕ → ℕ → ℕ → Option Descriptor → Descriptors
-moved_if table session fd offset None = table
-moved_if table session fd offset (Some d) = opened table session fd (at_offset offset d)
+moved_if table session fd offset entry = option_map_or (λ d. opened table session fd (at_offset offset d)) entry table
 
 abbrev pub moved_to : Descriptors → ℕ → ℕ → ℕ → Descriptors
 moved_to table session fd offset = moved_if table session fd offset (map.get table (session, fd))

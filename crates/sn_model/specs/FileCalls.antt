@@ -2,7 +2,7 @@
 use Rattle.std.specs.Prelude.{ℕ, ◌+◌, ◌-◌, ◌*◌, ◌/◌, ◌==◌, ◌&&◌, ◌||◌, not, Bool, false, nat_le, nat_lt, List, [], Option, None, Some, Result, Ok, Err, length, take, drop, if◌then◌else◌}
 use Rattle.std.specs.List.{list_all}
 use Rattle.std.specs.FinMap as map
-use Rattle.std.specs.Option.{option_and_then}
+use Rattle.std.specs.Option.{option_and_then, option_map_or}
 use Rattle.sn_acl.specs.declared.entries.Entry.{Entry}
 use Rattle.sn_acl.specs.declared.modes.Mode.{Mode}
 use Rattle.sn_acl.specs.Inheritance.{inherited_access, inherited_default}
@@ -108,18 +108,14 @@ new_file session mode parent default_acl = record {
 }
 
 abbrev pub opens_new : Limits → OpenFlags → ℕ → ℕ → List ℕ → Ownership → Outcome
-opens_new limits flags fd directory name o = record {
+opens_new limits flags fd directory name o = record (asks (OpensNew fd flags) (Number fd)) {
   charge = 2 * limits.inode_charge + limits.block_charge;
   change = Makes directory name File o;
-  caller = OpensNew fd flags;
-  told = Number fd;
-  point = Unasked;
 }
 
 -- the bytes of an open file
 abbrev pub bytes_of : Option TreeNode → List ℕ
-bytes_of None = []
-bytes_of (Some node) = node.bytes
+bytes_of found = option_map_or (λ node. node.bytes) found []
 
 abbrev pub open_bytes : World → Descriptor → List ℕ
 open_bytes world d = bytes_of (option_and_then (λ tree. map.get tree.nodes d.number) (tree_in (trees_of world) d.home))
@@ -136,12 +132,9 @@ abbrev pub blocks_spanned : ℕ → ℕ → ℕ
 blocks_spanned offset count = (offset + count - 1) / 4096 - offset / 4096 + 1
 
 abbrev pub writes : Limits → ℕ → ℕ → ℕ → List ℕ → Outcome
-writes limits fd number offset bytes = record {
+writes limits fd number offset bytes = record (asks (Moves fd (offset + length bytes)) (Number (length bytes))) {
   charge = file_charge limits (blocks_spanned offset (length bytes));
   change = Does (Write number offset bytes);
-  caller = Moves fd (offset + length bytes);
-  told = Number (length bytes);
-  point = Unasked;
 }
 
 abbrev pub cuts : Limits → ℕ → ℕ → Outcome

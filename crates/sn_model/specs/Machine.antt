@@ -45,8 +45,7 @@ abbrev pub mount_fault_of : Mishap → Option MountFault
 mount_fault_of Memory = Some mount.Memory
 mount_fault_of Read = Some mount.Device
 mount_fault_of Write = Some mount.Device
-mount_fault_of Space = None
-mount_fault_of Age = None
+mount_fault_of m = None
 
 abbrev pub refused : Errno → Reply
 refused errno = answer.Refused (plain errno)
@@ -82,11 +81,10 @@ IsWriting limits old session c = (o : Outcome) × (decision limits old session c
 
 -- what a call may be refused for: memory and reads once its session and arguments have passed, room where it is charged for something, and age where it may write
 abbrev pub MayRefuse : Limits → World → ℕ → Call → Mishap → Type 0
-MayRefuse limits old session c Memory = TakesMemory c × IsOk (ready old session c)
-MayRefuse limits old session c Read = TakesMemory c × IsOk (ready old session c)
 MayRefuse limits old session c Write = ⊥
 MayRefuse limits old session c Space = IsCharged limits old session c
 MayRefuse limits old session c Age = IsWriting limits old session c
+MayRefuse limits old session c m = TakesMemory c × IsOk (ready old session c)
 
 -- a call is answered as its decision says
 pub record IsAnswered (limits : Limits) (old : World) (session : ℕ) (c : Call) (reply : Reply) (new : State) : Type 0 where
@@ -139,16 +137,14 @@ abbrev pub EventStep : Limits → State → Event → Option Mishap → Reply �
 EventStep limits (Running old) (event.Call session c) met reply new = CallStep limits old session c met reply new
 EventStep limits (Running old) event.Step met reply new = PointStep old met reply new
 EventStep limits (Running old) event.Restart met reply new = RestartStep old met reply new
-EventStep limits (Stopped before after) (event.Call session c) met reply new = StoppedStep before after met reply new
-EventStep limits (Stopped before after) event.Step met reply new = StoppedStep before after met reply new
 EventStep limits (Stopped before after) event.Restart met reply new = MountStep before after met reply new
+EventStep limits (Stopped before after) e met reply new = StoppedStep before after met reply new
 
 -- Steps of a kind give these replies to these events, one after the other.
 abbrev pub RunBy : {S : Type 0} → (S → Event → Reply → S → Type 0) → S → List Event → List Reply → S → Type 0
 RunBy By old [] [] new = new ≡ old
 RunBy {S} By old (e ∷ events) (reply ∷ replies) new = (mid : S) × By old e reply mid × RunBy By mid events replies new
-RunBy By old [] (reply ∷ replies) new = ⊥
-RunBy By old (e ∷ events) [] new = ⊥
+RunBy By old events replies new = ⊥
 
 -- steps in which only such mishaps are met with
 abbrev pub StepOf : (Option Mishap → Type 0) → Limits → State → Event → Reply → State → Type 0

@@ -1,5 +1,6 @@
 -- The calls on names and listings, each as the list of its tests, in their order, with what it comes to where all pass: POSIX.1-2017, rmdir(), link(), rename() and readdir(). The order of the tests is a rule of this project.
 use Rattle.std.specs.Prelude.{ℕ, ◌+◌, ◌*◌, ◌==◌, ◌&&◌, ◌||◌, Bool, true, false, nat_lt, is_some, List, [], ◌∷◌, Option, None, Some, Result, Ok, Err, if◌then◌else◌}
+use Rattle.std.specs.Option.{option_map_or}
 use Rattle.sn_acl.specs.Credential.{Credential}
 use Rattle.sn_limits.specs.declared.kind.Kind.{Kind}
 use Rattle.sn_limits.specs.declared.kind.Kind.TheVariants.{File, Directory}
@@ -55,8 +56,7 @@ movable names = if is_fixed names then Err (plain Ebusy) else Ok tt
 
 -- both names are of one file or of one directory
 abbrev pub is_one : Found → Option Found → Bool
-is_one found None = false
-is_one found (Some other) = number_of found.object == number_of other.object
+is_one found target = option_map_or (λ other. number_of found.object == number_of other.object) target false
 
 -- the new name doesn't lie below what is moved
 abbrev pub not_below : Seen → Moving → Result (Unit {0}) Refusal

@@ -1,5 +1,6 @@
 -- What calls are decided over, and what their decisions have in common.
-use Rattle.std.specs.Prelude.{ℕ, ◌==◌, ◌&&◌, Bool, nat_le, is_some, List, [], filter, map as list_map, Option, None, Some, Result, Ok, Err, unwrap_or, if◌then◌else◌}
+use Rattle.std.specs.Prelude.{ℕ, ◌==◌, ◌&&◌, Bool, nat_le, is_some, List, [], filter, map as list_map, Option, Result, Ok, Err, unwrap_or, if◌then◌else◌}
+use Rattle.std.specs.Option.{option_map_or}
 use Rattle.std.specs.FinMap as map
 use Rattle.sn_limits.specs.declared.limits.Limits.{Limits}
 use Rattle.sn_walk.specs.declared.object.Object.{Object}
@@ -26,8 +27,7 @@ abbrev pub names_of : Tree → ℕ → List (List ℕ)
 names_of tree directory = list_map (λ e. e.0.name) (filter (λ e. e.0.directory == directory) (map.entries tree.links))
 
 abbrev pub names_if : Option Tree → ℕ → List (List ℕ)
-names_if None directory = []
-names_if (Some tree) directory = names_of tree directory
+names_if found directory = option_map_or (λ tree. names_of tree directory) found []
 
 -- the names that a directory is listed with; the directory of snapshots has those of the snapshots, and the live root doesn't show it
 abbrev pub listed : Trees → Object → List (List ℕ)

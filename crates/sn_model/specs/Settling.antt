@@ -1,11 +1,12 @@
 -- Files without names, and what a restart leaves of a world. POSIX.1-2017, unlink().
 use Rattle.std.specs.Prelude.{◌≡◌, ℕ, Bool, true, false, not, ◌&&◌, ◌||◌, ◌==◌, Option, None, Some, count_by, replicate, if◌then◌else◌}
+use Rattle.std.specs.Option.{option_map_or}
 use Rattle.std.specs.List.{list_any}
 use Rattle.std.specs.FinMap as map
 use Rattle.sn_limits.specs.declared.kind.Kind.{Kind}
 use Rattle.sn_limits.specs.declared.kind.Kind.TheVariants.{File, Directory}
 use Rattle.sn_model.specs.declared.change.Change.{Change}
-use Rattle.sn_model.specs.declared.change.Change.TheVariants.{Make, AddLink, Remove, Rename, Write, SetSize, SetAttributes}
+use Rattle.sn_model.specs.declared.change.Change.TheVariants.{Remove, Rename}
 use Rattle.sn_model.specs.Changes.{take_node}
 use Rattle.sn_model.specs.Tree.{Node, Tree, link_to, names_for}
 use Rattle.sn_walk.specs.declared.object.Home.{Home}
@@ -33,8 +34,7 @@ nameless_in tree = count_by (λ (e : ℕ × Node). is_nameless tree e.0 (Some e.
 
 -- a tree that isn't there has none
 abbrev pub nameless_if : Option Tree → ℕ
-nameless_if None = 0
-nameless_if (Some tree) = nameless_in tree
+nameless_if found = option_map_or nameless_in found 0
 
 abbrev pub is_of_live : ℕ → Home → ℕ → Bool
 is_of_live number Live other = other == number

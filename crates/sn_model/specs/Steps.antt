@@ -1,7 +1,7 @@
 -- What a call may answer while nothing fails, and the world that it leaves.
 use Rattle.std.specs.Prelude.{◌≡◌, ◌⊎◌, ℕ, ◌≤◌, ◌<◌, Bool, true, false, IsTrue, Option, None, Some, Result, Ok, Err, IsOk, slice_get, slice_set}
 use Rattle.std.specs.FinMap as map
-use Rattle.std.specs.Option.{option_map}
+use Rattle.std.specs.Option.{option_map, option_map_or}
 use Rattle.sn_acl.specs.declared.modes.Mode.{Mode}
 use Rattle.sn_limits.specs.declared.limits.Limits.{Limits}
 use Rattle.sn_model.specs.declared.call.Call.{Call}
@@ -16,7 +16,7 @@ use Rattle.sn_model.specs.Tree.{Tree}
 use Rattle.sn_model.specs.World.{World}
 use Rattle.sn_model.specs.Changes.{apply}
 use Rattle.sn_model.specs.Descriptors.{Descriptors, closed, descriptor_for, moved_to, opened, without_session}
-use Rattle.sn_model.specs.Outcomes.{Pending, Nothing, Makes, Does, Caller, Stays, LogsIn, SetsUmask, LogsOut, Opens, OpensNew, Closes, Moves, AskedPoint, Unasked, Plain, Freezes, Thaws, Restores, Outcome}
+use Rattle.sn_model.specs.Outcomes.{Pending, Nothing, Makes, Does, Caller, LogsIn, SetsUmask, LogsOut, Opens, OpensNew, Closes, Moves, AskedPoint, Freezes, Thaws, Restores, Outcome}
 use Rattle.sn_model.specs.Settling.{dropped, settled}
 use Rattle.sn_walk.specs.declared.object.Home.TheVariants.{Live}
 use Rattle.sn_walk.specs.Chains.{◌>>=◌}
@@ -44,14 +44,13 @@ abbrev pub with_descriptors : World → Descriptors → World
 with_descriptors world table = record world { descriptors = table }
 
 abbrev pub with_caller : World → ℕ → Caller → World
-with_caller world session Stays = world
 with_caller world session (LogsIn s) = with_session world session s
 with_caller world session (SetsUmask mask) = with_umask world session mask
 with_caller world session LogsOut = record world { sessions = slice_set world.sessions session None; descriptors = without_session world.descriptors session }
 with_caller world session (Opens fd home number flags) = with_descriptors world (opened world.descriptors session fd (descriptor_for flags home number))
-with_caller world session (OpensNew fd flags) = world
 with_caller world session (Closes fd) = with_descriptors world (closed world.descriptors session fd)
 with_caller world session (Moves fd offset) = with_descriptors world (moved_to world.descriptors session fd offset)
+with_caller world session caller = world
 
 -- a new file's number filled in
 abbrev pub filled : ℕ → Caller → Caller
@@ -68,9 +67,8 @@ pub record IsNumber (limits : Limits) (tree : Tree) (number : ℕ) : Type 0 wher
   pub unused : map.get tree.nodes number ≡ None
 
 abbrev pub IsNumberFor : Limits → Tree → ℕ → Pending → Type 0
-IsNumberFor limits tree number Nothing = Unit {0}
 IsNumberFor limits tree number (Makes directory name kind o) = IsNumber limits tree number
-IsNumberFor limits tree number (Does c) = Unit {0}
+IsNumberFor limits tree number pending = Unit {0}
 
 -- what a call's change does to the live tree, a new node's number filled in
 abbrev pub changed : Limits → ℕ → Pending → Tree → Option Tree
@@ -80,16 +78,14 @@ changed limits number (Does c) tree = apply limits c tree
 
 -- a snapshot's tree, without its files without names, takes the live one's place
 abbrev pub restored : Option Tree → World → World
-restored None world = world
-restored (Some tree) world = with_live world (settled tree)
+restored found world = option_map_or (λ tree. with_live world (settled tree)) found world
 
 -- what a point that is asked for makes of the trees: a new snapshot has the live tree as it is, files without names among it
 abbrev pub pointed : AskedPoint → World → World
-pointed Unasked world = world
-pointed Plain world = world
 pointed (Freezes name) world = record world { frozen = map.insert world.frozen name world.live }
 pointed (Thaws name) world = record world { frozen = map.remove world.frozen name }
 pointed (Restores name) world = restored (map.get world.frozen name) world
+pointed asked world = world
 
 -- an outcome becomes a world; the machine chooses a new node's number, and a file that no name stands for and nobody has open goes
 pub record Comes (limits : Limits) (old : World) (session : ℕ) (o : Outcome) (new : World) : Type 0 where

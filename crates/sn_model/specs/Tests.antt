@@ -1,5 +1,6 @@
 -- The tests that calls are made of, in the words of the table of calls: POSIX.1-2017, 4.13 Pathname Resolution and 4.5 File Access Permissions, and acl(5) for the entry that denies. A test refuses, or hands on what it found.
-use Rattle.std.specs.Prelude.{ℕ, ◌+◌, ◌/◌, ◌%◌, ◌==◌, ◌||◌, not, Bool, true, false, nat_lt, nat_le, List, Option, None, Some, Result, Ok, Err, slice_get, is_none, if◌then◌else◌}
+use Rattle.std.specs.Prelude.{ℕ, ◌+◌, ◌/◌, ◌%◌, ◌==◌, ◌||◌, not, Bool, true, false, nat_lt, nat_le, List, Option, None, Some, Result, Ok, Err, slice_get, is_none, if◌then◌else◌, ok_or}
+use Rattle.std.specs.Option.{option_map_or}
 use Rattle.sn_acl.specs.declared.entries.Tag.{Tag}
 use Rattle.sn_acl.specs.declared.entries.Entry.{Entry}
 use Rattle.sn_acl.specs.declared.modes.Mode.{Mode}
@@ -58,12 +59,10 @@ abbrev pub session_at : World → ℕ → Result (Option Session) Refusal
 session_at world session = if nat_lt session 64 then Ok (flat (slice_get world.sessions session)) else Err (plain Einval)
 
 abbrev pub is_open : Option Session → Result Session Refusal
-is_open None = Err (plain Ebadf)
-is_open (Some session) = Ok session
+is_open found = ok_or found (plain Ebadf)
 
 abbrev pub is_free : Option Session → Result (Unit {0}) Refusal
-is_free None = Ok tt
-is_free (Some session) = Err (plain Ebusy)
+is_free found = option_map_or (λ session. Err (plain Ebusy)) found (Ok tt)
 
 abbrev pub logged_in : World → ℕ → Result Session Refusal
 logged_in world session = session_at world session >>= is_open
@@ -106,16 +105,14 @@ prefix trees cred path names = walked path (walk_of trees cred names)
 
 -- Full: Prefix, and the last name is there too
 abbrev pub there : Option Found → Result Found Refusal
-there None = Err (plain Enoent)
-there (Some found) = Ok found
+there found = ok_or found (plain Enoent)
 
 abbrev pub full : ViewedTrees → Credential → ℕ → List (List ℕ) → Result Found Refusal
 full trees cred path names = prefix trees cred path names >>= (λ walked. there (found_at trees walked))
 
 -- the directory and the place of a name that isn't there yet
 abbrev pub vacant : Object → ℕ → Option Object → Result (Object × ℕ) Refusal
-vacant directory place None = Ok (directory, place)
-vacant directory place (Some found) = Err (plain Eexist)
+vacant directory place last = option_map_or (λ found. Err (plain Eexist)) last (Ok (directory, place))
 
 abbrev pub not_present : Walked → Result (Object × ℕ) Refusal
 not_present Root = Err (plain Eexist)
@@ -131,8 +128,7 @@ one_tree directory other = if is_in_tree_of directory other then Ok tt else Err 
 
 -- an access is asked of what is at a place
 abbrev pub unless_denied : ℕ → ℕ → Access → Option Entry → Result (Unit {0}) Refusal
-unless_denied path place want None = Ok tt
-unless_denied path place want (Some entry) = Err (denied path place want entry.tag)
+unless_denied path place want denial = option_map_or (λ entry. Err (denied path place want entry.tag)) denial (Ok tt)
 
 abbrev pub granted : Credential → ℕ → ℕ → Access → Option Attributes → Result Attributes Refusal
 granted cred path place want None = Err (plain Enoent)

@@ -1,5 +1,6 @@
 -- The world that calls see: the live tree, the frozen trees by snapshot name, who is logged in, and what is open.
 use Rattle.std.specs.Prelude.{ℕ, Bool, false, List, [], Option, None, Some, replicate}
+use Rattle.std.specs.Option.{option_map_or}
 use Rattle.std.specs.declared.cmp.Ordering.{Ordering}
 use Rattle.std.specs.Ordering.{nat_cmp, ordering_then}
 use Rattle.std.specs.Cmp.Lexicographic.{slice_cmp}
@@ -22,8 +23,7 @@ tree_in trees Live = Some trees.live
 tree_in trees (Frozen name) = map.get trees.frozen name
 
 abbrev pub viewed_if : Option Tree → ViewedTree
-viewed_if None = nothing
-viewed_if (Some tree) = viewed tree
+viewed_if found = option_map_or viewed found nothing
 
 -- the trees as a walk sees them
 abbrev pub viewed_trees : Trees → ViewedTrees

@@ -1,5 +1,5 @@
 -- When a world is one that runs can reach.
-use Rattle.std.specs.Prelude.{◌≡◌, ℕ, ◌≤◌, ◌<◌, ◌^◌, true, List, Option, None, Some, IsTrue, IsSomeAnd, is_some, length, replicate, slice_get}
+use Rattle.std.specs.Prelude.{◌≡◌, ℕ, ◌≤◌, ◌<◌, ◌^◌, true, List, Option, None, Some, IsTrue, IsSomeAnd, is_some, length, replicate, slice_get, IfSome}
 use Rattle.std.specs.List.{AllByRecursion}
 use Rattle.std.specs.FinMap as map
 use Rattle.sn_walk.specs.declared.object.Home.TheVariants.{Live}
@@ -22,8 +22,7 @@ pub record IsCaller (s : Session) : Type 0 where
   pub gid : s.cred.gid < 2 ^ 32
 
 abbrev pub IsSession : Option Session → Type 0
-IsSession None = Unit {0}
-IsSession (Some s) = IsCaller s
+IsSession seat = IfSome seat IsCaller
 
 abbrev pub IsLoggedIn : World → ℕ → Type 0
 IsLoggedIn world session = IsSomeAnd (slice_get world.sessions session) (λ s. is_some s ≡ true)

@@ -1,5 +1,6 @@
 -- Walks: POSIX.1-2017, 4.13 Pathname Resolution. The place of a refusal is counted as this project counts it.
-use Rattle.std.specs.Prelude.{◌≡◌, ℕ, ◌+◌, List, [], ◌∷◌, length, Option, None, Some, Result, Ok, Err, IsSomeAnd, if◌then◌else◌}
+use Rattle.std.specs.Prelude.{◌≡◌, ℕ, ◌+◌, List, [], ◌∷◌, length, Option, None, Some, Result, Ok, Err, IsSomeAnd, if◌then◌else◌, ok_or, option_map, option_and_then}
+use Rattle.std.specs.Option.{option_map_or}
 use Rattle.sn_acl.specs.declared.entries.Entry.{Entry}
 use Rattle.sn_acl.specs.Credential.{Credential}
 use Rattle.sn_acl.specs.Access.{denial_of}
@@ -21,8 +22,7 @@ abbrev pub refusal : ℕ → Obstacle → WalkRefusal
 refusal place obstacle = record { place = place; obstacle = obstacle }
 
 abbrev pub searched : ℕ → Option Entry → Result (Unit {0}) WalkRefusal
-searched place None = Ok tt
-searched place (Some entry) = Err (refusal place (Denied entry.tag))
+searched place denial = option_map_or (λ entry. Err (refusal place (Denied entry.tag))) denial (Ok tt)
 
 -- at a place of the path there has to be a directory, and it has to grant search
 abbrev pub admitted : Credential → ℕ → Option Attributes → Result (Unit {0}) WalkRefusal
@@ -35,8 +35,7 @@ passed trees cred place directory name = admitted cred place (attributes_at tree
 
 -- the next name has to be there
 abbrev pub present : ℕ → Option Object → Result Object WalkRefusal
-present place None = Err (refusal place Missing)
-present place (Some object) = Ok object
+present place child = ok_or child (refusal place Missing)
 
 -- from an object at a place, on by a name and the names after it
 unfoldable pub walk_from : ViewedTrees → Credential → ℕ → Object → List ℕ → List (List ℕ) → Result Walked WalkRefusal
@@ -50,12 +49,10 @@ walk_of trees cred (name ∷ names) = walk_from trees cred 0 root name names
 
 -- what a path leads to, with its place and attributes
 abbrev pub found_as : ℕ → Object → Option Attributes → Option Found
-found_as place object None = None
-found_as place object (Some a) = Some (record { object = object; place = place; attributes = a })
+found_as place object attributes = option_map (λ a. record { object = object; place = place; attributes = a }) attributes
 
 abbrev pub found_last : ViewedTrees → ℕ → Option Object → Option Found
-found_last trees place None = None
-found_last trees place (Some object) = found_as place object (attributes_at trees object)
+found_last trees place last = option_and_then (λ object. found_as place object (attributes_at trees object)) last
 
 abbrev pub found_at : ViewedTrees → Walked → Option Found
 found_at trees Root = found_as 0 root (attributes_at trees root)
