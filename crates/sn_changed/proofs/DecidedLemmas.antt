@@ -3,7 +3,7 @@ use Rattle.std.proofs.Common.{◌≡◌, ℕ, ◌+◌, ◌≤◌, Bool, true, fa
 use Rattle.std.specs.Prelude.{IsSomeAnd}
 use Rattle.std.specs.FinMap as map
 use Rattle.sn_acl.specs.declared.modes.Mode.{Mode}
-use Rattle.sn_limits.specs.declared.kind.Kind.TheVariants.{Directory}
+use Rattle.sn_limits.specs.declared.kind.Kind.TheVariants.{Directory, File}
 use Rattle.sn_limits.specs.declared.kind.Kind.{Kind}
 use Rattle.sn_limits.specs.declared.limits.Limits.{Limits}
 use Rattle.sn_walk.specs.declared.object.Home.{Home}
@@ -28,10 +28,14 @@ use Rattle.sn_model.specs.declared.reply.Errno.TheVariants.{Enoent, Eperm}
 use Rattle.sn_model.specs.declared.reply.Refusal.{Refusal}
 use Rattle.sn_model.specs.declared.session.Session.{Session}
 use Rattle.sn_model.specs.AccessCalls.{access_outcome, chmod_outcome, chown_outcome, getacl_outcome, live_if, setacl_outcome}
-use Rattle.sn_model.specs.Calls as calls
-use Rattle.sn_model.specs.Calls.{Ready, mkdir_outcome, outcome_of, ready, seen, stat_outcome}
+use Rattle.sn_model.specs.Calls.{Ready, mkdir_outcome, new_session, outcome_of, ready, seen, stat_outcome, with_path}
+use Rattle.sn_model.specs.AccessCalls.{acl_argument, id_argument, mode_bits_argument}
+use Rattle.sn_model.specs.SnapshotCalls.{snapshot_argument}
+use Rattle.sn_model.specs.FileCalls.{bytes_argument, count_argument, flags_argument}
+use Rattle.sn_model.specs.Tests.{logged_in, logged_out, new_mode_argument, path_argument}
+use Rattle.sn_model.proofs.Deciding as deciding
 use Rattle.sn_model.specs.Descriptors.{descriptor_at, is_offset, next_descriptor, readable_at, writable_at}
-use Rattle.sn_model.specs.FileCalls.{access_of, close_outcome, creating, cuts, file, ftruncate_outcome, is_size, new_file, no_directory, not_exclusive, open_absent, open_bytes, open_found, open_outcome, open_there, opens_new, opens_there, read_outcome, reads, seek_outcome, unlink_outcome, unlinks, write_offset, write_outcome, write_some, writes}
+use Rattle.sn_model.specs.FileCalls.{access_of, close_outcome, creating, cuts, file, first_ownership, ftruncate_outcome, is_size, no_directory, not_exclusive, open_absent, open_bytes, open_found, open_outcome, open_there, opens_new, opens_there, read_outcome, reads, seek_outcome, unlink_outcome, unlinks, write_offset, write_outcome, write_some, writes}
 use Rattle.sn_model.specs.NameCalls.{home_of, link_outcome, may_link, readdir_outcome, rename_outcome, rmdir_outcome}
 use Rattle.sn_model.specs.NameTree.{IsHierarchy}
 use Rattle.sn_model.specs.declared.outcome.AskedPoint.{AskedPoint}
@@ -189,7 +193,7 @@ module _ (limits : Limits) (world : World) where
     absent_gives_none : (w : Walked) → Decided (open_absent limits (seen limits world) s fd flags mode names w)
     unfolding open_absent
     absent_gives_none w =
-        let last = λ (d : ℕ) (p : Attributes). ok (opens_new limits flags fd d (last_name names) (new_file s mode p ((viewed world.live).default_acl d))) in
+        let last = λ (d : ℕ) (p : Attributes). ok (opens_new limits flags fd d (last_name names) (first_ownership File s mode p ((viewed world.live).default_acl d))) in
         then (creating flags) (λ _. parent_of Enoent w >>= (λ at. live at.0 >>= (λ d. writable_parent trees s.cred 1 at.1 at.0 >>= (λ p. has_room limits world.live d >>= (λ _. last d p))))) (λ u.
         then (parent_of Enoent w) (λ at. live at.0 >>= (λ d. writable_parent trees s.cred 1 at.1 at.0 >>= (λ p. has_room limits world.live d >>= (λ _. last d p)))) (λ at.
         then (live at.0) (λ d. writable_parent trees s.cred 1 at.1 at.0 >>= (λ p. has_room limits world.live d >>= (λ _. last d p))) (λ d.
@@ -242,33 +246,45 @@ module _ (limits : Limits) (world : World) where
       then (writable_at world.descriptors session fd) (λ d. is_size limits size >>= (λ _. ok (cuts limits d.number size))) (λ d.
       then (is_size limits size) (λ _. ok (cuts limits d.number size)) (λ _. (tt, tt)))
 
-  call_gives_none : (r : Ready) → IsHierarchy world.live → Decided (outcome_of limits world r)
-  call_gives_none (calls.Login s) h = tt
-  call_gives_none (calls.Umask s mask) h = tt
-  call_gives_none (calls.Mkdir s names mode) h = each (mkdir_outcome limits (seen limits world) s names mode) (λ o e. decides o _ (mkdir_is limits world s names mode o e).made tt)
-  call_gives_none (calls.Chmod s names bits) h = each (chmod_outcome limits trees s names bits) (λ o e. decides o _ (chmod_some limits trees s names bits o e).2 (tt, tt))
-  call_gives_none (calls.Chown s names uid gid) h = each (chown_outcome limits trees s names uid gid) (λ o e. decides o _ (chown_some limits trees s names uid gid o e).2 (tt, tt))
-  call_gives_none (calls.Stat s names) h = each (stat_outcome trees s names) (λ o e. decides o _ (stat_is world s names o e).1 tt)
-  call_gives_none (calls.Access s names want) h = each (access_outcome trees s names want) (λ o e. decides o _ (access_tells trees s names want o e) tt)
-  call_gives_none (calls.GetAcl s names kind) h = each (getacl_outcome trees s names kind) (λ o e. decides o _ (getacl_tells trees s names kind o e).1 tt)
-  call_gives_none (calls.SetAcl s names acl) h = each (setacl_outcome limits trees s names acl) (λ o e. decides o _ (setacl_some limits trees s names acl o e).2 (tt, tt))
-  call_gives_none (calls.Rmdir s names) h = each (rmdir_outcome limits (seen limits world) s names) (λ o e. decides o _ (rmdir_is limits world s names o e).made (tt, tt))
-  call_gives_none (calls.Unlink s names) h = unlink_gives_none s names
-  call_gives_none (calls.Link s names others) h = each (link_outcome limits (seen limits world) s names others) (λ o e. link_gives_none s names others o h e)
-  call_gives_none (calls.Rename s names others) h = each (rename_outcome limits (seen limits world) s names others) (λ o e. rename_gives_none s names others o (rename_is limits world s names others o e))
-  call_gives_none (calls.Readdir s names) h = each (readdir_outcome (seen limits world) s names) (λ o e. decides o _ (readdir_tells limits world s names o e).1 tt)
-  call_gives_none calls.Logout h = tt
-  call_gives_none (calls.Open session s names flags mode) h = open_gives_none session s names flags mode
-  call_gives_none (calls.Close session fd) h = close_gives_none session fd
-  call_gives_none (calls.Read session fd count) h = read_gives_none session fd count
-  call_gives_none (calls.Write session fd bytes) h = write_gives_none session fd bytes
-  call_gives_none (calls.Seek session fd offset) h = seek_gives_none session fd offset
-  call_gives_none (calls.Ftruncate session fd size) h = ftruncate_gives_none session fd size
-  call_gives_none calls.Sync h = tt
-  call_gives_none (calls.SnapCreate s name) h = each (snap_create_outcome limits world s name) (λ o e. decides o _ (sym (create_is limits world s name o e).0) tt)
-  call_gives_none (calls.SnapDelete s name) h = each (snap_delete_outcome world s name) (λ o e. decides o _ (sym (delete_is world s name o e).0) tt)
-  call_gives_none (calls.SnapRestore s name) h = each (snap_restore_outcome limits world s name) (λ o e. decides o _ (sym (restore_is limits world s name o e).0) tt)
-  call_gives_none calls.SnapList h = tt
+  -- and so where the tests of the session and of the arguments come first
+  abbrev Readied : Result Ready Refusal → Type 0
+  Readied (Ok decides) = Decided (outcome_of limits world decides)
+  Readied (Err refusal) = Unit {0}
+
+  behind : {A : Type 0} (r : Result A Refusal) (f : A → Result Ready Refusal) → ((x : A) → Readied (f x)) → Readied (r >>= f)
+  behind (Ok x) f more = more x
+  behind (Err refusal) f more = tt
+
+  named : (session : ℕ) (path : List ℕ) (f : Session → List (List ℕ) → Result Ready Refusal) → ((s : Session) (names : List (List ℕ)) → Readied (f s names)) → Readied (with_path world session path f)
+  named session path f more = behind (logged_in world session) (λ s. path_argument path >>= (λ names. f s names)) (λ s. behind (path_argument path) (λ names. f s names) (more s))
+
+  call_gives_none : (session : ℕ) (c : Call) → IsHierarchy world.live → Readied (ready world session c)
+  call_gives_none session (call.Login uid gid groups) h = behind (logged_out world session) (λ _. ok (deciding.login (new_session uid gid groups))) (λ _. tt)
+  call_gives_none session (call.Umask mask) h = behind (logged_in world session) (λ s. new_mode_argument mask >>= (λ bits. ok (deciding.umask s bits))) (λ s. behind (new_mode_argument mask) (λ bits. ok (deciding.umask s bits)) (λ bits. tt))
+  call_gives_none session (call.Mkdir path mode) h = named session path (λ s names. new_mode_argument mode >>= (λ bits. ok (deciding.mkdir s names bits))) (λ s names. behind (new_mode_argument mode) (λ bits. ok (deciding.mkdir s names bits)) (λ bits. each (mkdir_outcome limits (seen limits world) s names bits) (λ o e. decides o _ (mkdir_is limits world s names bits o e).made tt)))
+  call_gives_none session (call.Chmod path mode) h = named session path (λ s names. mode_bits_argument mode >>= (λ bits. ok (deciding.chmod s names bits))) (λ s names. behind (mode_bits_argument mode) (λ bits. ok (deciding.chmod s names bits)) (λ bits. each (chmod_outcome limits trees s names bits) (λ o e. decides o _ (chmod_some limits trees s names bits o e).2 (tt, tt))))
+  call_gives_none session (call.Chown path uid gid) h = named session path (λ s names. id_argument uid >>= (λ owner. id_argument gid >>= (λ group. ok (deciding.chown s names owner group)))) (λ s names. behind (id_argument uid) (λ owner. id_argument gid >>= (λ group. ok (deciding.chown s names owner group))) (λ owner. behind (id_argument gid) (λ group. ok (deciding.chown s names owner group)) (λ group. each (chown_outcome limits trees s names owner group) (λ o e. decides o _ (chown_some limits trees s names owner group o e).2 (tt, tt)))))
+  call_gives_none session (call.Stat path) h = named session path (λ s names. ok (deciding.stat s names)) (λ s names. each (stat_outcome trees s names) (λ o e. decides o _ (stat_is world s names o e).1 tt))
+  call_gives_none session (call.Access path want) h = named session path (λ s names. ok (deciding.access s names want)) (λ s names. each (access_outcome trees s names want) (λ o e. decides o _ (access_tells trees s names want o e) tt))
+  call_gives_none session (call.GetAcl path kind) h = named session path (λ s names. ok (deciding.getacl s names kind)) (λ s names. each (getacl_outcome trees s names kind) (λ o e. decides o _ (getacl_tells trees s names kind o e).1 tt))
+  call_gives_none session (call.SetAcl path kind acl) h = named session path (λ s names. acl_argument kind acl >>= (λ new. ok (deciding.setacl s names new))) (λ s names. behind (acl_argument kind acl) (λ new. ok (deciding.setacl s names new)) (λ new. each (setacl_outcome limits trees s names new) (λ o e. decides o _ (setacl_some limits trees s names new o e).2 (tt, tt))))
+  call_gives_none session (call.Rmdir path) h = named session path (λ s names. ok (deciding.rmdir s names)) (λ s names. each (rmdir_outcome limits (seen limits world) s names) (λ o e. decides o _ (rmdir_is limits world s names o e).made (tt, tt)))
+  call_gives_none session (call.Unlink path) h = named session path (λ s names. ok (deciding.unlink s names)) (λ s names. unlink_gives_none s names)
+  call_gives_none session (call.Link old new) h = named session old (λ s names. path_argument new >>= (λ others. ok (deciding.link s names others))) (λ s names. behind (path_argument new) (λ others. ok (deciding.link s names others)) (λ others. each (link_outcome limits (seen limits world) s names others) (λ o e. link_gives_none s names others o h e)))
+  call_gives_none session (call.Rename old new) h = named session old (λ s names. path_argument new >>= (λ others. ok (deciding.rename s names others))) (λ s names. behind (path_argument new) (λ others. ok (deciding.rename s names others)) (λ others. each (rename_outcome limits (seen limits world) s names others) (λ o e. rename_gives_none s names others o (rename_is limits world s names others o e))))
+  call_gives_none session (call.Readdir path) h = named session path (λ s names. ok (deciding.readdir s names)) (λ s names. each (readdir_outcome (seen limits world) s names) (λ o e. decides o _ (readdir_tells limits world s names o e).1 tt))
+  call_gives_none session call.Logout h = behind (logged_in world session) (λ _. ok deciding.logout) (λ _. tt)
+  call_gives_none session (call.Open path flags mode) h = named session path (λ s names. flags_argument flags >>= (λ asked. new_mode_argument mode >>= (λ bits. ok (deciding.opening session s names asked bits)))) (λ s names. behind (flags_argument flags) (λ asked. new_mode_argument mode >>= (λ bits. ok (deciding.opening session s names asked bits))) (λ asked. behind (new_mode_argument mode) (λ bits. ok (deciding.opening session s names asked bits)) (λ bits. open_gives_none session s names asked bits)))
+  call_gives_none session (call.Close fd) h = behind (logged_in world session) (λ _. ok (deciding.close session fd)) (λ _. close_gives_none session fd)
+  call_gives_none session (call.Read fd count) h = behind (logged_in world session) (λ _. count_argument count >>= (λ many. ok (deciding.read session fd many))) (λ _. behind (count_argument count) (λ many. ok (deciding.read session fd many)) (λ many. read_gives_none session fd many))
+  call_gives_none session (call.Write fd bytes) h = behind (logged_in world session) (λ _. bytes_argument bytes >>= (λ new. ok (deciding.write session fd new))) (λ _. behind (bytes_argument bytes) (λ new. ok (deciding.write session fd new)) (λ new. write_gives_none session fd new))
+  call_gives_none session (call.Seek fd offset) h = behind (logged_in world session) (λ _. ok (deciding.seek session fd offset)) (λ _. seek_gives_none session fd offset)
+  call_gives_none session (call.Ftruncate fd size) h = behind (logged_in world session) (λ _. ok (deciding.ftruncate session fd size)) (λ _. ftruncate_gives_none session fd size)
+  call_gives_none session call.Sync h = behind (logged_in world session) (λ _. ok deciding.sync) (λ _. tt)
+  call_gives_none session (call.SnapCreate name) h = behind (logged_in world session) (λ s. snapshot_argument name >>= (λ new. ok (deciding.snap_create s new))) (λ s. behind (snapshot_argument name) (λ new. ok (deciding.snap_create s new)) (λ new. each (snap_create_outcome limits world s new) (λ o e. decides o _ (sym (create_is limits world s new o e).0) tt)))
+  call_gives_none session (call.SnapDelete name) h = behind (logged_in world session) (λ s. snapshot_argument name >>= (λ old. ok (deciding.snap_delete s old))) (λ s. behind (snapshot_argument name) (λ old. ok (deciding.snap_delete s old)) (λ old. each (snap_delete_outcome world s old) (λ o e. decides o _ (sym (delete_is world s old o e).0) tt)))
+  call_gives_none session (call.SnapRestore name) h = behind (logged_in world session) (λ s. snapshot_argument name >>= (λ old. ok (deciding.snap_restore s old))) (λ s. behind (snapshot_argument name) (λ old. ok (deciding.snap_restore s old)) (λ old. each (snap_restore_outcome limits world s old) (λ o e. decides o _ (sym (restore_is limits world s old o e).0) tt)))
+  call_gives_none session call.SnapList h = behind (logged_in world session) (λ _. ok deciding.snap_list) (λ _. tt)
 
   filled_in : (number : ℕ) (pending : Pending) (caller : Caller) → Spares world.live pending caller → IsNumberFor limits world.live number pending → PendsNoFirstName world.live number pending
   filled_in number Nothing caller h free = tt
@@ -284,7 +300,7 @@ module _ (limits : Limits) (world : World) where
     spared : IsHierarchy world.live → Spared o
     spared h =
         let r = bind_ok (ready world session c) (outcome_of limits world) o e in
-        subst Decided r.2 (call_gives_none r.0 h)
+        subst Decided r.2 (subst Readied r.1 (call_gives_none session c h))
 
     pub decided_give_no_first_name : (number : ℕ) → IsHierarchy world.live → IsNumberFor limits world.live number o.change → PendsNoFirstName world.live number o.change
     decided_give_no_first_name number h free = filled_in number o.change o.caller (spared h) free

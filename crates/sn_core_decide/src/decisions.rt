@@ -1,5 +1,7 @@
 ghost use Rattle.std.specs.Prelude.{◌≡◌, IsTrue};
-ghost use Rattle.sn_model.specs.Calls.{mkdir_outcome, stat_outcome, new_directory, status_of};
+ghost use Rattle.sn_limits.specs.declared.kind.Kind.TheVariants.{Directory};
+ghost use Rattle.sn_model.specs.Calls.{mkdir_outcome, stat_outcome, status_of};
+ghost use Rattle.sn_model.specs.FileCalls.{first_ownership};
 ghost use Rattle.sn_walk.specs.Gives.{Gives, IfFault};
 ghost use Rattle.sn_core_decide.specs.Views.{seen_by};
 
@@ -22,7 +24,7 @@ fn new_directory(
     parent: &Attributes,
     default_acl: Option<Acl>,
 ) -> Ownership
-    ensures { result ≡ new_directory caller.now mode parent.now default_acl }
+    ensures { result ≡ first_ownership Directory caller.now mode parent.now default_acl }
 {
     let Inherited { access, default } = inherit(default_acl.as_ref(), mode, caller.umask, true);
     Ownership {

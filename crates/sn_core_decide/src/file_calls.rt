@@ -1,5 +1,6 @@
 //! The calls on files by their names.
 ghost use Rattle.std.specs.Prelude.{◌≡◌, IsTrue};
+ghost use Rattle.sn_limits.specs.declared.kind.Kind.TheVariants.{File};
 ghost use Rattle.sn_model.specs.FileCalls as calls;
 ghost use Rattle.sn_walk.specs.Gives.{Answers, Gives, IfFault};
 ghost use Rattle.sn_model.specs.Seen.{parent_of};
@@ -117,7 +118,7 @@ fn new_file(
     parent: &Attributes,
     default_acl: Option<Acl>,
 ) -> Ownership
-    ensures { result ≡ calls.new_file caller.now mode parent.now default_acl }
+    ensures { result ≡ calls.first_ownership File caller.now mode parent.now default_acl }
 {
     let Inherited { access, default } = inherit(default_acl.as_ref(), mode, caller.umask, false);
     Ownership {

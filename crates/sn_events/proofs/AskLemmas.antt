@@ -13,6 +13,7 @@ use Rattle.sn_model.specs.declared.reply.Errno.TheVariants.{Enoent, Enospc}
 use Rattle.sn_model.specs.declared.reply.Refusal.{Refusal}
 use Rattle.sn_model.specs.declared.reply.Reply.{Reply}
 use Rattle.sn_model.specs.Calls as calls
+use Rattle.sn_model.proofs.Deciding as deciding
 use Rattle.sn_model.specs.Calls.{outcome_of, ready}
 use Rattle.sn_model.specs.Charges.{charge_of, point_charge}
 use Rattle.sn_model.specs.Machine.{Running, Mishap, Memory, Read, Write, Space, Age, refused}
@@ -63,15 +64,15 @@ module _ (w : World) (session : ℕ) where
   sync_asks : (o : Outcome) → decision limits_written w session call.Sync ≡ Ok o → CanAsk w call.Sync o
   sync_asks o e =
       let r = bind_ok (ready w session call.Sync) (outcome_of limits_written w) o e in
-      let s = bind_ok (logged_in w session) (λ _. ok calls.Sync) r.0 r.1 in
-      (tt, λ _. ok_point w Plain o (same_ok (points Plain) o (subst (λ (x : calls.Ready). outcome_of limits_written w x ≡ Ok o) (sym (same_ok calls.Sync r.0 s.2)) r.2)) tt)
+      let s = bind_ok (logged_in w session) (λ _. ok deciding.sync) r.0 r.1 in
+      (tt, λ _. ok_point w Plain o (same_ok (points Plain) o (subst (λ (x : calls.Ready). outcome_of limits_written w x ≡ Ok o) (sym (same_ok deciding.sync r.0 s.2)) r.2)) tt)
 
   create_asks : (name : List ℕ) (o : Outcome) → decision limits_written w session (call.SnapCreate name) ≡ Ok o → CanAsk w (call.SnapCreate name) o
   create_asks name o e =
       let r = bind_ok (ready w session (call.SnapCreate name)) (outcome_of limits_written w) o e in
-      let s = bind_ok (logged_in w session) (λ s. snapshot_argument name >>= (λ new. ok (calls.SnapCreate s new))) r.0 r.1 in
-      let n = bind_ok (snapshot_argument name) (λ new. ok (calls.SnapCreate s.0 new)) r.0 s.2 in
-      let is = create_is limits_written w s.0 n.0 o (subst (λ (x : calls.Ready). outcome_of limits_written w x ≡ Ok o) (sym (same_ok (calls.SnapCreate s.0 n.0) r.0 n.2)) r.2) in
+      let s = bind_ok (logged_in w session) (λ s. snapshot_argument name >>= (λ new. ok (deciding.snap_create s new))) r.0 r.1 in
+      let n = bind_ok (snapshot_argument name) (λ new. ok (deciding.snap_create s.0 new)) r.0 s.2 in
+      let is = create_is limits_written w s.0 n.0 o (subst (λ (x : calls.Ready). outcome_of limits_written w x ≡ Ok o) (sym (same_ok (deciding.snap_create s.0 n.0) r.0 n.2)) r.2) in
       (tt, λ _. ok_point w (Freezes n.0) o is.0 (is.1, is.2))
 
   present_is : (name : List ℕ) (u : Unit {0}) (there : Bool) → cond there (Ok (tt {0})) (Err (plain Enoent)) ≡ Ok u → there ≡ true
@@ -82,9 +83,9 @@ module _ (w : World) (session : ℕ) where
   unfolding snap_delete_outcome
   delete_asks name o e =
       let r = bind_ok (ready w session (call.SnapDelete name)) (outcome_of limits_written w) o e in
-      let s = bind_ok (logged_in w session) (λ s. snapshot_argument name >>= (λ old. ok (calls.SnapDelete s old))) r.0 r.1 in
-      let n = bind_ok (snapshot_argument name) (λ old. ok (calls.SnapDelete s.0 old)) r.0 s.2 in
-      let came = subst (λ (x : calls.Ready). outcome_of limits_written w x ≡ Ok o) (sym (same_ok (calls.SnapDelete s.0 n.0) r.0 n.2)) r.2 in
+      let s = bind_ok (logged_in w session) (λ s. snapshot_argument name >>= (λ old. ok (deciding.snap_delete s old))) r.0 r.1 in
+      let n = bind_ok (snapshot_argument name) (λ old. ok (deciding.snap_delete s.0 old)) r.0 s.2 in
+      let came = subst (λ (x : calls.Ready). outcome_of limits_written w x ≡ Ok o) (sym (same_ok (deciding.snap_delete s.0 n.0) r.0 n.2)) r.2 in
       let user = bind_ok (user_0 s.0.cred) (λ _. present_snapshot (viewed_trees (trees_of w)) n.0 >>= (λ _. closed_snapshot w n.0 >>= (λ _. ok (points (Thaws n.0))))) o came in
       let there = bind_ok (present_snapshot (viewed_trees (trees_of w)) n.0) (λ _. closed_snapshot w n.0 >>= (λ _. ok (points (Thaws n.0)))) o user.2 in
       (tt, λ _. ok_point w (Thaws n.0) o (delete_is w s.0 n.0 o came).0 (present_is n.0 there.0 (map.contains_key w.frozen n.0) there.1))
@@ -92,9 +93,9 @@ module _ (w : World) (session : ℕ) where
   restore_asks : (name : List ℕ) (o : Outcome) → decision limits_written w session (call.SnapRestore name) ≡ Ok o → CanAsk w (call.SnapRestore name) o
   restore_asks name o e =
       let r = bind_ok (ready w session (call.SnapRestore name)) (outcome_of limits_written w) o e in
-      let s = bind_ok (logged_in w session) (λ s. snapshot_argument name >>= (λ old. ok (calls.SnapRestore s old))) r.0 r.1 in
-      let n = bind_ok (snapshot_argument name) (λ old. ok (calls.SnapRestore s.0 old)) r.0 s.2 in
-      let is = restore_is limits_written w s.0 n.0 o (subst (λ (x : calls.Ready). outcome_of limits_written w x ≡ Ok o) (sym (same_ok (calls.SnapRestore s.0 n.0) r.0 n.2)) r.2) in
+      let s = bind_ok (logged_in w session) (λ s. snapshot_argument name >>= (λ old. ok (deciding.snap_restore s old))) r.0 r.1 in
+      let n = bind_ok (snapshot_argument name) (λ old. ok (deciding.snap_restore s.0 old)) r.0 s.2 in
+      let is = restore_is limits_written w s.0 n.0 o (subst (λ (x : calls.Ready). outcome_of limits_written w x ≡ Ok o) (sym (same_ok (deciding.snap_restore s.0 n.0) r.0 n.2)) r.2) in
       (tt, λ other. absurd (true≢false (ap (λ (x : Outcome). is_restore x.point) is.0 ∙ other)))
 
   can_ask : (c : Call) (o : Outcome) → asks_for_point c ≡ true → decision limits_written w session c ≡ Ok o → CanAsk w c o

@@ -9,6 +9,7 @@ use Rattle.sn_model.specs.declared.call.Call.TheVariants as call
 use Rattle.sn_model.specs.declared.reply.Refusal.{Refusal}
 use Rattle.sn_model.specs.declared.reply.Reply.TheVariants.{Done}
 use Rattle.sn_model.specs.Calls as calls
+use Rattle.sn_model.proofs.Deciding as deciding
 use Rattle.sn_model.specs.Calls.{outcome_of, ready}
 use Rattle.sn_model.specs.NameTree.{HasKind}
 use Rattle.sn_model.specs.Outcomes.{Outcome, Restores}
@@ -47,9 +48,9 @@ module _ (limits : Limits) (old new : World) (session : ℕ) (word : List ℕ) (
   comes_back : (o : Outcome) → decision limits old session (call.SnapRestore word) ≡ Ok o → Comes limits old session o new → BringsBack old new word
   comes_back o decided comes =
       let r = bind_ok (ready old session (call.SnapRestore word)) (outcome_of limits old) o decided in
-      let s = bind_ok (logged_in old session) (λ s. snapshot_argument word >>= (λ name. ok (calls.SnapRestore s name))) r.0 r.1 in
-      let n = bind_ok (snapshot_argument word) (λ name. ok (calls.SnapRestore s.0 name)) r.0 s.2 in
-      let is = restore_is limits old s.0 n.0 o (subst (λ (x : calls.Ready). outcome_of limits old x ≡ Ok o) (sym (same_ok (calls.SnapRestore s.0 n.0) r.0 n.2)) r.2) in
+      let s = bind_ok (logged_in old session) (λ s. snapshot_argument word >>= (λ name. ok (deciding.snap_restore s name))) r.0 r.1 in
+      let n = bind_ok (snapshot_argument word) (λ name. ok (deciding.snap_restore s.0 name)) r.0 s.2 in
+      let is = restore_is limits old s.0 n.0 o (subst (λ (x : calls.Ready). outcome_of limits old x ≡ Ok o) (sym (same_ok (deciding.snap_restore s.0 n.0) r.0 n.2)) r.2) in
       let one = argument_same word n.0 n.1 in
       let there : restores_at limits old word ≡ o = ap (restores_at limits old) one ∙ is.0 in
       let came : Comes limits old session (restores_at limits old word) new = subst (λ (x : Outcome). Comes limits old session x new) (sym there) comes in

@@ -39,7 +39,7 @@ use Rattle.sn_model.specs.declared.change.Ownership.{Ownership}
 use Rattle.sn_model.specs.Outcomes.{AskedPoint, Plain, Freezes, Thaws, Restores, Nothing, Outcome, LogsIn, SetsUmask, Stays, points_for, tells}
 use Rattle.sn_model.specs.AccessCalls.{AclKind, acl_argument, id_argument, mode_bits_argument}
 use Rattle.sn_model.specs.declared.change.Change.TheVariants.{AddLink, Remove, Rename, SetAttributes}
-use Rattle.sn_model.specs.FileCalls.{OpenFlags, bytes_argument, count_argument, flags_argument, new_file}
+use Rattle.sn_model.specs.FileCalls.{OpenFlags, bytes_argument, count_argument, first_ownership, flags_argument}
 use Rattle.sn_model.proofs.OpenLemmas.{opening_is, unlink_is}
 use Rattle.sn_model.proofs.SeatLemmas.{seat_of}
 use Rattle.sn_model.proofs.FileDecidedLemmas.{bytes_are, close_is, ftruncate_is, logout_is, reads_is, seek_is, write_is}
@@ -52,8 +52,8 @@ use Rattle.sn_model.specs.Settling.{nameless_if}
 use Rattle.sn_model.specs.SnapshotCalls.{snapshot_argument}
 pub use Rattle.sn_model.proofs.OutcomeLemmas.{IsDecided}
 use Rattle.sn_model.specs.AccessLaws.{GivesTo, SetsAcl, ShowsMode}
-use Rattle.sn_model.specs.Calls as calls
-use Rattle.sn_model.specs.Calls.{Ready, ready, outcome_of, new_session, new_directory, last_name}
+use Rattle.sn_model.proofs.Deciding as deciding
+use Rattle.sn_model.specs.Calls.{Ready, ready, outcome_of, new_session, last_name}
 use Rattle.sn_model.specs.Steps.{IsNumber, IsNumberFor, TakesMemory, asks_for_point, changed, decision}
 use Rattle.sn_model.specs.Worlds.{IsCaller, IsSession, IsWorld}
 use Rattle.sn_model.proofs.ChainLemmas.{and_left, and_right, and_both}
@@ -90,7 +90,7 @@ default_acl_of None v = refl
 default_acl_of (Some d) v = test-from_valid d v
 
 -- what is given to a new directory is an ownership
-new_ownership : (limits : Limits) (s : Session) (mode : Mode) (tree : Tree) (number : ℕ) (parent : Node) → IsCaller s → IsMode mode → IsNode limits number parent → is_ownership Directory (new_directory s mode (attributes_of tree number parent) parent.default_acl) ≡ true
+new_ownership : (limits : Limits) (s : Session) (mode : Mode) (tree : Tree) (number : ℕ) (parent : Node) → IsCaller s → IsMode mode → IsNode limits number parent → is_ownership Directory (first_ownership Directory s mode (attributes_of tree number parent) parent.default_acl) ≡ true
 new_ownership limits s mode tree number parent caller h node =
     and_both _ _ (and_both _ _ (and_both _ _ (lt-ltb s.cred.uid (2 ^ 32) caller.uid) (group parent.set_gid)) (inherited_acl parent.default_acl mode s.umask h node.default_acl)) (default_acl_of parent.default_acl node.default_acl)
   where
@@ -99,7 +99,7 @@ new_ownership limits s mode tree number parent caller h node =
     group false = lt-ltb s.cred.gid (2 ^ 32) caller.gid
 
 -- the same of a new file
-new_file_ownership : (limits : Limits) (s : Session) (mode : Mode) (tree : Tree) (number : ℕ) (parent : Node) → IsCaller s → IsMode mode → IsNode limits number parent → is_ownership File (new_file s mode (attributes_of tree number parent) parent.default_acl) ≡ true
+new_file_ownership : (limits : Limits) (s : Session) (mode : Mode) (tree : Tree) (number : ℕ) (parent : Node) → IsCaller s → IsMode mode → IsNode limits number parent → is_ownership File (first_ownership File s mode (attributes_of tree number parent) parent.default_acl) ≡ true
 new_file_ownership limits s mode tree number parent caller h node =
     and_both _ _ (and_both _ _ (and_both _ _ (lt-ltb s.cred.uid (2 ^ 32) caller.uid) (group parent.set_gid)) (inherited_acl parent.default_acl mode s.umask h node.default_acl)) (none_of parent.default_acl)
   where
@@ -243,22 +243,22 @@ module _ (limits : Limits) (world : World) (session : ℕ) where
   login_decided : (uid gid : ℕ) (groups : List ℕ) (o : Outcome) → ReadyTo (call.Login uid gid groups) o → IsDecided limits world session (call.Login uid gid groups) o
   login_decided uid gid groups o r =
       let s = new_session uid gid groups in
-      let p = bind_ok (logged_out world session) (λ _. found.ok (calls.Login s)) r.0 r.1 in
-      subst (IsDecided limits world session (call.Login uid gid groups)) (same_ok _ _ (goes_on (calls.Login s) r.0 o p.2 r.2))
+      let p = bind_ok (logged_out world session) (λ _. found.ok (deciding.login s)) r.0 r.1 in
+      subst (IsDecided limits world session (call.Login uid gid groups)) (same_ok _ _ (goes_on (deciding.login s) r.0 o p.2 r.2))
       (turned limits world session (call.Login uid gid groups) refl (LogsIn s) reply.Done (λ refusal e. cc e) (λ f. cc f) (λ k w. record { uid = k.0; gid = k.1 }))
 
   umask_decided : (mask : ℕ) (o : Outcome) → ReadyTo (call.Umask mask) o → IsDecided limits world session (call.Umask mask) o
   umask_decided mask o r =
-      let p = bind_ok (logged_in world session) (λ s. new_mode_argument mask >>= (λ bits. found.ok (calls.Umask s bits))) r.0 r.1 in
-      let q = bind_ok (new_mode_argument mask) (λ bits. found.ok (calls.Umask p.0 bits)) r.0 p.2 in
-      subst (IsDecided limits world session (call.Umask mask)) (same_ok _ _ (goes_on (calls.Umask p.0 q.0) r.0 o q.2 r.2))
+      let p = bind_ok (logged_in world session) (λ s. new_mode_argument mask >>= (λ bits. found.ok (deciding.umask s bits))) r.0 r.1 in
+      let q = bind_ok (new_mode_argument mask) (λ bits. found.ok (deciding.umask p.0 bits)) r.0 p.2 in
+      subst (IsDecided limits world session (call.Umask mask)) (same_ok _ _ (goes_on (deciding.umask p.0 q.0) r.0 o q.2 r.2))
       (turned limits world session (call.Umask mask) refl (SetsUmask q.0) (reply.Mode p.0.umask) (λ refusal e. cc e) (λ f. cc f) (λ k w. tt))
 
   mkdir_decided : (path : List ℕ) (mode : ℕ) (o : Outcome) → ReadyTo (call.Mkdir path mode) o → IsDecided limits world session (call.Mkdir path mode) o
   mkdir_decided path mode o r =
-      let k = called world session path (λ s names. new_mode_argument mode >>= (λ bits. found.ok (calls.Mkdir s names bits))) r.0 r.1 in
-      let m = bind_ok (new_mode_argument mode) (λ bits. found.ok (calls.Mkdir k.caller k.names bits)) r.0 k.passed in
-      let p = mkdir_is limits world k.caller k.names m.0 o (goes_on (calls.Mkdir k.caller k.names m.0) r.0 o m.2 r.2) in
+      let k = called world session path (λ s names. new_mode_argument mode >>= (λ bits. found.ok (deciding.mkdir s names bits))) r.0 r.1 in
+      let m = bind_ok (new_mode_argument mode) (λ bits. found.ok (deciding.mkdir k.caller k.names bits)) r.0 k.passed in
+      let p = mkdir_is limits world k.caller k.names m.0 o (goes_on (deciding.mkdir k.caller k.names m.0) r.0 o m.2 r.2) in
       subst (IsDecided limits world session (call.Mkdir path mode)) (sym p.made) (record {
         answers = λ refusal e. cc e;
         left = p.at.number;
@@ -269,7 +269,7 @@ module _ (limits : Limits) (world : World) (session : ℕ) where
         takes = tt;
         opens = λ f. cc f;
         applies = λ number some_links whole free.
-            let own = new_directory k.caller m.0 (attributes_of world.live p.directory p.at.parent) p.at.parent.default_acl in
+            let own = first_ownership Directory k.caller m.0 (attributes_of world.live p.directory p.at.parent) p.at.parent.default_acl in
             let owned = new_ownership limits k.caller m.0 world.live p.directory p.at.parent (caller_is world session k.caller whole.callers k.called_by) (mode_is mode m.0 m.1) (whole.live.nodes.nodes p.directory p.at.parent p.at.there) in
             ap is_some (place_applies limits world.live k.names p.directory number Directory own some_links whole.live (path_names path k.names k.read) p.at free owned);
         fits = λ n w. tt;
@@ -282,43 +282,43 @@ module _ (limits : Limits) (world : World) (session : ℕ) where
 
   chmod_decided : (path : List ℕ) (mode : ℕ) (o : Outcome) → ReadyTo (call.Chmod path mode) o → IsDecided limits world session (call.Chmod path mode) o
   chmod_decided path mode o r =
-      let k = called world session path (λ s names. mode_bits_argument mode >>= (λ bits. found.ok (calls.Chmod s names bits))) r.0 r.1 in
-      let m = bind_ok (mode_bits_argument mode) (λ bits. found.ok (calls.Chmod k.caller k.names bits)) r.0 k.passed in
-      let e = goes_on (calls.Chmod k.caller k.names m.0) r.0 o m.2 r.2 in
+      let k = called world session path (λ s names. mode_bits_argument mode >>= (λ bits. found.ok (deciding.chmod s names bits))) r.0 r.1 in
+      let m = bind_ok (mode_bits_argument mode) (λ bits. found.ok (deciding.chmod k.caller k.names bits)) r.0 k.passed in
+      let e = goes_on (deciding.chmod k.caller k.names m.0) r.0 o m.2 r.2 in
       let is = chmod_some limits trees k.caller k.names m.0 o e in
       set_decided (call.Chmod path mode) refl o is tt (λ whole. can_be_set limits world k.caller o (ShowsMode k.caller m.0) is (chmod_is limits world k.caller k.names mode m.0 o whole m.1 e))
 
   chown_decided : (path : List ℕ) (uid gid : Option ℕ) (o : Outcome) → ReadyTo (call.Chown path uid gid) o → IsDecided limits world session (call.Chown path uid gid) o
   chown_decided path uid gid o r =
-      let k = called world session path (λ s names. id_argument uid >>= (λ owner. id_argument gid >>= (λ group. found.ok (calls.Chown s names owner group)))) r.0 r.1 in
-      let a = bind_ok (id_argument uid) (λ owner. id_argument gid >>= (λ group. found.ok (calls.Chown k.caller k.names owner group))) r.0 k.passed in
-      let b = bind_ok (id_argument gid) (λ group. found.ok (calls.Chown k.caller k.names a.0 group)) r.0 a.2 in
-      let e = goes_on (calls.Chown k.caller k.names a.0 b.0) r.0 o b.2 r.2 in
+      let k = called world session path (λ s names. id_argument uid >>= (λ owner. id_argument gid >>= (λ group. found.ok (deciding.chown s names owner group)))) r.0 r.1 in
+      let a = bind_ok (id_argument uid) (λ owner. id_argument gid >>= (λ group. found.ok (deciding.chown k.caller k.names owner group))) r.0 k.passed in
+      let b = bind_ok (id_argument gid) (λ group. found.ok (deciding.chown k.caller k.names a.0 group)) r.0 a.2 in
+      let e = goes_on (deciding.chown k.caller k.names a.0 b.0) r.0 o b.2 r.2 in
       let is = chown_some limits trees k.caller k.names a.0 b.0 o e in
       set_decided (call.Chown path uid gid) refl o is tt (λ whole. can_be_set limits world k.caller o (GivesTo k.caller a.0 b.0) is (chown_is limits world k.caller k.names uid a.0 gid b.0 o whole a.1 b.1 e))
 
   stat_decided : (path : List ℕ) (o : Outcome) → ReadyTo (call.Stat path) o → IsDecided limits world session (call.Stat path) o
   stat_decided path o r =
-      let k = called world session path (λ s names. found.ok (calls.Stat s names)) r.0 r.1 in
-      let t = stat_is world k.caller k.names o (goes_on (calls.Stat k.caller k.names) r.0 o k.passed r.2) in
+      let k = called world session path (λ s names. found.ok (deciding.stat s names)) r.0 r.1 in
+      let t = stat_is world k.caller k.names o (goes_on (deciding.stat k.caller k.names) r.0 o k.passed r.2) in
       tells_decided (call.Stat path) refl o (reply.Status t.0) (λ refusal e. cc e) t.1
 
   access_decided : (path : List ℕ) (want : access.Access) (o : Outcome) → ReadyTo (call.Access path want) o → IsDecided limits world session (call.Access path want) o
   access_decided path want o r =
-      let k = called world session path (λ s names. found.ok (calls.Access s names want)) r.0 r.1 in
-      tells_decided (call.Access path want) refl o reply.Done (λ refusal e. cc e) (access_tells trees k.caller k.names want o (goes_on (calls.Access k.caller k.names want) r.0 o k.passed r.2))
+      let k = called world session path (λ s names. found.ok (deciding.access s names want)) r.0 r.1 in
+      tells_decided (call.Access path want) refl o reply.Done (λ refusal e. cc e) (access_tells trees k.caller k.names want o (goes_on (deciding.access k.caller k.names want) r.0 o k.passed r.2))
 
   getacl_decided : (path : List ℕ) (kind : AclKind) (o : Outcome) → ReadyTo (call.GetAcl path kind) o → IsDecided limits world session (call.GetAcl path kind) o
   getacl_decided path kind o r =
-      let k = called world session path (λ s names. found.ok (calls.GetAcl s names kind)) r.0 r.1 in
-      let t = getacl_tells trees k.caller k.names kind o (goes_on (calls.GetAcl k.caller k.names kind) r.0 o k.passed r.2) in
+      let k = called world session path (λ s names. found.ok (deciding.getacl s names kind)) r.0 r.1 in
+      let t = getacl_tells trees k.caller k.names kind o (goes_on (deciding.getacl k.caller k.names kind) r.0 o k.passed r.2) in
       tells_decided (call.GetAcl path kind) refl o (reply.Acl t.0) (λ refusal e. cc e) t.1
 
   setacl_decided : (path : List ℕ) (kind : AclKind) (acl : List ℕ) (o : Outcome) → ReadyTo (call.SetAcl path kind acl) o → IsDecided limits world session (call.SetAcl path kind acl) o
   setacl_decided path kind acl o r =
-      let k = called world session path (λ s names. acl_argument kind acl >>= (λ new. found.ok (calls.SetAcl s names new))) r.0 r.1 in
-      let a = bind_ok (acl_argument kind acl) (λ new. found.ok (calls.SetAcl k.caller k.names new)) r.0 k.passed in
-      let e = goes_on (calls.SetAcl k.caller k.names a.0) r.0 o a.2 r.2 in
+      let k = called world session path (λ s names. acl_argument kind acl >>= (λ new. found.ok (deciding.setacl s names new))) r.0 r.1 in
+      let a = bind_ok (acl_argument kind acl) (λ new. found.ok (deciding.setacl k.caller k.names new)) r.0 k.passed in
+      let e = goes_on (deciding.setacl k.caller k.names a.0) r.0 o a.2 r.2 in
       let is = setacl_some limits trees k.caller k.names a.0 o e in
       set_decided (call.SetAcl path kind acl) refl o is tt (λ whole. can_be_set limits world k.caller o (SetsAcl a.0) is (setacl_is limits world k.caller k.names kind acl a.0 o whole a.1 e))
 
@@ -328,20 +328,20 @@ module _ (limits : Limits) (world : World) (session : ℕ) where
 
   rmdir_decided : (path : List ℕ) (o : Outcome) → ReadyTo (call.Rmdir path) o → IsDecided limits world session (call.Rmdir path) o
   rmdir_decided path o r =
-      let k = called world session path (λ s names. found.ok (calls.Rmdir s names)) r.0 r.1 in
-      let p = rmdir_is limits world k.caller k.names o (goes_on (calls.Rmdir k.caller k.names) r.0 o k.passed r.2) in
+      let k = called world session path (λ s names. found.ok (deciding.rmdir s names)) r.0 r.1 in
+      let p = rmdir_is limits world k.caller k.names o (goes_on (deciding.rmdir k.caller k.names) r.0 o k.passed r.2) in
       subst (IsDecided limits world session (call.Rmdir path)) (sym p.made) (done limits world session (call.Rmdir path) refl (2 * limits.inode_charge + limits.block_charge) (Remove p.directory (last_name k.names)) (remove_pays limits world.live p.directory (last_name k.names) p.number p.node true p.named p.there p.kind) tt tt (λ h. cc h) (λ h. omega (arith, h)) (λ whole. rmdir_applies limits world.live k.names o p))
 
   unlink_decided : (path : List ℕ) (o : Outcome) → ReadyTo (call.Unlink path) o → IsDecided limits world session (call.Unlink path) o
   unlink_decided path o r =
-      let k = called world session path (λ s names. found.ok (calls.Unlink s names)) r.0 r.1 in
-      unlink_is limits world session k.caller k.names path o (goes_on (calls.Unlink k.caller k.names) r.0 o k.passed r.2)
+      let k = called world session path (λ s names. found.ok (deciding.unlink s names)) r.0 r.1 in
+      unlink_is limits world session k.caller k.names path o (goes_on (deciding.unlink k.caller k.names) r.0 o k.passed r.2)
 
   link_decided : (old new : List ℕ) (o : Outcome) → ReadyTo (call.Link old new) o → IsDecided limits world session (call.Link old new) o
   link_decided old new o r =
-      let k = called world session old (λ s names. path_argument new >>= (λ others. found.ok (calls.Link s names others))) r.0 r.1 in
-      let n = bind_ok (path_argument new) (λ others. found.ok (calls.Link k.caller k.names others)) r.0 k.passed in
-      let p = link_is limits world k.caller k.names n.0 o (goes_on (calls.Link k.caller k.names n.0) r.0 o n.2 r.2) in
+      let k = called world session old (λ s names. path_argument new >>= (λ others. found.ok (deciding.link s names others))) r.0 r.1 in
+      let n = bind_ok (path_argument new) (λ others. found.ok (deciding.link k.caller k.names others)) r.0 k.passed in
+      let p = link_is limits world k.caller k.names n.0 o (goes_on (deciding.link k.caller k.names n.0) r.0 o n.2 r.2) in
       subst (IsDecided limits world session (call.Link old new)) (sym p.made) (done limits world session (call.Link old new) refl (2 * limits.inode_charge + limits.block_charge) (AddLink p.directory (last_name n.0) p.number) refl tt tt (λ h. cc h) (λ h. omega (arith, h)) (λ whole. link_applies limits world.live n.0 o p (last_is n.0 p.new.first p.new.more p.new.some_names (path_names new n.0 n.1))))
 
   -- a name is moved, or both are of one thing
@@ -368,90 +368,90 @@ module _ (limits : Limits) (world : World) (session : ℕ) where
 
   rename_decided : (old new : List ℕ) (o : Outcome) → ReadyTo (call.Rename old new) o → IsDecided limits world session (call.Rename old new) o
   rename_decided old new o r =
-      let k = called world session old (λ s names. path_argument new >>= (λ others. found.ok (calls.Rename s names others))) r.0 r.1 in
-      let n = bind_ok (path_argument new) (λ others. found.ok (calls.Rename k.caller k.names others)) r.0 k.passed in
-      rename_comes old new k.caller k.names n.0 o n.1 (rename_is limits world k.caller k.names n.0 o (goes_on (calls.Rename k.caller k.names n.0) r.0 o n.2 r.2))
+      let k = called world session old (λ s names. path_argument new >>= (λ others. found.ok (deciding.rename s names others))) r.0 r.1 in
+      let n = bind_ok (path_argument new) (λ others. found.ok (deciding.rename k.caller k.names others)) r.0 k.passed in
+      rename_comes old new k.caller k.names n.0 o n.1 (rename_is limits world k.caller k.names n.0 o (goes_on (deciding.rename k.caller k.names n.0) r.0 o n.2 r.2))
 
   readdir_decided : (path : List ℕ) (o : Outcome) → ReadyTo (call.Readdir path) o → IsDecided limits world session (call.Readdir path) o
   readdir_decided path o r =
-      let k = called world session path (λ s names. found.ok (calls.Readdir s names)) r.0 r.1 in
-      let t = readdir_tells limits world k.caller k.names o (goes_on (calls.Readdir k.caller k.names) r.0 o k.passed r.2) in
+      let k = called world session path (λ s names. found.ok (deciding.readdir s names)) r.0 r.1 in
+      let t = readdir_tells limits world k.caller k.names o (goes_on (deciding.readdir k.caller k.names) r.0 o k.passed r.2) in
       tells_decided (call.Readdir path) refl o (reply.Names t.0) (λ refusal e. cc e) t.1
 
   logout_decided : (o : Outcome) → ReadyTo call.Logout o → IsDecided limits world session call.Logout o
   logout_decided o r =
-      let k = seated (λ _. found.ok calls.Logout) r.0 r.1 in
-      logout_is limits world session o (goes_on calls.Logout r.0 o k.2 r.2)
+      let k = seated (λ _. found.ok deciding.logout) r.0 r.1 in
+      logout_is limits world session o (goes_on deciding.logout r.0 o k.2 r.2)
 
   open_decided : (path : List ℕ) (flags : OpenFlags) (mode : ℕ) (o : Outcome) → ReadyTo (call.Open path flags mode) o → IsDecided limits world session (call.Open path flags mode) o
   open_decided path flags mode o r =
-      let k = called world session path (λ s names. flags_argument flags >>= (λ asked. new_mode_argument mode >>= (λ bits. found.ok (calls.Open session s names asked bits)))) r.0 r.1 in
-      let f = bind_ok (flags_argument flags) (λ asked. new_mode_argument mode >>= (λ bits. found.ok (calls.Open session k.caller k.names asked bits))) r.0 k.passed in
-      let m = bind_ok (new_mode_argument mode) (λ bits. found.ok (calls.Open session k.caller k.names f.0 bits)) r.0 f.2 in
-      let e = goes_on (calls.Open session k.caller k.names f.0 m.0) r.0 o m.2 r.2 in
+      let k = called world session path (λ s names. flags_argument flags >>= (λ asked. new_mode_argument mode >>= (λ bits. found.ok (deciding.opening session s names asked bits)))) r.0 r.1 in
+      let f = bind_ok (flags_argument flags) (λ asked. new_mode_argument mode >>= (λ bits. found.ok (deciding.opening session k.caller k.names asked bits))) r.0 k.passed in
+      let m = bind_ok (new_mode_argument mode) (λ bits. found.ok (deciding.opening session k.caller k.names f.0 bits)) r.0 f.2 in
+      let e = goes_on (deciding.opening session k.caller k.names f.0 m.0) r.0 o m.2 r.2 in
       opening_is limits world session k.caller k.names path flags f.0 mode m.0 o k.called_by f.1
       (λ directory number some_links whole at free.
-      let own = new_file k.caller m.0 (attributes_of world.live directory at.parent) at.parent.default_acl in
+      let own = first_ownership File k.caller m.0 (attributes_of world.live directory at.parent) at.parent.default_acl in
       let owned = new_file_ownership limits k.caller m.0 world.live directory at.parent (caller_is world session k.caller whole.callers k.called_by) (mode_is mode m.0 m.1) (whole.live.nodes.nodes directory at.parent at.there) in
       ap is_some (place_applies limits world.live k.names directory number File own some_links whole.live (path_names path k.names k.read) at free owned)) e
 
   close_decided : (fd : ℕ) (o : Outcome) → ReadyTo (call.Close fd) o → IsDecided limits world session (call.Close fd) o
   close_decided fd o r =
-      let k = seated (λ _. found.ok (calls.Close session fd)) r.0 r.1 in
-      close_is limits world session fd o (goes_on (calls.Close session fd) r.0 o k.2 r.2)
+      let k = seated (λ _. found.ok (deciding.close session fd)) r.0 r.1 in
+      close_is limits world session fd o (goes_on (deciding.close session fd) r.0 o k.2 r.2)
 
   read_decided : (fd count : ℕ) (o : Outcome) → ReadyTo (call.Read fd count) o → IsDecided limits world session (call.Read fd count) o
   read_decided fd count o r =
-      let k = seated (λ _. count_argument count >>= (λ many. found.ok (calls.Read session fd many))) r.0 r.1 in
-      let n = bind_ok (count_argument count) (λ many. found.ok (calls.Read session fd many)) r.0 k.2 in
-      reads_is limits world session fd count n.0 o (goes_on (calls.Read session fd n.0) r.0 o n.2 r.2)
+      let k = seated (λ _. count_argument count >>= (λ many. found.ok (deciding.read session fd many))) r.0 r.1 in
+      let n = bind_ok (count_argument count) (λ many. found.ok (deciding.read session fd many)) r.0 k.2 in
+      reads_is limits world session fd count n.0 o (goes_on (deciding.read session fd n.0) r.0 o n.2 r.2)
 
   write_decided : (fd : ℕ) (bytes : List ℕ) (o : Outcome) → ReadyTo (call.Write fd bytes) o → IsDecided limits world session (call.Write fd bytes) o
   write_decided fd bytes o r =
-      let k = seated (λ _. bytes_argument bytes >>= (λ new. found.ok (calls.Write session fd new))) r.0 r.1 in
-      let n = bind_ok (bytes_argument bytes) (λ new. found.ok (calls.Write session fd new)) r.0 k.2 in
-      write_is limits world session fd bytes n.0 o (bytes_are bytes n.0 n.1) (goes_on (calls.Write session fd n.0) r.0 o n.2 r.2)
+      let k = seated (λ _. bytes_argument bytes >>= (λ new. found.ok (deciding.write session fd new))) r.0 r.1 in
+      let n = bind_ok (bytes_argument bytes) (λ new. found.ok (deciding.write session fd new)) r.0 k.2 in
+      write_is limits world session fd bytes n.0 o (bytes_are bytes n.0 n.1) (goes_on (deciding.write session fd n.0) r.0 o n.2 r.2)
 
   seek_decided : (fd offset : ℕ) (o : Outcome) → ReadyTo (call.Seek fd offset) o → IsDecided limits world session (call.Seek fd offset) o
   seek_decided fd offset o r =
-      let k = seated (λ _. found.ok (calls.Seek session fd offset)) r.0 r.1 in
-      seek_is limits world session fd offset o (goes_on (calls.Seek session fd offset) r.0 o k.2 r.2)
+      let k = seated (λ _. found.ok (deciding.seek session fd offset)) r.0 r.1 in
+      seek_is limits world session fd offset o (goes_on (deciding.seek session fd offset) r.0 o k.2 r.2)
 
   ftruncate_decided : (fd size : ℕ) (o : Outcome) → ReadyTo (call.Ftruncate fd size) o → IsDecided limits world session (call.Ftruncate fd size) o
   ftruncate_decided fd size o r =
-      let k = seated (λ _. found.ok (calls.Ftruncate session fd size)) r.0 r.1 in
-      ftruncate_is limits world session fd size o (goes_on (calls.Ftruncate session fd size) r.0 o k.2 r.2)
+      let k = seated (λ _. found.ok (deciding.ftruncate session fd size)) r.0 r.1 in
+      ftruncate_is limits world session fd size o (goes_on (deciding.ftruncate session fd size) r.0 o k.2 r.2)
 
   sync_decided : (o : Outcome) → ReadyTo call.Sync o → IsDecided limits world session call.Sync o
   sync_decided o r =
-      let k = seated (λ _. found.ok calls.Sync) r.0 r.1 in
-      asked call.Sync o 0 Plain refl (refl, refl) (λ h. tt) refl tt tt (same_ok _ o (goes_on calls.Sync r.0 o k.2 r.2))
+      let k = seated (λ _. found.ok deciding.sync) r.0 r.1 in
+      asked call.Sync o 0 Plain refl (refl, refl) (λ h. tt) refl tt tt (same_ok _ o (goes_on deciding.sync r.0 o k.2 r.2))
 
   snap_create_decided : (name : List ℕ) (o : Outcome) → ReadyTo (call.SnapCreate name) o → IsDecided limits world session (call.SnapCreate name) o
   snap_create_decided name o r =
-      let p = bind_ok (logged_in world session) (λ s. snapshot_argument name >>= (λ new. found.ok (calls.SnapCreate s new))) r.0 r.1 in
-      let n = bind_ok (snapshot_argument name) (λ new. found.ok (calls.SnapCreate p.0 new)) r.0 p.2 in
-      let is = create_is limits world p.0 n.0 o (goes_on (calls.SnapCreate p.0 n.0) r.0 o n.2 r.2) in
+      let p = bind_ok (logged_in world session) (λ s. snapshot_argument name >>= (λ new. found.ok (deciding.snap_create s new))) r.0 r.1 in
+      let n = bind_ok (snapshot_argument name) (λ new. found.ok (deciding.snap_create p.0 new)) r.0 p.2 in
+      let is = create_is limits world p.0 n.0 o (goes_on (deciding.snap_create p.0 n.0) r.0 o n.2 r.2) in
       asked (call.SnapCreate name) o 0 (Freezes n.0) refl (refl, refl) (λ h. tt) refl (argument_is name n.0 n.1, is.1, is.2) tt is.0
 
   snap_delete_decided : (name : List ℕ) (o : Outcome) → ReadyTo (call.SnapDelete name) o → IsDecided limits world session (call.SnapDelete name) o
   snap_delete_decided name o r =
-      let p = bind_ok (logged_in world session) (λ s. snapshot_argument name >>= (λ old. found.ok (calls.SnapDelete s old))) r.0 r.1 in
-      let n = bind_ok (snapshot_argument name) (λ old. found.ok (calls.SnapDelete p.0 old)) r.0 p.2 in
-      let is = delete_is world p.0 n.0 o (goes_on (calls.SnapDelete p.0 n.0) r.0 o n.2 r.2) in
+      let p = bind_ok (logged_in world session) (λ s. snapshot_argument name >>= (λ old. found.ok (deciding.snap_delete s old))) r.0 r.1 in
+      let n = bind_ok (snapshot_argument name) (λ old. found.ok (deciding.snap_delete p.0 old)) r.0 p.2 in
+      let is = delete_is world p.0 n.0 o (goes_on (deciding.snap_delete p.0 n.0) r.0 o n.2 r.2) in
       asked (call.SnapDelete name) o 0 (Thaws n.0) refl (refl, refl) (λ h. tt) refl is.1 tt is.0
 
   snap_restore_decided : (name : List ℕ) (o : Outcome) → ReadyTo (call.SnapRestore name) o → IsDecided limits world session (call.SnapRestore name) o
   snap_restore_decided name o r =
-      let p = bind_ok (logged_in world session) (λ s. snapshot_argument name >>= (λ old. found.ok (calls.SnapRestore s old))) r.0 r.1 in
-      let n = bind_ok (snapshot_argument name) (λ old. found.ok (calls.SnapRestore p.0 old)) r.0 p.2 in
-      let is = restore_is limits world p.0 n.0 o (goes_on (calls.SnapRestore p.0 n.0) r.0 o n.2 r.2) in
+      let p = bind_ok (logged_in world session) (λ s. snapshot_argument name >>= (λ old. found.ok (deciding.snap_restore s old))) r.0 r.1 in
+      let n = bind_ok (snapshot_argument name) (λ old. found.ok (deciding.snap_restore p.0 old)) r.0 p.2 in
+      let is = restore_is limits world p.0 n.0 o (goes_on (deciding.snap_restore p.0 n.0) r.0 o n.2 r.2) in
       asked (call.SnapRestore name) o (limits.inode_charge * nameless_if (map.get world.frozen n.0)) (Restores n.0) refl (refl, refl) (λ h. cc h) refl (is.1, is.2) tt is.0
 
   snap_list_decided : (o : Outcome) → ReadyTo call.SnapList o → IsDecided limits world session call.SnapList o
   snap_list_decided o r =
-      let k = seated (λ _. found.ok calls.SnapList) r.0 r.1 in
-      tells_decided call.SnapList refl o (reply.Names (map.keys world.frozen)) (λ refusal e. cc e) (sym (same_ok _ o (goes_on calls.SnapList r.0 o k.2 r.2)))
+      let k = seated (λ _. found.ok deciding.snap_list) r.0 r.1 in
+      tells_decided call.SnapList refl o (reply.Names (map.keys world.frozen)) (λ refusal e. cc e) (sym (same_ok _ o (goes_on deciding.snap_list r.0 o k.2 r.2)))
 
   by_call : (c : Call) (o : Outcome) → ReadyTo c o → IsDecided limits world session c o
   by_call (call.Login uid gid groups) o r = login_decided uid gid groups o r

@@ -34,7 +34,8 @@ use Rattle.sn_model.specs.Tests.{plain, logged_in, path_argument, prefix, walked
 use Rattle.sn_model.specs.declared.reply.Reply.TheVariants as reply
 use Rattle.sn_limits.specs.declared.limits.Limits.{Limits}
 use Rattle.sn_model.specs.Outcomes.{Outcome, tells, makes}
-use Rattle.sn_model.specs.Calls.{seen, mkdir_outcome, stat_outcome, status_of, new_directory, last_name}
+use Rattle.sn_model.specs.FileCalls.{first_ownership}
+use Rattle.sn_model.specs.Calls.{seen, mkdir_outcome, stat_outcome, status_of, last_name}
 
 abbrev pub ok : {A : Type 0} → A → Result A Refusal
 ok x = Ok x
@@ -121,18 +122,18 @@ pub record HasPlace (limits : Limits) (tree : Tree) (names : List (List ℕ)) (d
 pub record Made (limits : Limits) (tree : Tree) (s : Session) (names : List (List ℕ)) (mode : Mode) (o : Outcome) : Type 0 where
   pub directory : ℕ
   pub at : HasPlace limits tree names directory
-  pub made : o ≡ makes (2 * limits.inode_charge + limits.block_charge) (link_to directory (last_name names)) Directory (new_directory s mode (attributes_of tree directory at.parent) at.parent.default_acl)
+  pub made : o ≡ makes (2 * limits.inode_charge + limits.block_charge) (link_to directory (last_name names)) Directory (first_ownership Directory s mode (attributes_of tree directory at.parent) at.parent.default_acl)
 
 pub default_at : (tree : Tree) (directory : ℕ) (parent : Node) → map.get tree.nodes directory ≡ Some parent → (viewed tree).default_acl directory ≡ parent.default_acl
 default_at tree directory parent e = ap (option_and_then (λ (node : Node). node.default_acl)) e
 
 abbrev mkdir_last : Limits → World → Session → List (List ℕ) → Mode → ℕ → Attributes → Result Outcome Refusal
-mkdir_last limits world s names mode directory parent = Ok (makes (2 * limits.inode_charge + limits.block_charge) (link_to directory (last_name names)) Directory (new_directory s mode parent ((viewed world.live).default_acl directory)))
+mkdir_last limits world s names mode directory parent = Ok (makes (2 * limits.inode_charge + limits.block_charge) (link_to directory (last_name names)) Directory (first_ownership Directory s mode parent ((viewed world.live).default_acl directory)))
 
 made_as : (limits : Limits) (world : World) (s : Session) (names : List (List ℕ)) (mode : Mode) (directory : ℕ) (p : Attributes) (parent : Node) (o : Outcome) → mkdir_last limits world s names mode directory p ≡ Ok o → p ≡ attributes_of world.live directory parent → map.get world.live.nodes directory ≡ Some parent
-    → o ≡ makes (2 * limits.inode_charge + limits.block_charge) (link_to directory (last_name names)) Directory (new_directory s mode (attributes_of world.live directory parent) parent.default_acl)
+    → o ≡ makes (2 * limits.inode_charge + limits.block_charge) (link_to directory (last_name names)) Directory (first_ownership Directory s mode (attributes_of world.live directory parent) parent.default_acl)
 made_as limits world s names mode directory p parent o e seen there =
-    let made = λ (a : Attributes) (d : Option (List Entry)). makes (2 * limits.inode_charge + limits.block_charge) (link_to directory (last_name names)) Directory (new_directory s mode a d) in
+    let made = λ (a : Attributes) (d : Option (List Entry)). makes (2 * limits.inode_charge + limits.block_charge) (link_to directory (last_name names)) Directory (first_ownership Directory s mode a d) in
     sym (same_ok _ o e) ∙ ap (λ (a : Attributes). made a ((viewed world.live).default_acl directory)) seen ∙ ap (made (attributes_of world.live directory parent)) (default_at world.live directory parent there)
 
 -- an access that is asked of a live directory is granted by its node

@@ -34,7 +34,8 @@ use Rattle.sn_limits.specs.declared.kind.Kind.TheVariants.{Directory}
 use Rattle.sn_model.specs.Tree.{Tree, least_unused, link_to, names_in}
 use Rattle.sn_model.specs.World.{World, trees_of, viewed_trees}
 use Rattle.sn_model.specs.Outcomes.{makes, tells}
-use Rattle.sn_model.specs.Calls.{mkdir_outcome, new_directory, last_name, seen, stat_outcome, status_of}
+use Rattle.sn_model.specs.FileCalls.{first_ownership}
+use Rattle.sn_model.specs.Calls.{mkdir_outcome, last_name, seen, stat_outcome, status_of}
 use Rattle.sn_model.specs.Tests.{plain, denied, search, write, rights_of, obstacle_refusal, walked, prefix, there, full, not_present, live, unless_denied, granted, writable_parent, has_room}
 use Rattle.sn_model.specs.Denials.{led_to, at_place, IsByRule}
 
@@ -283,7 +284,7 @@ module _ (limits : Limits) (world : World) (s : Session) (names : List (List ℕ
   Denied_there = IsDeniedAt trees s.cred 1 names r
 
   abbrev last_of_mkdir : ℕ → Attributes → Result Outcome Refusal
-  last_of_mkdir directory parent = Ok (makes (2 * limits.inode_charge + limits.block_charge) (link_to directory (last_name names)) Directory (new_directory s mode parent ((trees.tree Live).default_acl directory)))
+  last_of_mkdir directory parent = Ok (makes (2 * limits.inode_charge + limits.block_charge) (link_to directory (last_name names)) Directory (first_ownership Directory s mode parent ((trees.tree Live).default_acl directory)))
 
   abbrev roomy : ℕ → Attributes → Result Outcome Refusal
   roomy d p = has_room limits world.live d >>= (λ _. last_of_mkdir d p)

@@ -18,7 +18,7 @@ use Rattle.sn_model.specs.declared.reply.Errno.TheVariants.{Ebadf, Efbig, Einval
 use Rattle.sn_model.specs.declared.reply.Reply.TheVariants as reply
 use Rattle.sn_model.specs.Changes.{cut, is_file, written}
 use Rattle.sn_model.specs.Descriptors.{Descriptors, descriptor_at, for_reading, for_writing, found as found_in, is_offset, readable_at, writable_at}
-use Rattle.sn_model.specs.FileCalls.{bytes_argument, bytes_of, close_outcome, count_argument, cuts, file_charge, ftruncate_outcome, is_size, logout_outcome, open_bytes, read_outcome, reads, seek_outcome, write_offset, write_outcome, write_some, writes}
+use Rattle.sn_model.specs.FileCalls.{bytes_argument, bytes_of, close_outcome, count_argument, cuts, file_charge, ftruncate_outcome, is_size, open_bytes, read_outcome, reads, seek_outcome, write_offset, write_outcome, write_some, writes}
 use Rattle.sn_model.specs.NameTree.{HasKind, IsTree}
 use Rattle.sn_model.specs.Outcomes.{Closes, LogsOut, Moves, Outcome, tells, asks}
 use Rattle.sn_model.specs.Tests.{plain}
@@ -130,7 +130,7 @@ module _ (limits : Limits) (world : World) (session : ℕ) where
   Decides c o = IsDecided limits world session c o
 
   -- a session ends
-  pub logout_is : (o : Outcome) → ok logout_outcome ≡ Ok o → Decides call.Logout o
+  pub logout_is : (o : Outcome) → ok (asks LogsOut reply.Done) ≡ Ok o → Decides call.Logout o
   logout_is o e = subst (Decides call.Logout) (same_ok _ o e) (turned limits world session call.Logout refl LogsOut reply.Done (λ r f. cc f) (λ f. cc f) (λ k w. tt))
 
   pub close_is : (fd : ℕ) (o : Outcome) → close_outcome world.descriptors session fd ≡ Ok o → Decides (call.Close fd) o

@@ -54,3 +54,4 @@ pub mod NameCallLemmas
 pub mod RenameLemmas
 pub mod NameLawLemmas
 pub mod OtherCallLemmas
+pub mod Deciding

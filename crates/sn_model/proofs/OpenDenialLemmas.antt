@@ -2,6 +2,7 @@
 use Rattle.std.proofs.Common.{◌≡◌, ◌⊎◌, inl, inr, ℕ, Bool, true, false, cond, List, [], ◌∷◌, Option, Some, None, Result, Ok, Err, refl, sym, ap, ◌∙◌, arith}
 use Rattle.sn_acl.specs.Credential.{Credential}
 use Rattle.sn_acl.specs.declared.modes.Mode.{Mode}
+use Rattle.sn_limits.specs.declared.kind.Kind.TheVariants.{File}
 use Rattle.sn_limits.specs.declared.limits.Limits.{Limits}
 use Rattle.sn_walk.specs.declared.object.Home.{Home}
 use Rattle.sn_walk.specs.declared.object.Object.{Object}
@@ -23,7 +24,7 @@ use Rattle.sn_model.specs.AccessCalls.{live_if}
 use Rattle.sn_model.specs.Calls.{seen}
 use Rattle.sn_model.specs.Denials.{at_place}
 use Rattle.sn_model.specs.Descriptors.{Descriptors, given, next_descriptor}
-use Rattle.sn_model.specs.FileCalls.{OpenFlags, access_of, creating, file, file_of, new_file, no_directory, not_exclusive, open_absent, open_found, open_outcome, open_there, opens_new, opens_there, unlink_outcome, unlinks}
+use Rattle.sn_model.specs.FileCalls.{OpenFlags, access_of, creating, file, file_of, first_ownership, no_directory, not_exclusive, open_absent, open_found, open_outcome, open_there, opens_new, opens_there, unlink_outcome, unlinks}
 use Rattle.sn_model.specs.Seen.{last_name, parent_of}
 use Rattle.sn_model.specs.Tests.{granted, has_room, live, may_remove, plain, prefix, sticky, there, write, writable_parent}
 use Rattle.sn_model.specs.Tree.{viewed}
@@ -131,7 +132,7 @@ module _ (r : Refusal) (is : r.errno ≡ Eacces) where
     absent_denied : (fd : ℕ) (flags : OpenFlags) (mode : Mode) (w : Walked) → walk_of trees s.cred names ≡ Ok w → open_absent limits (seen limits world) s fd flags mode names w ≡ Err r → Denied trees s names
     unfolding open_absent
     absent_denied fd flags mode w walked =
-        let last = λ (d : ℕ) (p : Attributes). ok (opens_new limits flags fd d (last_name names) (new_file s mode p ((viewed world.live).default_acl d))) in
+        let last = λ (d : ℕ) (p : Attributes). ok (opens_new limits flags fd d (last_name names) (first_ownership File s mode p ((viewed world.live).default_acl d))) in
         then trees s names (creating flags) (λ _. parent_of Enoent w >>= (λ at. live at.0 >>= (λ d. writable_parent trees s.cred 1 at.1 at.0 >>= (λ p. has_room limits world.live d >>= (λ _. last d p))))) (λ h. absurd (create_other h)) (λ u no.
         then trees s names (parent_of Enoent w) (λ at. live at.0 >>= (λ d. writable_parent trees s.cred 1 at.1 at.0 >>= (λ p. has_room limits world.live d >>= (λ _. last d p)))) (λ h. absurd (parent_other Enoent (λ q. cc q) w h)) (λ at parent.
         then trees s names (live at.0) (λ d. writable_parent trees s.cred 1 at.1 at.0 >>= (λ p. has_room limits world.live d >>= (λ _. last d p))) (λ h. absurd (live_other at.0 r h is)) (λ d alive.

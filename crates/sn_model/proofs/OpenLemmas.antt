@@ -1,5 +1,5 @@
 -- What the calls on files by their names come to.
-use Rattle.std.proofs.Common.{◌≡◌, ℕ, ◌+◌, ◌*◌, ◌&&◌, ◌||◌, ◌<◌, Bool, true, false, cond, List, [], ◌∷◌, Option, Some, None, Result, Ok, Err, is_some, refl, sym, ap, subst, ◌∙◌, inr, arith, true≢false}
+use Rattle.std.proofs.Common.{◌≡◌, ℕ, ◌+◌, ◌*◌, ◌&&◌, ◌||◌, ◌<◌, Bool, true, false, cond, not, List, [], ◌∷◌, Option, Some, None, Result, Ok, Err, is_some, refl, sym, ap, subst, ◌∙◌, inr, arith, true≢false}
 use Rattle.std.specs.Prelude.{IsSomeAnd}
 use Rattle.std.specs.FinMap as map
 use Rattle.std.specs.Option.{option_map}
@@ -37,7 +37,7 @@ use Rattle.sn_model.specs.Calls.{seen}
 use Rattle.sn_model.specs.Changes.{cut, is_file, made, removed, take_link}
 use Rattle.sn_model.specs.Charges.{charge_for}
 use Rattle.sn_model.specs.Descriptors.{given, next_descriptor}
-use Rattle.sn_model.specs.FileCalls.{OpenFlags, access_of, are_flags, creating, file, file_of, flags_argument, new_file, no_directory, not_exclusive, open_absent, open_found, open_outcome, open_there, opens_new, opens_there, or_not, unlink_outcome, unlinks}
+use Rattle.sn_model.specs.FileCalls.{OpenFlags, access_of, are_flags, creating, file, file_of, first_ownership, flags_argument, no_directory, not_exclusive, open_absent, open_found, open_outcome, open_there, opens_new, opens_there, unlink_outcome, unlinks}
 use Rattle.sn_model.specs.NameTree.{HasKind}
 use Rattle.sn_model.specs.Outcomes.{Outcome, Opens}
 use Rattle.sn_model.specs.Seen.{last_name, parent_of}
@@ -206,9 +206,9 @@ module _ (limits : Limits) (world : World) (session : ℕ) (s : Session) (names 
 
   -- to truncate is to write
   truncates : (flags : OpenFlags) → are_flags flags ≡ true → flags.truncate ≡ true → flags.write ≡ true
-  truncates flags e t = told flags.read flags.write flags.append flags.truncate (or_not flags.exclusive flags.create) e t
+  truncates flags e t = told flags.read flags.write flags.append flags.truncate (not flags.exclusive || flags.create) e t
     where
-      told : (r w a t x : Bool) → ((r || w) && or_not (a || t) w && x) ≡ true → t ≡ true → w ≡ true
+      told : (r w a t x : Bool) → ((r || w) && (not (a || t) || w) && x) ≡ true → t ≡ true → w ≡ true
       told r true a t x f g = refl
       told true false true t x f g = cc
       told true false false true x f g = cc
@@ -290,12 +290,12 @@ module _ (limits : Limits) (world : World) (session : ℕ) (s : Session) (names 
               }
 
   abbrev pub Applies : Mode → Type 0
-  Applies mode = (directory number : ℕ) → 0 < limits.links → IsWorld limits world → (at : HasPlace limits world.live names directory) → IsNumber limits world.live number → is_some (made limits world.live (link_to directory (last_name names)) number File (new_file s mode (attributes_of world.live directory at.parent) at.parent.default_acl)) ≡ true
+  Applies mode = (directory number : ℕ) → 0 < limits.links → IsWorld limits world → (at : HasPlace limits world.live names directory) → IsNumber limits world.live number → is_some (made limits world.live (link_to directory (last_name names)) number File (first_ownership File s mode (attributes_of world.live directory at.parent) at.parent.default_acl)) ≡ true
 
   absent_opens : (path : List ℕ) (asked flags : OpenFlags) (argument : ℕ) (mode : Mode) (fd : ℕ) (o : Outcome) (w : Walked) → IsOpening world session fd → EndsAt trees names w → found_at trees w ≡ None → Applies mode → open_absent limits (seen limits world) s fd flags mode names w ≡ Ok o → Decides (call.Open path asked argument) o
   unfolding open_absent
   absent_opens path asked flags argument mode fd o w opening ends none applies e =
-      let last = λ (d : ℕ) (p : Attributes). ok (opens_new limits flags fd d (last_name names) (new_file s mode p ((viewed world.live).default_acl d))) in
+      let last = λ (d : ℕ) (p : Attributes). ok (opens_new limits flags fd d (last_name names) (first_ownership File s mode p ((viewed world.live).default_acl d))) in
       let c = bind_ok (creating flags) (λ _. parent_of Enoent w >>= (λ at. live at.0 >>= (λ d. writable_parent trees s.cred 1 at.1 at.0 >>= (λ p. has_room limits world.live d >>= (λ _. last d p))))) o e in
       let at = bind_ok (parent_of Enoent w) (λ at. live at.0 >>= (λ d. writable_parent trees s.cred 1 at.1 at.0 >>= (λ p. has_room limits world.live d >>= (λ _. last d p)))) o c.2 in
       let d = bind_ok (live at.0.0) (λ d. writable_parent trees s.cred 1 at.0.1 at.0.0 >>= (λ p. has_room limits world.live d >>= (λ _. last d p))) o at.2 in
@@ -320,12 +320,12 @@ module _ (limits : Limits) (world : World) (session : ℕ) (s : Session) (names 
     where
       -- the directory as it was seen is the node that is there
       same_new : (d : ℕ) (p : Attributes) (number : ℕ) (place : HasPlace limits world.live names d) → (x : Node) × (map.get world.live.nodes d ≡ Some x) × (p ≡ attributes_of world.live d x)
-          → is_some (made limits world.live (link_to d (last_name names)) number File (new_file s mode (attributes_of world.live d place.parent) place.parent.default_acl)) ≡ true
-          → is_some (made limits world.live (link_to d (last_name names)) number File (new_file s mode p ((viewed world.live).default_acl d))) ≡ true
+          → is_some (made limits world.live (link_to d (last_name names)) number File (first_ownership File s mode (attributes_of world.live d place.parent) place.parent.default_acl)) ≡ true
+          → is_some (made limits world.live (link_to d (last_name names)) number File (first_ownership File s mode p ((viewed world.live).default_acl d))) ≡ true
       same_new d p number place x h =
           let both : Some x.0 ≡ Some place.parent = sym x.1 ∙ place.there in
           let same : x.0 ≡ place.parent = cc in
-          let gives = λ (a : Attributes) (acl : Option (List Entry)). is_some (made limits world.live (link_to d (last_name names)) number File (new_file s mode a acl)) in
+          let gives = λ (a : Attributes) (acl : Option (List Entry)). is_some (made limits world.live (link_to d (last_name names)) number File (first_ownership File s mode a acl)) in
           ap (λ (a : Attributes). gives a ((viewed world.live).default_acl d)) (x.2 ∙ ap (attributes_of world.live d) same) ∙ ap (gives (attributes_of world.live d place.parent)) (default_at world.live d place.parent place.there) ∙ h
 
   found_opens : (path : List ℕ) (asked flags : OpenFlags) (argument : ℕ) (mode : Mode) (fd : ℕ) (o : Outcome) (w : Walked) → IsOpening world session fd → are_flags flags ≡ true → EndsAt trees names w → Applies mode → (f : Option Found) → found_at trees w ≡ f → open_found limits (seen limits world) s fd flags mode names w f ≡ Ok o → Decides (call.Open path asked argument) o

@@ -10,7 +10,7 @@ use Rattle.sn_model.specs.declared.reply.Reply.{Reply}
 use Rattle.sn_model.specs.declared.reply.Reply.TheVariants as answer
 use Rattle.sn_model.specs.declared.session.Session.{Session}
 use Rattle.sn_model.specs.AccessCalls.{umask_outcome}
-use Rattle.sn_model.specs.Calls as calls
+use Rattle.sn_model.proofs.Deciding as deciding
 use Rattle.sn_model.specs.Calls.{outcome_of}
 use Rattle.sn_model.specs.Outcomes.{Outcome}
 use Rattle.sn_model.specs.Steps.{Becomes, Step, decision, masked, with_live, with_session, with_umask}
@@ -27,8 +27,8 @@ use Rattle.sn_model.proofs.DecisionLemmas.{ok}
 module _ (limits : Limits) (old new : World) (session argument : ℕ) (s : Session) (mask : Mode) (whole : IsWorld limits old) (by : logged_in old session ≡ Ok s) (read : new_mode_argument argument ≡ Ok mask) where
   decides : decision limits old session (call.Umask argument) ≡ ok (umask_outcome s mask)
   decides =
-      ap (λ (r : Result Session Refusal). (r >>= (λ x. new_mode_argument argument >>= (λ bits. ok (calls.Umask x bits)))) >>= outcome_of limits old) by
-      ∙ ap (λ (r : Result Mode Refusal). (r >>= (λ bits. ok (calls.Umask s bits))) >>= outcome_of limits old) read
+      ap (λ (r : Result Session Refusal). (r >>= (λ x. new_mode_argument argument >>= (λ bits. ok (deciding.umask x bits)))) >>= outcome_of limits old) by
+      ∙ ap (λ (r : Result Mode Refusal). (r >>= (λ bits. ok (deciding.umask s bits))) >>= outcome_of limits old) read
 
   pub umask_sets : (reply : Reply) → Step limits old session (call.Umask argument) reply new → (reply ≡ answer.Mode s.umask) × (new ≡ with_session old session (record s { umask = mask }))
   umask_sets reply (inr h) = absurd h.takes

@@ -1,5 +1,6 @@
 -- What a call is charged for: the blocks that a consistency point may take for its change, or for the files without names of a snapshot that it brings back.
-use Rattle.std.specs.Prelude.{◌≡◌, ℕ, ◌+◌, ◌*◌, length, Option, None, Some, if◌then◌else◌}
+use Rattle.std.specs.Prelude.{◌≡◌, ℕ, ◌+◌, ◌*◌, length, if◌then◌else◌}
+use Rattle.std.specs.Option.{option_map_or}
 use Rattle.std.specs.FinMap as map
 use Rattle.sn_limits.specs.declared.limits.Limits.{Limits}
 use Rattle.sn_model.specs.declared.change.Change.{Change}
@@ -9,20 +10,12 @@ use Rattle.sn_model.specs.Changes.{is_file}
 use Rattle.sn_model.specs.FileCalls.{blocks_spanned}
 use Rattle.sn_model.specs.Outcomes.{AskedPoint, Restores, Pending, Nothing, Makes, Does, Outcome}
 use Rattle.sn_model.specs.Settling.{nameless_if}
-use Rattle.sn_model.specs.Tree.{Node, Tree, link_to}
+use Rattle.sn_model.specs.Tree.{Tree, link_to}
 use Rattle.sn_model.specs.World.{World}
 
 -- a file that is found under a name, as a number
 abbrev pub file_under : Tree → Link → ℕ
-file_under tree link = counted (map.get tree.links link)
-  where
-    is_one : Option Node → ℕ
-    is_one None = 0
-    is_one (Some node) = if is_file node.kind then 1 else 0
-
-    counted : Option ℕ → ℕ
-    counted None = 0
-    counted (Some number) = is_one (map.get tree.nodes number)
+file_under tree link = option_map_or (λ number. option_map_or (λ node. if is_file node.kind then 1 else 0) (map.get tree.nodes number) 0) (map.get tree.links link) 0
 
 -- A change is charged for each inode that it may touch, one more where a file may stay without names, and for each directory or data block.
 abbrev pub charge_for : Limits → Tree → Change → ℕ

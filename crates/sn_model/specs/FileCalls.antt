@@ -6,6 +6,7 @@ use Rattle.std.specs.Option.{option_and_then, option_map_or}
 use Rattle.sn_acl.specs.declared.entries.Entry.{Entry}
 use Rattle.sn_acl.specs.declared.modes.Mode.{Mode}
 use Rattle.sn_acl.specs.Inheritance.{inherited_access, inherited_default}
+use Rattle.sn_limits.specs.declared.kind.Kind.{Kind}
 use Rattle.sn_limits.specs.declared.kind.Kind.TheVariants.{File}
 use Rattle.sn_limits.specs.declared.limits.Limits.{Limits}
 use Rattle.sn_walk.specs.declared.object.Home.{Home}
@@ -29,7 +30,7 @@ use Rattle.sn_model.specs.declared.reply.Reply.TheVariants.{Content, Done, Numbe
 use Rattle.sn_model.specs.declared.session.Session.{Session}
 use Rattle.sn_model.specs.AccessCalls.{live_if}
 use Rattle.sn_model.specs.Descriptors.{Descriptors, descriptor_at, is_offset, next_descriptor, readable_at, writable_at}
-use Rattle.sn_model.specs.Outcomes.{Outcome, Makes, Does, Closes, LogsOut, Moves, Opens, OpensNew, Unasked, does, tells, asks}
+use Rattle.sn_model.specs.Outcomes.{Outcome, Makes, Does, Closes, Moves, Opens, OpensNew, Unasked, does, tells, asks}
 use Rattle.sn_model.specs.Seen.{Seen, last_name, parent_of}
 use Rattle.sn_model.specs.Tests.{plain, prefix, there, live, granted, writable_parent, sticky}
 use Rattle.sn_model.specs.Tree.{Node as TreeNode}
@@ -37,12 +38,9 @@ use Rattle.sn_model.specs.World.{Descriptor, World, tree_in, trees_of}
 
 -- ---- arguments
 
-abbrev pub or_not : Bool → Bool → Bool
-or_not a b = not a || b
-
 -- reading or writing has to be asked for, to append and to truncate are ways of writing, and only what is created can be exclusive
 abbrev pub are_flags : OpenFlags → Bool
-are_flags f = (f.read || f.write) && or_not (f.append || f.truncate) f.write && or_not f.exclusive f.create
+are_flags f = (f.read || f.write) && (not (f.append || f.truncate) || f.write) && (not f.exclusive || f.create)
 
 abbrev pub flags_argument : OpenFlags → Result OpenFlags Refusal
 flags_argument flags = if are_flags flags then Ok flags else Err (plain Einval)
@@ -96,15 +94,15 @@ opens_there limits flags fd home number =
     then record { charge = file_charge limits 1; change = Does (SetSize number 0); caller = Opens fd home number flags; told = Number fd; point = Unasked }
     else asks (Opens fd home number flags) (Number fd)
 
--- a new file: its owner is the caller's; its group is a set-gid parent's, else the caller's; its ACL is inherited
-abbrev pub new_file : Session → Mode → Attributes → Option (List Entry) → Ownership
-new_file session mode parent default_acl = record {
+-- a new node: its owner is the caller's; its group is a set-gid parent's, else the caller's; its ACL is inherited, and so are a directory's S_ISGID and its default ACL
+abbrev pub first_ownership : Kind → Session → Mode → Attributes → Option (List Entry) → Ownership
+first_ownership kind session mode parent default_acl = record {
   owner = session.cred.uid;
   group = if parent.set_gid then parent.group else session.cred.gid;
-  set_gid = false;
+  set_gid = is_directory kind && parent.set_gid;
   sticky = false;
   acl = inherited_access default_acl mode session.umask;
-  default_acl = inherited_default default_acl false;
+  default_acl = inherited_default default_acl (is_directory kind);
 }
 
 abbrev pub opens_new : Limits → OpenFlags → ℕ → ℕ → List ℕ → Ownership → Outcome
@@ -161,7 +159,7 @@ open_in limits seen session fd flags mode names at place = do
   directory ← live at
   parent ← writable_parent seen.trees session.cred 1 place at
   _ ← seen.room directory
-  Ok (opens_new limits flags fd directory (last_name names) (new_file session mode parent ((seen.trees.tree Live).default_acl directory)))
+  Ok (opens_new limits flags fd directory (last_name names) (first_ownership File session mode parent ((seen.trees.tree Live).default_acl directory)))
 
 -- open of what isn't there: creating; then a new file
 unfoldable pub open_absent : Limits → Seen → Session → ℕ → OpenFlags → Mode → List (List ℕ) → Walked → Result Outcome Refusal
@@ -235,7 +233,3 @@ unlink_outcome limits trees session names = do
   parent ← writable_parent trees session.cred 1 at.1 at.0
   _ ← sticky session.cred 1 parent found
   Ok (unlinks limits (number_of at.0) (last_name names))
-
--- logout: all descriptors of the session are closed
-abbrev pub logout_outcome : Outcome
-logout_outcome = asks LogsOut Done

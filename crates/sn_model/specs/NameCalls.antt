@@ -64,10 +64,9 @@ not_below seen m = if is_directory m.found.attributes.kind && seen.names.is_belo
 
 -- a directory takes the place of a directory, a file that of a file
 abbrev pub alike : Kind → Kind → Result (Unit {0}) Refusal
-alike File File = Ok tt
-alike Directory Directory = Ok tt
 alike Directory File = Err (plain Enotdir)
 alike File Directory = Err (plain Eisdir)
+alike kind other = Ok tt
 
 abbrev pub empty_if : Bool → Bool → Result (Unit {0}) Refusal
 empty_if false is_empty = Ok tt

@@ -3,11 +3,9 @@ use Rattle.std.specs.Prelude.{◌≡◌, ℕ, Bool, true, false, not, ◌&&◌, 
 use Rattle.std.specs.Option.{option_map_or}
 use Rattle.std.specs.List.{list_any}
 use Rattle.std.specs.FinMap as map
-use Rattle.sn_limits.specs.declared.kind.Kind.{Kind}
-use Rattle.sn_limits.specs.declared.kind.Kind.TheVariants.{File, Directory}
 use Rattle.sn_model.specs.declared.change.Change.{Change}
 use Rattle.sn_model.specs.declared.change.Change.TheVariants.{Remove, Rename}
-use Rattle.sn_model.specs.Changes.{take_node}
+use Rattle.sn_model.specs.Changes.{is_file, take_node}
 use Rattle.sn_model.specs.Tree.{Node, Tree, link_to, names_for}
 use Rattle.sn_walk.specs.declared.object.Home.{Home}
 use Rattle.sn_walk.specs.declared.object.Home.TheVariants.{Live, Frozen}
@@ -15,11 +13,7 @@ use Rattle.sn_model.specs.World.{World}
 
 abbrev pub is_nameless : Tree → ℕ → Option Node → Bool
 is_nameless tree number None = false
-is_nameless tree number (Some node) = is_nameless_kind node.kind
-  where
-    is_nameless_kind : Kind → Bool
-    is_nameless_kind File = names_for tree number == 0
-    is_nameless_kind Directory = false
+is_nameless tree number (Some node) = is_file node.kind && names_for tree number == 0
 
 -- the tree without the files that have no name and that nothing holds
 abbrev pub without_nameless : (ℕ → Bool) → Tree → Tree

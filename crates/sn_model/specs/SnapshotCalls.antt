@@ -11,11 +11,10 @@ use Rattle.sn_walk.specs.Views.{ViewedTrees}
 use Rattle.sn_walk.specs.declared.object.Home.TheVariants.{Live, Frozen}
 use Rattle.sn_model.specs.declared.reply.Errno.TheVariants.{Ebusy, Eexist, Einval, Elimit, Enoent}
 use Rattle.sn_model.specs.declared.reply.Refusal.{Refusal}
-use Rattle.sn_model.specs.declared.reply.Reply.TheVariants as reply
 use Rattle.sn_model.specs.declared.reply.Rule.TheVariants as rule
 use Rattle.sn_model.specs.declared.session.Session.{Session}
 use Rattle.sn_model.specs.Descriptors.{Descriptors}
-use Rattle.sn_model.specs.Outcomes.{Outcome, Freezes, Thaws, Restores, points, points_for, tells}
+use Rattle.sn_model.specs.Outcomes.{Outcome, Freezes, Thaws, Restores, points, points_for}
 use Rattle.sn_model.specs.Settling.{nameless_if}
 use Rattle.sn_model.specs.Tests.{forbidden, plain}
 use Rattle.sn_model.specs.World.{World, trees_of, viewed_trees}
@@ -81,7 +80,3 @@ snap_restore_outcome limits world session name = do
   _ ← present_snapshot (viewed_trees (trees_of world)) name
   _ ← closed_live world
   Ok (points_for (limits.inode_charge * nameless_if (map.get world.frozen name)) (Restores name))
-
--- snap-list: the names of the snapshots, in the order of their bytes
-abbrev pub snap_list_outcome : World → Outcome
-snap_list_outcome world = tells (reply.Names (map.keys world.frozen))

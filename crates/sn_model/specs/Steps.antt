@@ -1,7 +1,7 @@
 -- What a call may answer while nothing fails, and the world that it leaves.
 use Rattle.std.specs.Prelude.{◌≡◌, ◌⊎◌, ℕ, ◌≤◌, ◌<◌, Bool, true, false, IsTrue, Option, None, Some, Result, Ok, Err, IsOk, slice_get, slice_set}
 use Rattle.std.specs.FinMap as map
-use Rattle.std.specs.Option.{option_map, option_map_or}
+use Rattle.std.specs.Option.{option_map, option_map_or, option_flatten}
 use Rattle.sn_acl.specs.declared.modes.Mode.{Mode}
 use Rattle.sn_limits.specs.declared.limits.Limits.{Limits}
 use Rattle.sn_model.specs.declared.call.Call.{Call}
@@ -20,7 +20,7 @@ use Rattle.sn_model.specs.Outcomes.{Pending, Nothing, Makes, Does, Caller, LogsI
 use Rattle.sn_model.specs.Settling.{dropped, settled}
 use Rattle.sn_walk.specs.declared.object.Home.TheVariants.{Live}
 use Rattle.sn_walk.specs.Chains.{◌>>=◌}
-use Rattle.sn_model.specs.Tests.{plain, flat}
+use Rattle.sn_model.specs.Tests.{plain}
 use Rattle.sn_model.specs.Calls.{ready, outcome_of}
 
 -- the first refusal of a call, or what it comes to
@@ -31,11 +31,8 @@ abbrev pub with_session : World → ℕ → Session → World
 with_session world session s = record world { sessions = slice_set world.sessions session (Some s) }
 
 -- whoever is logged in there, with another umask
-abbrev pub with_mask : Mode → Session → Session
-with_mask mask s = record s { umask = mask }
-
 abbrev pub masked : Mode → Option (Option Session) → Option Session
-masked mask found = option_map (with_mask mask) (flat found)
+masked mask found = option_map (λ (s : Session). record s { umask = mask }) (option_flatten found)
 
 abbrev pub with_umask : World → ℕ → Mode → World
 with_umask world session mask = record world { sessions = slice_set world.sessions session (masked mask (slice_get world.sessions session)) }

@@ -1,6 +1,6 @@
 -- The tests that calls are made of, in the words of the table of calls: POSIX.1-2017, 4.13 Pathname Resolution and 4.5 File Access Permissions, and acl(5) for the entry that denies. A test refuses, or hands on what it found.
 use Rattle.std.specs.Prelude.{ℕ, ◌+◌, ◌/◌, ◌%◌, ◌==◌, ◌||◌, not, Bool, true, false, nat_lt, nat_le, List, Option, None, Some, Result, Ok, Err, slice_get, is_none, if◌then◌else◌, ok_or}
-use Rattle.std.specs.Option.{option_map_or}
+use Rattle.std.specs.Option.{option_map_or, option_flatten}
 use Rattle.sn_acl.specs.declared.entries.Tag.{Tag}
 use Rattle.sn_acl.specs.declared.entries.Entry.{Entry}
 use Rattle.sn_acl.specs.declared.modes.Mode.{Mode}
@@ -51,12 +51,8 @@ abbrev pub denied : ℕ → ℕ → Access → Tag → Refusal
 denied path place want tag = record { errno = Eacces; denial = Some (record { path = path; place = place; want = want; rule = rule.Entry tag }) }
 
 -- who is logged in under a number of a session, which is 0 to 63
-abbrev pub flat : {A : Type 0} → Option (Option A) → Option A
-flat None = None
-flat (Some o) = o
-
 abbrev pub session_at : World → ℕ → Result (Option Session) Refusal
-session_at world session = if nat_lt session 64 then Ok (flat (slice_get world.sessions session)) else Err (plain Einval)
+session_at world session = if nat_lt session 64 then Ok (option_flatten (slice_get world.sessions session)) else Err (plain Einval)
 
 abbrev pub is_open : Option Session → Result Session Refusal
 is_open found = ok_or found (plain Ebadf)

@@ -1,5 +1,6 @@
 -- How the parts of replies are printed.
-use Rattle.std.specs.Prelude.{List, ◌++◌, Option, Some, None, ℕ, if◌then◌else◌, codes, decimal}
+use Rattle.std.specs.Prelude.{[], List, ◌++◌, ℕ, if◌then◌else◌, codes, decimal}
+use Rattle.std.specs.Option.{option_map_or}
 use Rattle.sn_acl.specs.Text.{tag_text}
 use Rattle.sn_model.specs.declared.fault.Damage.{Damage}
 use Rattle.sn_model.specs.declared.fault.Damage.TheVariants as damage
@@ -53,12 +54,8 @@ abbrev pub denial_text : Denial → List ℕ
 denial_text d = codes "path " ++ decimal d.path ++ codes " place " ++ decimal d.place
     ++ codes " want " ++ access_text d.want ++ codes " by " ++ rule_text d.rule
 
-abbrev pub refusal_text_with : Errno → Option Denial → List ℕ
-refusal_text_with e None = errno_name e
-refusal_text_with e (Some d) = errno_name e ++ codes " " ++ denial_text d
-
 abbrev pub refusal_text : Refusal → List ℕ
-refusal_text r = refusal_text_with r.errno r.denial
+refusal_text r = errno_name r.errno ++ option_map_or (λ d. codes " " ++ denial_text d) r.denial []
 
 abbrev pub progress_text : Progress → List ℕ
 progress_text progress.More = codes "more"

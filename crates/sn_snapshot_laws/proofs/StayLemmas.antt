@@ -15,6 +15,7 @@ use Rattle.sn_model.specs.declared.call.Event.TheVariants as event
 use Rattle.sn_model.specs.declared.reply.Refusal.{Refusal}
 use Rattle.sn_model.specs.declared.reply.Reply.{Reply}
 use Rattle.sn_model.specs.Calls as calls
+use Rattle.sn_model.proofs.Deciding as deciding
 use Rattle.sn_model.specs.Calls.{outcome_of, ready}
 use Rattle.sn_model.specs.Machine.{State, Running, Stopped, Mishap, Memory, Read, Write, Space, Age, Anything, CallStep, CutRun, EventStep, Left, LeftIn, Life, MountStep, PointFails, PointStep, RestartStep, Run}
 use Rattle.sn_model.specs.declared.outcome.AskedPoint.{AskedPoint}
@@ -65,32 +66,32 @@ module _ (limits : Limits) (w : World) (session : ℕ) where
   by_sync : (o : Outcome) → decision limits w session call.Sync ≡ Ok o → LetsGo call.Sync o.point
   by_sync o e name is =
       let r = bind_ok (ready w session call.Sync) (outcome_of limits w) o e in
-      let s = bind_ok (logged_in w session) (λ _. ok calls.Sync) r.0 r.1 in
-      let came = same_ok (points Plain) o (subst (λ (x : calls.Ready). outcome_of limits w x ≡ Ok o) (sym (same_ok calls.Sync r.0 s.2)) r.2) in
+      let s = bind_ok (logged_in w session) (λ _. ok deciding.sync) r.0 r.1 in
+      let came = same_ok (points Plain) o (subst (λ (x : calls.Ready). outcome_of limits w x ≡ Ok o) (sym (same_ok deciding.sync r.0 s.2)) r.2) in
       plain_thaws name (point_of o came ∙ is)
 
   by_create : (word : List ℕ) (o : Outcome) → decision limits w session (call.SnapCreate word) ≡ Ok o → LetsGo (call.SnapCreate word) o.point
   by_create word o e name is =
       let r = bind_ok (ready w session (call.SnapCreate word)) (outcome_of limits w) o e in
-      let s = bind_ok (logged_in w session) (λ s. snapshot_argument word >>= (λ new. ok (calls.SnapCreate s new))) r.0 r.1 in
-      let n = bind_ok (snapshot_argument word) (λ new. ok (calls.SnapCreate s.0 new)) r.0 s.2 in
-      let came = create_is limits w s.0 n.0 o (subst (λ (x : calls.Ready). outcome_of limits w x ≡ Ok o) (sym (same_ok (calls.SnapCreate s.0 n.0) r.0 n.2)) r.2) in
+      let s = bind_ok (logged_in w session) (λ s. snapshot_argument word >>= (λ new. ok (deciding.snap_create s new))) r.0 r.1 in
+      let n = bind_ok (snapshot_argument word) (λ new. ok (deciding.snap_create s.0 new)) r.0 s.2 in
+      let came = create_is limits w s.0 n.0 o (subst (λ (x : calls.Ready). outcome_of limits w x ≡ Ok o) (sym (same_ok (deciding.snap_create s.0 n.0) r.0 n.2)) r.2) in
       freezes_thaws n.0 name (point_of o came.0 ∙ is)
 
   by_delete : (word : List ℕ) (o : Outcome) → decision limits w session (call.SnapDelete word) ≡ Ok o → LetsGo (call.SnapDelete word) o.point
   by_delete word o e name is =
       let r = bind_ok (ready w session (call.SnapDelete word)) (outcome_of limits w) o e in
-      let s = bind_ok (logged_in w session) (λ s. snapshot_argument word >>= (λ old. ok (calls.SnapDelete s old))) r.0 r.1 in
-      let n = bind_ok (snapshot_argument word) (λ old. ok (calls.SnapDelete s.0 old)) r.0 s.2 in
-      let came = delete_is w s.0 n.0 o (subst (λ (x : calls.Ready). outcome_of limits w x ≡ Ok o) (sym (same_ok (calls.SnapDelete s.0 n.0) r.0 n.2)) r.2) in
+      let s = bind_ok (logged_in w session) (λ s. snapshot_argument word >>= (λ old. ok (deciding.snap_delete s old))) r.0 r.1 in
+      let n = bind_ok (snapshot_argument word) (λ old. ok (deciding.snap_delete s.0 old)) r.0 s.2 in
+      let came = delete_is w s.0 n.0 o (subst (λ (x : calls.Ready). outcome_of limits w x ≡ Ok o) (sym (same_ok (deciding.snap_delete s.0 n.0) r.0 n.2)) r.2) in
       ap call.SnapDelete (argument_same word n.0 n.1 ∙ thaws_same n.0 name (point_of o came.0 ∙ is))
 
   by_restore : (word : List ℕ) (o : Outcome) → decision limits w session (call.SnapRestore word) ≡ Ok o → LetsGo (call.SnapRestore word) o.point
   by_restore word o e name is =
       let r = bind_ok (ready w session (call.SnapRestore word)) (outcome_of limits w) o e in
-      let s = bind_ok (logged_in w session) (λ s. snapshot_argument word >>= (λ old. ok (calls.SnapRestore s old))) r.0 r.1 in
-      let n = bind_ok (snapshot_argument word) (λ old. ok (calls.SnapRestore s.0 old)) r.0 s.2 in
-      let came = restore_is limits w s.0 n.0 o (subst (λ (x : calls.Ready). outcome_of limits w x ≡ Ok o) (sym (same_ok (calls.SnapRestore s.0 n.0) r.0 n.2)) r.2) in
+      let s = bind_ok (logged_in w session) (λ s. snapshot_argument word >>= (λ old. ok (deciding.snap_restore s old))) r.0 r.1 in
+      let n = bind_ok (snapshot_argument word) (λ old. ok (deciding.snap_restore s.0 old)) r.0 s.2 in
+      let came = restore_is limits w s.0 n.0 o (subst (λ (x : calls.Ready). outcome_of limits w x ≡ Ok o) (sym (same_ok (deciding.snap_restore s.0 n.0) r.0 n.2)) r.2) in
       restores_thaws n.0 name (point_of o came.0 ∙ is)
 
   by_call : (c : Call) (o : Outcome) → is_asked o.point ≡ asks_for_point c → decision limits w session c ≡ Ok o → LetsGo c o.point

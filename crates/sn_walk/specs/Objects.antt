@@ -17,13 +17,11 @@ number_of Snapshots = 1
 
 abbrev pub is_same : Home → Home → Bool
 is_same Live Live = true
-is_same Live (Frozen t) = false
-is_same (Frozen s) Live = false
 is_same (Frozen s) (Frozen t) = pointwise ◌==◌ s t
+is_same home other = false
 
 -- whether both are in one tree; the directory of snapshots is a tree of its own
 abbrev pub is_in_tree_of : Object → Object → Bool
 is_in_tree_of (Node home a) (Node other b) = is_same home other
-is_in_tree_of (Node home a) Snapshots = false
-is_in_tree_of Snapshots (Node other b) = false
 is_in_tree_of Snapshots Snapshots = true
+is_in_tree_of object other = false
