@@ -4,7 +4,8 @@ use Rattle.std.proofs.lemmas.List.{length-set, get_or-set_same, get_or-set_other
 use Rattle.std.proofs.lemmas.Bool.{cases_eq, cases_lt}
 use Rattle.sn_device.specs.Sectors.{Contents, sector_at, AreSectors, AgreesOutside, DependsOn, AreDisjoint, IsWithin, Union}
 use Rattle.sn_device.specs.Disk.{Moment, Disk, clock, reads, IsSynced, Always, next, written, synced, MayLeave, CrashNow, MayLeaveAtOne, CrashSince}
-use Rattle.sn_device.specs.Crash.{FollowsBy, LeavesOnly, TouchesOnly, AllTouchOnly, Touches}
+use Rattle.sn_device.specs.Crash.{FollowsBy, LeavesOnly, TouchesOnly, Touches}
+use Rattle.std.specs.List.{AllByRecursion}
 use Rattle.sn_device.proofs.SectorLemmas.{AreSectors-set, Contains-more, Contains-first, Contains-cases}
 use Rattle.sn_device.proofs.DiskLemmas.{CrashSince_clock, CrashSince-next, FollowsBy-clock, FollowsBy-join, CrashSince-follows, CrashSince-later, CrashNow-contents, MayLeave-synced}
 
@@ -83,7 +84,7 @@ module _ (F : ℕ → Type 0) where
     same = λ i out. left.others.same i (λ among. out (touches.unsynced i among)) ∙ touches.others.same i (λ is_in. out (inl is_in));
   }
 
-  touched_at_one : (old : Moment) (ms : List Moment) (c : Contents) → AllTouchOnly F old ms → MayLeaveAtOne ms c → AgreesOutside (Union F (Contains old.unsynced)) old.sectors c
+  touched_at_one : (old : Moment) (ms : List Moment) (c : Contents) → AllByRecursion (TouchesOnly F old) ms → MayLeaveAtOne ms c → AgreesOutside (Union F (Contains old.unsynced)) old.sectors c
   touched_at_one old [] c each one = absurd one
   touched_at_one old (m ∷ ms) c each (inl left) = MayLeave-touched old m c each.0 left
   touched_at_one old (m ∷ ms) c each (inr more) = touched_at_one old ms c each.1 more
@@ -95,19 +96,19 @@ module _ (F : ℕ → Type 0) where
       (λ now. MayLeave-touched old.present old.present c (TouchesOnly-refl old.present) (CrashSince_clock old c now))
       (CrashSince-follows run.since old new (clock old) c run.follows (omega arith) since)
 
-  AllTouchOnly-append : (old : Moment) (ms ns : List Moment) → AllTouchOnly F old ms → AllTouchOnly F old ns → AllTouchOnly F old (ms ++ ns)
-  AllTouchOnly-append old [] ns first second = second
-  AllTouchOnly-append old (m ∷ ms) ns first second = (first.0, AllTouchOnly-append old ms ns first.1 second)
+  touch_only_append : (old : Moment) (ms ns : List Moment) → AllByRecursion (TouchesOnly F old) ms → AllByRecursion (TouchesOnly F old) ns → AllByRecursion (TouchesOnly F old) (ms ++ ns)
+  touch_only_append old [] ns first second = second
+  touch_only_append old (m ∷ ms) ns first second = (first.0, touch_only_append old ms ns first.1 second)
 
-  AllTouchOnly-from : (old mid : Moment) (ms : List Moment) → TouchesOnly F old mid → AllTouchOnly F mid ms → AllTouchOnly F old ms
-  AllTouchOnly-from old mid [] first each = tt
-  AllTouchOnly-from old mid (m ∷ ms) first each = (TouchesOnly-join old mid m first each.0, AllTouchOnly-from old mid ms first each.1)
+  touch_only_from : (old mid : Moment) (ms : List Moment) → TouchesOnly F old mid → AllByRecursion (TouchesOnly F mid) ms → AllByRecursion (TouchesOnly F old) ms
+  touch_only_from old mid [] first each = tt
+  touch_only_from old mid (m ∷ ms) first each = (TouchesOnly-join old mid m first each.0, touch_only_from old mid ms first each.1)
 
   pub Touches-start : (d : Disk) → Touches F d d
   Touches-start d = record { since = []; follows = refl; each = tt }
 
   -- the present moment is the newest of those since, or the old one
-  newest : (since : List Moment) (old new : Disk) → FollowsBy since old new → AllTouchOnly F old.present since → TouchesOnly F old.present new.present
+  newest : (since : List Moment) (old new : Disk) → FollowsBy since old new → AllByRecursion (TouchesOnly F old.present) since → TouchesOnly F old.present new.present
   newest [] old new follows each =
       let same : new.present ≡ old.present = cc in subst (TouchesOnly F old.present) (sym same) (TouchesOnly-refl old.present)
   newest (m ∷ ms) old new follows each =
@@ -127,7 +128,7 @@ module _ (F : ℕ → Type 0) where
   Touches-join old mid new first second = record {
     since = second.since ++ first.since;
     follows = FollowsBy-join first.since second.since old mid new first.follows second.follows;
-    each = AllTouchOnly-append old.present second.since first.since (AllTouchOnly-from old.present mid.present second.since (Touches-present old mid first) second.each) first.each;
+    each = touch_only_append old.present second.since first.since (touch_only_from old.present mid.present second.since (Touches-present old mid first) second.each) first.each;
   }
 
 -- these sectors of c, and the others of s
@@ -196,7 +197,7 @@ module _ (F G : ℕ → Type 0) (P : Contents → Type 0) (depends : DependsOn G
             (mixed-either old.unsynced c old.sectors agrees.count i);
       }) (here d possible)
 
-  at_one : (old : Moment) → AreSectors old.sectors → ((c : Contents) → MayLeave old c → P c) → (ms : List Moment) → AllTouchOnly F old ms → (c : Contents) → MayLeaveAtOne ms c → P c
+  at_one : (old : Moment) → AreSectors old.sectors → ((c : Contents) → MayLeave old c → P c) → (ms : List Moment) → AllByRecursion (TouchesOnly F old) ms → (c : Contents) → MayLeaveAtOne ms c → P c
   at_one old whole here [] each c one = absurd one
   at_one old whole here (m ∷ ms) each c (inl left) = MayLeave-kept old m whole here each.0 c left
   at_one old whole here (m ∷ ms) each c (inr more) = at_one old whole here ms each.1 c more
@@ -234,7 +235,7 @@ module _ (F : ℕ → Type 0) where
         },
       )
 
-  before_one : (old : Moment) (ms : List Moment) (c : Contents) → AreSectors old.sectors → AllTouchOnly F old ms → MayLeaveAtOne ms c → (d : Contents) × MayLeave old d × AgreesOutside F d c
+  before_one : (old : Moment) (ms : List Moment) (c : Contents) → AreSectors old.sectors → AllByRecursion (TouchesOnly F old) ms → MayLeaveAtOne ms c → (d : Contents) × MayLeave old d × AgreesOutside F d c
   before_one old [] c whole each one = absurd one
   before_one old (m ∷ ms) c whole each (inl left) = MayLeave-before old m c whole each.0 left
   before_one old (m ∷ ms) c whole each (inr more) = before_one old ms c whole each.1 more
@@ -257,7 +258,7 @@ module _ (F : ℕ → Type 0) where
   pub Touches-within : (G : ℕ → Type 0) (old new : Disk) → IsWithin F G → Touches F old new → Touches G old new
   Touches-within G old new within run = record { since = run.since; follows = run.follows; each = all_within run.since run.each }
     where
-      all_within : (ms : List Moment) → AllTouchOnly F old.present ms → AllTouchOnly G old.present ms
+      all_within : (ms : List Moment) → AllByRecursion (TouchesOnly F old.present) ms → AllByRecursion (TouchesOnly G old.present) ms
       all_within [] each = tt
       all_within (m ∷ ms) each = (TouchesOnly-within F G old.present m within each.0, all_within ms each.1)
 

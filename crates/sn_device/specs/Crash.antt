@@ -1,5 +1,6 @@
 -- What calls add to what a crash might have left.
-use Rattle.std.specs.Prelude.{◌≡◌, ◌⊎◌, ℕ, List, [], ◌∷◌, ◌++◌, Contains}
+use Rattle.std.specs.Prelude.{◌≡◌, ◌⊎◌, ℕ, List, ◌∷◌, ◌++◌, Contains}
+use Rattle.std.specs.List.{AllByRecursion}
 use Rattle.sn_device.specs.Sectors.{Contents, AgreesOutside}
 use Rattle.sn_device.specs.Disk.{Moment, Disk, clock, CrashSince}
 
@@ -24,12 +25,8 @@ pub record TouchesOnly (F : ℕ → Type 0) (old new : Moment) : Type 0 where
   pub others : AgreesOutside F old.sectors new.sectors
   pub unsynced : (i : ℕ) → Contains new.unsynced i → F i ⊎ Contains old.unsynced i
 
-abbrev pub AllTouchOnly : (ℕ → Type 0) → Moment → List Moment → Type 0
-AllTouchOnly F old [] = Unit {0}
-AllTouchOnly F old (m ∷ ms) = TouchesOnly F old m × AllTouchOnly F old ms
-
 -- Calls led from the old disk to the new one, all of whose writes were in the set.
 pub record Touches (F : ℕ → Type 0) (old new : Disk) : Type 0 where
   pub since : List Moment
   pub follows : FollowsBy since old new
-  pub each : AllTouchOnly F old.present since
+  pub each : AllByRecursion (TouchesOnly F old.present) since

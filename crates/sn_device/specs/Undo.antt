@@ -19,8 +19,7 @@ unsynced_by (FailedSync ∷ earlier) = unsynced_by earlier
 -- what was there before a call
 abbrev pub undone : Entry → Contents → Contents
 undone (Write at before) sectors = slice_set sectors at before
-undone Sync sectors = sectors
-undone FailedSync sectors = sectors
+undone entry sectors = sectors
 
 abbrev pub moment_by : List Entry → Contents → Moment
 moment_by entries sectors = record { sectors = sectors; unsynced = unsynced_by entries }
