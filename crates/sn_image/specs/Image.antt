@@ -1,10 +1,13 @@
 -- The tree of the model that a root denotes.
-use Rattle.std.specs.Prelude.{ℕ, List, [], ◌∷◌, Option, None, Some, map}
+use Rattle.std.specs.Prelude.{ℕ, List, [], ◌∷◌, Option, map}
 use Rattle.std.specs.List.{flat_map}
-use Rattle.std.specs.Option.{option_map}
+use Rattle.std.specs.Option.{option_map, option_map_or}
 use Rattle.std.specs.FinMap as fin
+use Rattle.std.specs.Cmp.Lexicographic.{slice_cmp}
+use Rattle.std.specs.Ordering.{nat_cmp}
 use Rattle.sn_limits.specs.declared.kind.Kind.{Kind}
 use Rattle.sn_limits.specs.declared.kind.Kind.TheVariants.{File, Directory}
+use Rattle.sn_layout.specs.declared.snapshot.Snapshot.{Snapshot}
 use Rattle.sn_layout.specs.declared.tree.BlockTree.{BlockTree}
 use Rattle.sn_layout_acl.specs.AclBlock.{joined}
 use Rattle.sn_layout_node.specs.declared.content.Content.{Content}
@@ -42,8 +45,7 @@ node_at s inodes number = option_map (node_of s) (inode_at s inodes number)
 
 -- nothing stands under a number that no node has
 abbrev pub under_number : ℕ → Option Node → List (ℕ × Node)
-under_number number None = []
-under_number number (Some node) = (number, node) ∷ []
+under_number number found = option_map_or (λ node. (number, node) ∷ []) found []
 
 unfoldable pub nodes_at : Store → BlockTree → ℕ → List (ℕ × Node)
 nodes_at s inodes number = under_number number (node_at s inodes number)
@@ -58,3 +60,15 @@ image s inodes = record {
   nodes = fin.from_entries (flat_map (nodes_at s inodes) (numbers inodes));
   links = fin.from_entries (flat_map (links_at s inodes) (numbers inodes));
 }
+
+-- trees by the names of snapshots
+abbrev pub FrozenTrees : Type 0
+FrozenTrees = fin.FinMap (slice_cmp nat_cmp) Tree
+
+-- a snapshot's tree by its name: its image as it stands, files without names among it
+abbrev pub frozen_entry : Store → Snapshot → List ℕ × Tree
+frozen_entry s snapshot = (snapshot.name, image s snapshot.tree)
+
+-- the frozen trees of a root
+abbrev pub frozen_of : Store → List Snapshot → FrozenTrees
+frozen_of s snapshots = fin.from_entries (map (frozen_entry s) snapshots)

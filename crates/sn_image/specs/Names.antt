@@ -1,5 +1,6 @@
 -- The names of a directory as they are read from its blocks, whatever their bytes.
-use Rattle.std.specs.Prelude.{ℕ, zero, suc, ◌/◌, if◌then◌else◌, List, [], ◌∷◌, length, take, drop, Option, Some, None, slice_index}
+use Rattle.std.specs.Prelude.{ℕ, zero, suc, ◌/◌, if◌then◌else◌, List, [], ◌∷◌, length, take, drop, Option, slice_index}
+use Rattle.std.specs.Option.{option_map_or}
 use Rattle.std.specs.List.{flat_map, range_with_len}
 use Rattle.byteorder.specs.Endian.{little_number}
 use Rattle.sn_limits.specs.declared.kind.Kind.{Kind}
@@ -36,8 +37,7 @@ names_by s File content = []
 names_by s Directory content = names_of s content
 
 abbrev pub names_under : Store → Option Inode → List Link
-names_under s None = []
-names_under s (Some inode) = names_by s inode.kind inode.content
+names_under s found = option_map_or (λ inode. names_by s inode.kind inode.content) found []
 
 -- the names in the directory of a number
 unfoldable pub names_at : Store → BlockTree → ℕ → List Link

@@ -1,5 +1,6 @@
 -- The blocks that a root reaches.
-use Rattle.std.specs.Prelude.{ℕ, ◌-◌, ◌/◌, ◌==◌, if◌then◌else◌, List, [], ◌∷◌, ◌++◌, Option, Some, None}
+use Rattle.std.specs.Prelude.{ℕ, ◌-◌, ◌/◌, ◌==◌, if◌then◌else◌, List, [], ◌∷◌, ◌++◌, Option}
+use Rattle.std.specs.Option.{option_map_or}
 use Rattle.std.specs.List.{flat_map, range_with_len}
 use Rattle.sn_layout.specs.declared.tree.BlockTree.{BlockTree}
 use Rattle.sn_layout_node.specs.declared.inode.Inode.{Inode}
@@ -13,8 +14,7 @@ block_reach pointer = if pointer == 0 then [] else pointer ∷ []
 
 -- the blocks of an inode: its ACL block, and those of its content
 abbrev pub inode_reach : Store → Option Inode → List ℕ
-inode_reach s None = []
-inode_reach s (Some inode) = block_reach inode.acl_block ++ content_reach s inode.content
+inode_reach s found = option_map_or (λ inode. block_reach inode.acl_block ++ content_reach s inode.content) found []
 
 -- the blocks of the inode of a number
 unfoldable pub reach_at : Store → BlockTree → ℕ → List ℕ

@@ -1,8 +1,6 @@
 -- The world that a root and some changes stand for.
-use Rattle.std.specs.Prelude.{◌≡◌, ℕ, if◌then◌else◌, List, [], ◌∷◌, ◌++◌, Option, Some, None, map as map_list, replicate}
+use Rattle.std.specs.Prelude.{◌≡◌, ℕ, if◌then◌else◌, List, [], ◌∷◌, ◌++◌, Option, Some, None, replicate}
 use Rattle.std.specs.List.{flat_map}
-use Rattle.std.specs.Cmp.Lexicographic.{slice_cmp}
-use Rattle.std.specs.Ordering.{nat_cmp}
 use Rattle.std.specs.FinMap as map
 use Rattle.std.specs.Str.{bytes_eq}
 use Rattle.sn_layout.specs.declared.root.RootBody.{RootBody}
@@ -14,19 +12,8 @@ use Rattle.sn_model.specs.Changes.{apply_all}
 use Rattle.sn_model.specs.Settling.{settled}
 use Rattle.sn_ondisk.specs.Trees.{Store}
 use Rattle.sn_image.specs.Image.{image}
+pub use Rattle.sn_image.specs.Image.{FrozenTrees, frozen_entry, frozen_of}
 use Rattle.sn_image.specs.Reach.{reach}
-
--- trees by the names of snapshots
-abbrev pub FrozenTrees : Type 0
-FrozenTrees = map.FinMap (slice_cmp nat_cmp) Tree
-
--- a snapshot's tree by its name: its image as it stands, files without names among it
-abbrev pub frozen_entry : Store → Snapshot → List ℕ × Tree
-frozen_entry s snapshot = (snapshot.name, image s snapshot.tree)
-
--- the frozen trees of a root
-abbrev pub frozen_of : Store → List Snapshot → FrozenTrees
-frozen_of s snapshots = map.from_entries (map_list (frozen_entry s) snapshots)
 
 -- the snapshot with a name
 abbrev pub snapshot_named : List ℕ → List Snapshot → Option Snapshot

@@ -1,6 +1,5 @@
 -- The trees of a root on a device, and when they can be read.
-use Rattle.std.specs.Prelude.{◌≡◌, ℕ, ◌*◌, ◌≤◌, if◌then◌else◌, List, [], ◌∷◌, length, Option, Some, None, map as map_list, All, Contains}
-use Rattle.std.specs.FinMap as map
+use Rattle.std.specs.Prelude.{◌≡◌, ℕ, ◌*◌, ◌≤◌, if◌then◌else◌, List, [], ◌∷◌, length, Option, Some, None, All, Contains}
 use Rattle.std.specs.Option.{option_map}
 use Rattle.std.specs.Str.{bytes_eq}
 use Rattle.sn_device.specs.Disk.{reads}
@@ -18,7 +17,8 @@ use Rattle.sn_model.specs.Tree.{Tree}
 use Rattle.sn_model.specs.World.{Trees}
 use Rattle.sn_ondisk.specs.Trees.{Store, store_of}
 use Rattle.sn_image.specs.Contents.{bytes_of, content_reach}
-use Rattle.sn_image.specs.Image.{image}
+use Rattle.sn_image.specs.Image.{frozen_of, image}
+pub use Rattle.sn_image.specs.Image.{frozen_entry}
 use Rattle.sn_image.specs.Sound.{IsSound}
 use Rattle.sn_tree_read.specs.Reads.{IsOutside}
 use Rattle.sn_walk.specs.declared.object.Home.{Home}
@@ -64,13 +64,9 @@ abbrev pub file_in : RootBody → Home → Option BlockTree
 file_in root Live = Some root.inode_file
 file_in root (Frozen name) = option_map (λ snapshot. snapshot.tree) (snapshot_named name root.snapshots)
 
--- a snapshot's tree by its name
-abbrev pub frozen_entry : Store → Snapshot → List ℕ × Tree
-frozen_entry s snapshot = (snapshot.name, image s snapshot.tree)
-
 -- the live tree of a root, and the frozen ones by the names of its snapshots
 abbrev pub trees_at : Store → RootBody → Trees
-trees_at s root = record { live = image s root.inode_file; frozen = map.from_entries (map_list (frozen_entry s) root.snapshots) }
+trees_at s root = record { live = image s root.inode_file; frozen = frozen_of s root.snapshots }
 
 -- The live tree of a root and each of its snapshots are sound.
 pub record AreSound (sectors : ℕ) (s : Store) (root : RootBody) : Type 0 where
