@@ -14,9 +14,7 @@ abbrev pub IsStageOf : Work → Stage → Type 0
 IsStageOf w (Blocks k) = k < length w.plan.blocks
 IsStageOf w (MapBlocks k) = k < map_blocks w.blocks
 IsStageOf w Stored = w.gate ≡ Open
-IsStageOf w Shut = Unit {0}
-IsStageOf w Bodied = Unit {0}
-IsStageOf w Done = Unit {0}
+IsStageOf w stage = Unit {0}
 
 -- the steps of a root, of which the closing of its slot is left out where the gate is closed
 abbrev pub root_steps : Gate → ℕ
@@ -43,12 +41,11 @@ writes_left w Done = 0
 
 -- and how many syncs: one behind the map, and one in each step of the root
 abbrev pub syncs_left : Work → Stage → ℕ
-syncs_left w (Blocks k) = root_steps w.gate + 1
-syncs_left w (MapBlocks k) = root_steps w.gate + 1
 syncs_left w Stored = 3
 syncs_left w Shut = 2
 syncs_left w Bodied = 1
 syncs_left w Done = 0
+syncs_left w stage = root_steps w.gate + 1
 
 -- Each step leaves one less.
 abbrev pub StepsAreCounted : Type 0

@@ -23,34 +23,25 @@ use Rattle.sn_cp.specs.declared.stage.Stage.TheVariants.{Blocks, MapBlocks, Stor
 
 -- ---- stages
 
--- behind the last of the new blocks comes the first block of the map
-abbrev pub after_block : ℕ → ℕ → Stage
-after_block k count = if nat_lt (k + 1) count then Blocks (k + 1) else MapBlocks 0
-
 -- behind the last of the map all is synced, and a gate that stands closed isn't closed again
 abbrev pub with_map : Gate → Stage
 with_map Open = Stored
 with_map Closed = Shut
 
-abbrev pub after_map : ℕ → ℕ → Gate → Stage
-after_map k count gate = if nat_lt (k + 1) count then MapBlocks (k + 1) else with_map gate
-
 abbrev pub next_stage : Work → Stage → Stage
-next_stage w (Blocks k) = after_block k (length w.plan.blocks)
-next_stage w (MapBlocks k) = after_map k (map_blocks w.blocks) w.gate
+next_stage w (Blocks k) = if nat_lt (k + 1) (length w.plan.blocks) then Blocks (k + 1) else MapBlocks 0
+next_stage w (MapBlocks k) = if nat_lt (k + 1) (map_blocks w.blocks) then MapBlocks (k + 1) else with_map w.gate
 next_stage w Stored = Shut
 next_stage w Shut = Bodied
-next_stage w Bodied = Done
-next_stage w Done = Done
+next_stage w stage = Done
 
 -- it has a step to make, which writes something
 abbrev pub IsWithin : Work → Stage → Type 0
 IsWithin w (Blocks k) = k < length w.plan.blocks
 IsWithin w (MapBlocks k) = k < map_blocks w.blocks
 IsWithin w Stored = w.gate ≡ Open
-IsWithin w Shut = Unit {0}
-IsWithin w Bodied = Unit {0}
 IsWithin w Done = ⊥
+IsWithin w stage = Unit {0}
 
 -- ---- what a step takes for granted
 
@@ -65,12 +56,10 @@ pub record IsWhole (w : Work) : Type 0 where
 
 -- The gate of the slot is as it was found, until it is closed.
 abbrev pub GateIs : Work → Stage → Disk → Type 0
-GateIs w (Blocks k) d = Always d (λ c. gate_in c w.slot ≡ w.gate)
-GateIs w (MapBlocks k) d = Always d (λ c. gate_in c w.slot ≡ w.gate)
-GateIs w Stored d = Always d (λ c. gate_in c w.slot ≡ w.gate)
 GateIs w Shut d = Unit {0}
 GateIs w Bodied d = Unit {0}
 GateIs w Done d = Unit {0}
+GateIs w stage d = Always d (λ c. gate_in c w.slot ≡ w.gate)
 
 -- The disk is where the point takes it to be.
 pub record StandsAtStage (w : Work) (stage : Stage) (d : Disk) : Type 0 where
@@ -112,17 +101,13 @@ pub record StepsTo {T E : Type 0} (w : Work) (stage : Stage) (result : Result T 
 -- ---- what it costs
 
 abbrev pub writes_of : Work → Stage → ℕ
-writes_of w (Blocks k) = 8
-writes_of w (MapBlocks k) = 8
 writes_of w Stored = closing_writes w.gate
-writes_of w Shut = 8
 writes_of w Bodied = 1
 writes_of w Done = 0
+writes_of w stage = 8
 
 abbrev pub syncs_of : Work → Stage → ℕ
 syncs_of w (Blocks k) = 0
 syncs_of w (MapBlocks k) = if nat_lt (k + 1) (map_blocks w.blocks) then 0 else 1
-syncs_of w Stored = 1
-syncs_of w Shut = 1
-syncs_of w Bodied = 1
 syncs_of w Done = 0
+syncs_of w stage = 1
