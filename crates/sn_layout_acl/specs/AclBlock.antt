@@ -1,5 +1,5 @@
 -- The block of an inode's ACL entries that its mode bits don't hold.
-use Rattle.std.specs.Prelude.{ℕ, ◌+◌, ◌-◌, ◌*◌, ◌<◌, Bool, true, false, List, [], ◌∷◌, ◌++◌, length, take, drop, Option, Some, None, take_while}
+use Rattle.std.specs.Prelude.{ℕ, ◌+◌, ◌-◌, ◌*◌, ◌<◌, Bool, true, false, List, [], ◌∷◌, ◌++◌, length, take, drop, Option, take_while, IfSome, unwrap_or}
 use Rattle.sn_acl.specs.declared.entries.Tag.{Tag}
 use Rattle.sn_acl.specs.declared.entries.Tag.TheVariants.{UserObj, User, GroupObj, Other}
 use Rattle.sn_acl.specs.declared.entries.Entry.{Entry}
@@ -32,12 +32,10 @@ IsNamedPart named = IsValid (with_objects named)
 
 -- the entries of a default ACL, none where there is none
 abbrev pub default_entries : Option (List Entry) → List Entry
-default_entries None = []
-default_entries (Some entries) = entries
+default_entries default = unwrap_or default []
 
 abbrev pub IsDefault : Option (List Entry) → Type 0
-IsDefault None = Unit {0}
-IsDefault (Some entries) = IsValid entries
+IsDefault default = IfSome default IsValid
 
 -- the numbers of the entries, and then the entries
 abbrev pub lists_bytes : List Entry → List Entry → List ℕ

@@ -1,11 +1,12 @@
 -- A layer: what changed of a tree, and the tree that is seen through it. What a layer has for a number, a name or a block stands before what is below.
-use Rattle.std.specs.Prelude.{◌≡◌, ℕ, ◌+◌, ◌*◌, ◌<◌, ◌≤◌, Bool, true, false, not, ◌||◌, nat_le, List, [], length, map, slice_index, Option, None, Some, is_some, if◌then◌else◌}
+use Rattle.std.specs.Prelude.{◌≡◌, ℕ, ◌+◌, ◌*◌, ◌<◌, ◌≤◌, Bool, true, false, not, ◌||◌, nat_le, List, length, map, slice_index, Option, None, Some, is_some, if◌then◌else◌}
 use Rattle.std.specs.Ordering.{nat_cmp}
 use Rattle.std.specs.Option.{option_map, unwrap_or}
 use Rattle.std.specs.FinMap as map
 use Rattle.sn_acl.specs.declared.entries.Entry.{Entry}
 use Rattle.sn_limits.specs.declared.kind.Kind.{Kind}
 use Rattle.sn_model.specs.declared.link.Link.{Link}
+pub use Rattle.sn_model.specs.FileCalls.{bytes_of}
 use Rattle.sn_model.specs.Tree.{Node, Tree, link_cmp}
 use Rattle.sn_model.specs.Changes.{node_with}
 use Rattle.sn_overlay.specs.declared.file_block.FileBlock.{FileBlock}
@@ -37,10 +38,6 @@ hides_block (Some (Changed state)) index = state.fresh || nat_le state.cut (inde
 -- the block of a changed file: the layer's, or zeros where what is below is hidden, or what is below
 abbrev pub block_seen : Layer → ℕ → NodeState → List ℕ → ℕ → List ℕ
 block_seen layer number state below index = unwrap_or (map.get layer.blocks (file_block_at number index)) (if hides_block (Some (Changed state)) index then zeros 4096 else piece 4096 below index)
-
-abbrev pub bytes_of : Option Node → List ℕ
-bytes_of None = []
-bytes_of (Some node) = node.bytes
 
 abbrev pub node_seen : Layer → ℕ → Option NodeChange → Option Node → Option Node
 node_seen layer number None below = below

@@ -75,8 +75,7 @@ HasFittingBytes (AddLink directory name number) = IsTrue (is_name name)
 HasFittingBytes (Remove directory name) = IsTrue (is_name name)
 HasFittingBytes (Rename old_directory old_name new_directory new_name) = IsTrue (is_name old_name) × IsTrue (is_name new_name)
 HasFittingBytes (Write number offset bytes) = (1 ≤ length bytes) × (length bytes ≤ 65536)
-HasFittingBytes (SetSize number size) = Unit {0}
-HasFittingBytes (SetAttributes number o) = Unit {0}
+HasFittingBytes change = Unit {0}
 
 -- A change that has a payload. Whether it can be applied to a tree is not asked: a file with a default ACL is spelled.
 abbrev pub IsSpelled : Change → Type 0

@@ -1,5 +1,6 @@
 -- The line of a reply.
-use Rattle.std.specs.Prelude.{ℕ, ◌+◌, Bool, true, false, List, ◌∷◌, ◌++◌, Option, Some, None, codes, decimal}
+use Rattle.std.specs.Prelude.{ℕ, ◌+◌, Bool, List, ◌∷◌, ◌++◌, Option, codes, decimal, if◌then◌else◌}
+use Rattle.std.specs.Option.{option_map_or}
 use Rattle.std.specs.List.{flat_map}
 use Rattle.sn_acl.specs.declared.entries.Entry.{Entry}
 use Rattle.sn_acl.specs.Modes.{mode_bits}
@@ -17,8 +18,7 @@ kind_name File = codes "f"
 kind_name Directory = codes "d"
 
 abbrev pub bit : Bool → ℕ → ℕ
-bit true value = value
-bit false value = 0
+bit set value = if set then value else 0
 
 -- the permission bits with S_ISGID and S_ISVTX
 abbrev pub status_mode : FileStatus → ℕ
@@ -29,17 +29,12 @@ abbrev pub status_line : FileStatus → List ℕ
 status_line s = codes "ok " ++ kind_name s.kind ++ codes " " ++ octal (status_mode s) ++ codes " " ++ decimal s.links
     ++ codes " " ++ decimal s.owner ++ codes " " ++ decimal s.group ++ codes " " ++ decimal s.size ++ codes "\n"
 
--- a name behind a space
-abbrev pub name_text : List ℕ → List ℕ
-name_text name = 32 ∷ name
-
 abbrev pub names_line : List (List ℕ) → List ℕ
-names_line names = codes "ok" ++ flat_map name_text names ++ codes "\n"
+names_line names = codes "ok" ++ flat_map (λ name. 32 ∷ name) names ++ codes "\n"
 
 -- a dash for none
 abbrev pub some_acl_text : Option (List Entry) → List ℕ
-some_acl_text None = codes "-"
-some_acl_text (Some acl) = acl_text acl
+some_acl_text found = option_map_or acl_text found (codes "-")
 
 abbrev pub reply_line : Reply → List ℕ
 reply_line reply.Done = codes "ok\n"

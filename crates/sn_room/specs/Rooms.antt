@@ -1,11 +1,10 @@
 -- Room: what calls are charged against the free blocks.
 use Rattle.std.specs.Prelude.{ℕ, ◌+◌, ◌*◌, ◌≤◌, Bool, true, false, nat_le, if◌then◌else◌}
 use Rattle.sn_limits.specs.declared.limits.Limits.{Limits}
-use Rattle.sn_model.specs.declared.change.Change.{Change}
-use Rattle.sn_model.specs.declared.change.Change.TheVariants.{Make, AddLink, Remove, Rename, Write, SetSize, SetAttributes}
+use Rattle.sn_model.specs.declared.change.Change.TheVariants.{Remove}
 use Rattle.sn_model.specs.declared.outcome.Outcome.{Outcome}
 use Rattle.sn_model.specs.declared.outcome.Pending.{Pending}
-use Rattle.sn_model.specs.declared.outcome.Pending.TheVariants.{Nothing, Makes, Does}
+use Rattle.sn_model.specs.declared.outcome.Pending.TheVariants.{Does}
 
 pub record RoomCounts : Type 0 where
   -- the data blocks that no durable root reaches
@@ -27,14 +26,9 @@ abbrev pub parked : RoomCounts → ℕ → ℕ
 parked room nameless = nameless + room.dropped
 
 -- the changes that go without the reserve
-abbrev pub removes : Change → Bool
-removes (Remove directory name) = true
-removes change = false
-
 abbrev pub gives_back : Pending → Bool
-gives_back Nothing = false
-gives_back (Makes directory name kind o) = false
-gives_back (Does change) = removes change
+gives_back (Does (Remove directory name)) = true
+gives_back pending = false
 
 -- what is charged once the call is logged, with an inode's charge for each parked file
 abbrev pub charged_behind : Limits → RoomCounts → ℕ → Outcome → ℕ

@@ -1,5 +1,6 @@
 -- What the calls of a log were charged.
-use Rattle.std.specs.Prelude.{ℕ, ◌+◌, ◌*◌, ◌≤◌, List, [], ◌∷◌, Option, None, Some}
+use Rattle.std.specs.Prelude.{ℕ, ◌+◌, ◌*◌, ◌≤◌, List, [], ◌∷◌, Option}
+use Rattle.std.specs.Option.{option_map_or}
 use Rattle.sn_limits.specs.declared.limits.Limits.{Limits}
 use Rattle.sn_model.specs.declared.change.Change.{Change}
 use Rattle.sn_model.specs.Changes.{apply}
@@ -8,8 +9,7 @@ use Rattle.sn_model.specs.Charges.{charge_for}
 use Rattle.sn_model.specs.Settling.{nameless_in}
 
 abbrev pub after_change : (Tree → ℕ) → Option Tree → ℕ
-after_change rest None = 0
-after_change rest (Some tree) = rest tree
+after_change rest after = option_map_or rest after 0
 
 -- The charges of changes that are made one after the other. What a remove is charged depends on what has the name.
 unfoldable pub charges_from : Limits → List Change → Tree → ℕ

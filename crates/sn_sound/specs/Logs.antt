@@ -48,13 +48,9 @@ pub record HasSoundLog (n : ℕ) (c : Contents) (root : RootBody) (free : ℕ) :
 
 -- ---- its faults
 
--- the block of the gate at a position
-abbrev pub gate_block : LogPosition → ℕ
-gate_block at = (base_at at + at.place) / 8
-
 -- At the position stands a record of the epoch that is no change's or has another number than it is to have, or one of a change that can't be made of this tree.
 abbrev pub IsBad : Contents → Limits → Tree → LogPosition → ℕ → Type 0
-IsBad c limits tree at block = Finds c at (found.Misspelt block) ⊎ ((change : Change) × Finds c at (found.Change change) × (apply limits change tree ≡ None) × (block ≡ gate_block at))
+IsBad c limits tree at block = Finds c at (found.Misspelt block) ⊎ ((change : Change) × Finds c at (found.Change change) × (apply limits change tree ≡ None) × (block ≡ (base_at at + at.place) / 8))
 
 -- Replay of an epoch meets such a record: the changes before it make a tree, and it is bad there. The block is that of its gate.
 pub record BreaksAt (c : Contents) (limits : Limits) (from : Tree) (n epoch block : ℕ) : Type 0 where

@@ -38,12 +38,10 @@ Stands n c slot root Log block = IsLogFault n c root (free_blocks n (store_of c)
 -- the order in which faults are looked for
 abbrev pub group_of : Damage → ℕ
 group_of Root = 1
-group_of Pointer = 2
-group_of ReachedTwice = 2
-group_of Misspelt = 2
 group_of MapWord = 3
 group_of Links = 4
 group_of Log = 5
+group_of damage = 2
 
 -- The fault stands, and none of an earlier group does.
 pub record IsFirst (n : ℕ) (c : Contents) (slot : Slot) (root : RootBody) (damage : Damage) (block : ℕ) : Type 0 where
@@ -83,5 +81,4 @@ HasNoVerdict sectors c mount.NotFormatted = IsSomeSize sectors c → ⊥
 HasNoVerdict sectors c mount.NoRoot = IsSomeSize sectors c × ((slot : Slot) → IsClosed c (gate_sector slot))
 HasNoVerdict sectors c mount.Version = IsSomeSize sectors c × ((slot : Slot) × IsUnknown c slot)
 HasNoVerdict sectors c (mount.Damaged damage block) = ⊥
-HasNoVerdict sectors c mount.Memory = Unit {0}
-HasNoVerdict sectors c mount.Device = Unit {0}
+HasNoVerdict sectors c cause = Unit {0}
