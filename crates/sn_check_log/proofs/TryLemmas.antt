@@ -18,7 +18,7 @@ use Rattle.sn_model.specs.declared.change.Change.{Change}
 use Rattle.sn_model.specs.declared.change.Change.TheVariants.{Make, AddLink, Remove, Rename, Write, SetSize, SetAttributes}
 use Rattle.sn_model.specs.declared.fault.MountFault.{MountFault}
 use Rattle.sn_model.specs.declared.fault.MountFault.TheVariants as fault
-use Rattle.sn_numbers.specs.Numbers.{kept_after, since_after}
+use Rattle.sn_number_table.specs.Numbers.{kept_after, since_after}
 use Rattle.sn_rooted_tree.specs.Looks.{Stands}
 use Rattle.sn_tree_read.specs.declared.fault.TreeFault.{TreeFault}
 use Rattle.sn_tree_read.specs.declared.fault.TreeFault.TheVariants.{Read, Damaged}

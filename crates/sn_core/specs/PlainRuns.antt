@@ -5,7 +5,7 @@ use Rattle.sn_model.specs.declared.call.Event.{Event}
 use Rattle.sn_model.specs.declared.reply.Reply.{Reply}
 use Rattle.sn_model.specs.World.{World, new_world}
 use Rattle.sn_model.specs.Machine.{Running, OfMemory, RunBy, StepOf}
-use Rattle.sn_core.specs.Numbering.{Numbers}
+use Rattle.sn_caller.specs.Numbering.{Numbers}
 
 -- a world, and the numbers that are kept back in it
 pub record Numbered : Type 0 where

@@ -1,31 +1,24 @@
 -- The parts of serving a call, and a call that was served: its reply, or why it isn't done, and the world after it.
-use Rattle.std.specs.Prelude.{◌≡◌, ◌≢◌, ℕ, Bool, None, Some, Result, Ok, Err, IsOk}
+use Rattle.std.specs.Prelude.{◌≡◌, ℕ, None, Result, Ok, Err, IsOk}
 use Rattle.sn_model.specs.declared.call.Call.{Call}
 use Rattle.sn_model.specs.declared.call.Event.TheVariants as event
 use Rattle.sn_model.specs.declared.reply.Reply.{Reply}
 use Rattle.sn_model.specs.declared.change.Change.{Change}
-use Rattle.sn_model.specs.declared.change.Change.TheVariants.{Make}
 use Rattle.sn_model.specs.Changes.{apply}
 use Rattle.sn_model.specs.declared.outcome.AskedPoint.{AskedPoint}
-use Rattle.sn_model.specs.declared.outcome.AskedPoint.TheVariants.{Unasked, Plain, Freezes, Thaws, Restores}
-use Rattle.sn_model.specs.declared.outcome.Caller.{Caller}
+use Rattle.sn_model.specs.declared.outcome.AskedPoint.TheVariants.{Freezes}
 use Rattle.sn_model.specs.declared.outcome.Outcome.{Outcome}
-use Rattle.sn_model.specs.declared.outcome.Pending.{Pending}
-use Rattle.sn_model.specs.declared.outcome.Pending.TheVariants.{Nothing, Makes, Does}
-use Rattle.sn_model.specs.Tree.{Tree, least_unused}
+use Rattle.sn_model.specs.Tree.{Tree}
 use Rattle.sn_model.specs.World.{World}
 use Rattle.sn_limits.specs.Versions.{limits_written}
 use Rattle.sn_model.specs.Calls.{ready}
-use Rattle.sn_model.specs.Settling.{loses}
-use Rattle.sn_model.specs.Steps.{Becomes, TakesMemory, decision, filled, with_live}
+use Rattle.sn_model.specs.Steps.{Becomes, TakesMemory, decision, with_live}
 use Rattle.sn_plain.specs.declared.fault.ApplyError.{ApplyError}
 use Rattle.sn_plain.specs.declared.fault.ApplyError.TheVariants as lack
-use Rattle.sn_numbers.specs.Numbers.{next_number}
 use Rattle.sn_core_files.specs.declared.fault.CallError as calls
 use Rattle.sn_core_files.specs.declared.fault.CallError.TheVariants as undecided
-use Rattle.sn_core.specs.Numbering.{Numbers}
+use Rattle.sn_caller.specs.Numbering.{Numbers}
 use Rattle.sn_core.specs.PlainRuns.{Numbered}
-use Rattle.sn_core.specs.declared.choosing.Chosen.{Chosen}
 use Rattle.sn_core.specs.declared.fault.WorldError.{WorldError}
 use Rattle.sn_core.specs.declared.fault.WorldError.TheVariants.{Refused, Memory}
 
@@ -49,18 +42,6 @@ Decides world session c (Err e) = HasNone e world session c
 abbrev pub memory_for : AskedPoint → Result (Unit {0}) WorldError
 memory_for (Freezes name) = Err Memory
 memory_for asked = Ok tt
-
--- a number is left for a node that is to be made
-abbrev pub HasNumber : Tree → Pending → Type 0
-HasNumber tree Nothing = Unit {0}
-HasNumber tree (Makes directory name kind o) = least_unused limits_written tree ≢ None
-HasNumber tree (Does c) = Unit {0}
-
--- what is pending, where a new node has the next number
-abbrev pub Chooses : Tree → (ℕ → Bool) → Pending → Caller → Chosen → Type 0
-Chooses tree kept Nothing caller chosen = chosen ≡ record { change = None; caller = caller; lost = None }
-Chooses tree kept (Makes directory name kind o) caller chosen = (number : ℕ) × (next_number limits_written tree kept ≡ Some number) × (chosen ≡ record { change = Some (Make directory name number kind o); caller = filled number caller; lost = None })
-Chooses tree kept (Does c) caller chosen = chosen ≡ record { change = Some c; caller = caller; lost = loses c tree }
 
 -- why a change isn't made
 abbrev pub LacksFor : ApplyError → Change → World → World → Type 0

@@ -8,12 +8,12 @@ ghost use Rattle.sn_model.specs.NameTree.{IsTree};
 ghost use Rattle.sn_model.specs.Outcomes.{is_opening};
 ghost use Rattle.sn_model.specs.Settling.{OnlyLost, dropped, dropped_if, is_abandoned, is_held};
 ghost use Rattle.sn_model.specs.Steps.{with_caller};
-ghost use Rattle.sn_core.specs.Called.{AreNumbers, CanTurn, HasRoom, TellsReleased, WereHeld};
-ghost use Rattle.sn_core.specs.Numbering.{has_closed, has_gone};
-ghost use Rattle.sn_core.specs.Told.{dropped_lost, told_if, told_lost};
+ghost use Rattle.sn_caller.specs.Called.{AreNumbers, CanTurn, HasRoom, TellsReleased, WereHeld};
+ghost use Rattle.sn_caller.specs.Numbering.{has_closed, has_gone};
+ghost use Rattle.sn_caller.specs.Told.{dropped_lost, told_if, told_lost};
 
 use crate::PlainWorld;
-use crate::turning::turn;
+use sn_caller::turn;
 use sn_changed::{DroppedFile, DroppedFiles};
 use sn_desc::Released;
 use sn_model::Caller;

@@ -1,23 +1,13 @@
 //! Which number a new node gets, and which number a change takes a name of.
 ghost use Rattle.std.specs.Prelude.{◌≡◌};
 ghost use Rattle.sn_model.specs.Steps.{filled};
-ghost use Rattle.sn_core.specs.Served.{Chooses, HasNumber};
+ghost use Rattle.sn_caller.specs.Choosing.{Chooses, HasNumber};
 
 use crate::PlainWorld;
+use sn_caller::Chosen;
 use sn_limits::Limits;
 use sn_model::{Caller, Change, Pending};
 use sn_walk::Home;
-
-/// What a call comes to, with the number of a new node.
-#[derive(Drop)]
-pub struct Chosen<'a> {
-    /// The change that is to be made, if one is.
-    pub change: Option<Change<'a>>,
-    /// What becomes of the caller once the change is made.
-    pub caller: Caller,
-    /// The number that the change takes a name of, if it takes one: its file may have no other.
-    pub lost: Option<u16>,
-}
 
 /// A caller who opens what is made gets the new node's number.
 fn with_number(caller: Caller, number: u16) -> Caller

@@ -7,7 +7,7 @@ ghost use Rattle.sn_core.specs.PlainRuns.{PlainStep};
 ghost use Rattle.sn_model.specs.World.{new_world};
 ghost use Rattle.sn_core.specs.Served.{MakesChange, Serves, memory_for};
 ghost use Rattle.sn_numbers.specs.Live.{live_of};
-ghost use Rattle.sn_numbers.specs.Numbers.{kept_after, since_after};
+ghost use Rattle.sn_number_table.specs.Numbers.{kept_after, since_after};
 
 use crate::choosing::Chosen;
 use crate::fault::WorldError;

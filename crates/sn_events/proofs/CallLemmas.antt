@@ -28,15 +28,15 @@ use Rattle.sn_model.specs.Steps.{Becomes, Comes, TakesMemory, asks_for_point, de
 use Rattle.sn_model.specs.Tree.{Node, Tree}
 use Rattle.sn_model.specs.World.{World}
 use Rattle.sn_model.specs.Worlds.{IsCall, IsWorld}
-use Rattle.sn_core.specs.declared.choosing.Chosen.{Chosen}
-use Rattle.sn_core.specs.Served.{Chooses}
+use Rattle.sn_caller.specs.declared.chosen.Chosen.{Chosen}
+use Rattle.sn_caller.specs.Choosing.{Chooses}
 use Rattle.sn_live_world.specs.declared.fault.CallFault.{CallFault}
 use Rattle.sn_live_world.specs.declared.fault.CallFault.TheVariants as lack
-use Rattle.sn_core.specs.Numbering.{gives_kept, has_closed}
-use Rattle.sn_numbers.specs.Numbers.{since_after, kept_after}
-use Rattle.sn_core.proofs.NumberLemmas.{and_not_false}
-use Rattle.sn_core.proofs.AskedLemmas.{chosen_stays}
-use Rattle.sn_core.proofs.StepLemmas.{MadeBy, chosen_becomes, chosen_whole, change_takes, opening_takes, served_whole}
+use Rattle.sn_caller.specs.Numbering.{gives_kept, has_closed}
+use Rattle.sn_number_table.specs.Numbers.{since_after, kept_after}
+use Rattle.sn_caller.proofs.NumberLemmas.{and_not_false}
+use Rattle.sn_caller.proofs.AskedLemmas.{chosen_stays}
+use Rattle.sn_caller.proofs.StepLemmas.{MadeBy, chosen_becomes, chosen_whole, change_takes, opening_takes, served_whole}
 use Rattle.sn_block.proofs.CountLemmas.{later-is, later-same}
 use Rattle.sn_device.specs.declared.status.Status.{Status}
 use Rattle.sn_changed.specs.Changed.{HasChanged}

@@ -21,10 +21,10 @@ use Rattle.sn_model.specs.declared.outcome.AskedPoint.{AskedPoint}
 use Rattle.sn_model.specs.declared.outcome.AskedPoint.TheVariants.{Unasked, Plain, Freezes, Thaws, Restores}
 use Rattle.sn_model.proofs.OutcomeLemmas.{DoesToOld, IsAlone, OnChange}
 use Rattle.sn_changed.specs.Decided.{IsLogged}
-use Rattle.sn_numbers.specs.Numbers.{next_number}
-use Rattle.sn_numbers.proofs.FreeLemmas.{next_is_number}
-use Rattle.sn_core.specs.declared.choosing.Chosen.{Chosen}
-use Rattle.sn_core.specs.Served.{Chooses}
+use Rattle.sn_number_table.specs.Numbers.{next_number}
+use Rattle.sn_number_table.proofs.FreeLemmas.{next_is_number}
+use Rattle.sn_caller.specs.declared.chosen.Chosen.{Chosen}
+use Rattle.sn_caller.specs.Choosing.{Chooses}
 use Rattle.sn_opening.proofs.SpelledLemmas.{applied_spelled, old_spelled}
 use Rattle.sn_record.specs.Payload.{IsSpelled}
 use Rattle.sn_events.specs.Answers.{HasNoChange}

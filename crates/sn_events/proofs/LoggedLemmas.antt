@@ -23,7 +23,7 @@ use Rattle.sn_model.specs.Tree.{Tree}
 use Rattle.sn_model.specs.World.{Trees, World}
 use Rattle.sn_model.specs.Worlds.{IsWorld}
 use Rattle.sn_model.specs.declared.change.Change.{Change}
-use Rattle.sn_numbers.specs.Numbers.{kept_after, since_after}
+use Rattle.sn_number_table.specs.Numbers.{kept_after, since_after}
 use Rattle.sn_ondisk.specs.LogHalf.{InHalf}
 use Rattle.sn_overlay.specs.Layers.{Layer}
 use Rattle.sn_overlay.specs.Merges.{merge}

@@ -22,8 +22,8 @@ use Rattle.sn_model.specs.Worlds.{IsCall, IsWorld}
 use Rattle.sn_model.proofs.OutcomeLemmas.{LeavesLive}
 use Rattle.sn_block.specs.Counts.{FailsRead, IsLater}
 use Rattle.sn_block.proofs.CountLemmas.{later-is, later-join, later-same}
-use Rattle.sn_core.specs.Numbering.{gives_kept}
-use Rattle.sn_core.proofs.StepLemmas.{change_takes}
+use Rattle.sn_caller.specs.Numbering.{gives_kept}
+use Rattle.sn_caller.proofs.StepLemmas.{change_takes}
 use Rattle.sn_device.specs.declared.status.Status.{Status}
 use Rattle.sn_device.specs.Disk.{Disk}
 use Rattle.sn_device.specs.Sectors.{Contents}

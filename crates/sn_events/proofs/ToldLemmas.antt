@@ -10,11 +10,11 @@ use Rattle.sn_model.specs.Settling.{dropped, nameless_in}
 use Rattle.sn_model.specs.Steps.{asks_for_point, decision, with_caller}
 use Rattle.sn_model.specs.World.{World}
 use Rattle.sn_model.specs.Worlds.{IsCall, IsWorld}
-use Rattle.sn_core.specs.declared.choosing.Chosen.{Chosen}
-use Rattle.sn_core.specs.Served.{Chooses}
-use Rattle.sn_core.proofs.NumberLemmas.{kept_by}
-use Rattle.sn_core.proofs.AskedLemmas.{alone_stays}
-use Rattle.sn_core.proofs.StepLemmas.{IsServed, MadeBy, chosen_served, served_whole}
+use Rattle.sn_caller.specs.declared.chosen.Chosen.{Chosen}
+use Rattle.sn_caller.specs.Choosing.{Chooses}
+use Rattle.sn_caller.proofs.NumberLemmas.{kept_by}
+use Rattle.sn_caller.proofs.AskedLemmas.{alone_stays}
+use Rattle.sn_caller.proofs.StepLemmas.{IsServed, MadeBy, chosen_served, served_whole}
 use Rattle.sn_block.proofs.CountLemmas.{later-same}
 use Rattle.sn_device.proofs.CrashLemmas.{LeavesOnly-start}
 use Rattle.sn_held.specs.Events.{IsOfTree}

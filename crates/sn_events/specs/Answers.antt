@@ -28,9 +28,9 @@ use Rattle.sn_block.specs.Counts.{FailsRead, IsLater, called}
 use Rattle.sn_ondisk.specs.LogHalf.{InHalf, body_sectors}
 use Rattle.sn_record.specs.Payload.{payload_bytes}
 use Rattle.sn_log.specs.Positions.{HasRoom, base_at, behind, first_of}
-use Rattle.sn_core.specs.Numbering.{gives_kept, has_closed}
-use Rattle.sn_core.specs.declared.choosing.Chosen.{Chosen}
-use Rattle.sn_core.specs.Served.{Chooses}
+use Rattle.sn_caller.specs.Numbering.{gives_kept, has_closed}
+use Rattle.sn_caller.specs.declared.chosen.Chosen.{Chosen}
+use Rattle.sn_caller.specs.Choosing.{Chooses}
 use Rattle.sn_held.specs.Held.{Going, Held, Kept, CarriesOn}
 use Rattle.sn_held.specs.Moments.{LastsOver}
 use Rattle.sn_held.specs.Room.{HasRoomOf}

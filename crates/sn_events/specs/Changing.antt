@@ -13,7 +13,7 @@ use Rattle.sn_model.specs.declared.reply.Errno.{Errno}
 use Rattle.sn_model.specs.declared.reply.Errno.TheVariants.{Enomem, Eio}
 use Rattle.sn_live_world.specs.declared.fault.LookFault.{LookFault}
 use Rattle.sn_live_world.specs.declared.fault.LookFault.TheVariants as look
-use Rattle.sn_numbers.specs.Numbers.{kept_after, since_after}
+use Rattle.sn_number_table.specs.Numbers.{kept_after, since_after}
 use Rattle.sn_ondisk.specs.LogHalf.{InHalf}
 use Rattle.sn_log.specs.Positions.{base_at, behind}
 use Rattle.sn_block.specs.Counts.{FailsRead, IsLater, called}

@@ -18,7 +18,7 @@ use Rattle.sn_limits.specs.Versions.{limits_written}
 use Rattle.sn_core_files.specs.Decided.{MayLack}
 use Rattle.sn_model.specs.World.{World}
 use Rattle.sn_model.specs.Worlds.{IsCall}
-use Rattle.sn_core.specs.Numbering.{gives_kept, has_closed}
+use Rattle.sn_caller.specs.Numbering.{gives_kept, has_closed}
 use Rattle.sn_room.specs.Rooms.{dropping}
 use Rattle.sn_held.specs.Held.{Held, RunsReady}
 use Rattle.sn_cp_progress.specs.Meaning.{Means}

@@ -1,9 +1,9 @@
 -- What a call comes to whose number was picked once its caller was made ready.
 use Rattle.std.proofs.Common.{◌≡◌, ℕ, Bool, true, false, Some, None, Option, Ok, refl, sym, ap, subst, ◌∙◌}
 use Rattle.sn_changed.specs.Laws.{ChangesMerge}
-use Rattle.sn_core.specs.Called.{CanTurn, HasRoom}
-use Rattle.sn_core.specs.Served.{Chooses, HasNumber}
-use Rattle.sn_core.proofs.StepLemmas.{MadeBy, chosen_turns, has_number}
+use Rattle.sn_caller.specs.Called.{CanTurn, HasRoom}
+use Rattle.sn_caller.specs.Choosing.{Chooses, HasNumber}
+use Rattle.sn_caller.proofs.StepLemmas.{MadeBy, chosen_turns, has_number}
 use Rattle.sn_held.specs.Held.{Held}
 use Rattle.sn_limits.specs.Versions.{limits_written}
 use Rattle.sn_live_world.specs.Turned.{Picks}

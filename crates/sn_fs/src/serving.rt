@@ -1,6 +1,6 @@
 //! A call for which all is there that it needs.
 ghost use Rattle.std.specs.Prelude.{◌≡◌, ◌+◌, ◌-◌, ◌≤◌, ◌^◌, ◌<◌, false, true, IsTrue, IfNone, OnErr, OnOk, is_some, if◌then◌else◌};
-ghost use Rattle.sn_core.specs.Called.{HasRoom as HasCallRoom};
+ghost use Rattle.sn_caller.specs.Called.{HasRoom as HasCallRoom};
 ghost use Rattle.sn_desc.specs.InUse.{live_in};
 ghost use Rattle.sn_limits.specs.Versions.{limits_written};
 ghost use Rattle.sn_live_world.specs.Turned.{Turns as CanTurnOver};

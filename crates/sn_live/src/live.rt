@@ -13,7 +13,7 @@ ghost use Rattle.sn_model.specs.Tree.{Tree};
 ghost use Rattle.sn_model.specs.declared.change.Change.{Change as TheChange};
 ghost use Rattle.sn_number_table.specs.Nameless.{TellsNameless};
 ghost use Rattle.sn_number_table.specs.Table.{TellsNumbers, kept_of, since_of};
-ghost use Rattle.sn_numbers.specs.Numbers.{kept_after, next_number, since_after};
+ghost use Rattle.sn_number_table.specs.Numbers.{kept_after, next_number, since_after};
 ghost use Rattle.sn_overlay.specs.Layers.{through};
 ghost use Rattle.sn_overlay.specs.Merges.{merge};
 ghost use Rattle.sn_model.specs.Settling.{nameless_in};

@@ -1,7 +1,7 @@
 -- What was picked is what is chosen over the tree in memory.
 use Rattle.std.proofs.Common.{◌≡◌, ℕ, Bool, None, refl, ap}
-use Rattle.sn_core.specs.Served.{Chooses}
-use Rattle.sn_core.specs.declared.choosing.Chosen.{Chosen}
+use Rattle.sn_caller.specs.Choosing.{Chooses}
+use Rattle.sn_caller.specs.declared.chosen.Chosen.{Chosen}
 use Rattle.sn_live_world.specs.Turned.{Picks}
 use Rattle.sn_live_world.specs.declared.choosing.Picked.{Picked}
 use Rattle.sn_model.specs.Settling.{loses}

@@ -13,7 +13,7 @@ use Rattle.sn_model.proofs.DroppedLemmas.{all_held}
 use Rattle.sn_model.proofs.LoseLemmas.{abandoned_is}
 use Rattle.sn_model.proofs.MoveLemmas.{is_kind}
 use Rattle.sn_model.proofs.SettlingLemmas.{nameless_is}
-use Rattle.sn_core.proofs.CallerLemmas.{is_left_nameless}
+use Rattle.sn_caller.proofs.CallerLemmas.{is_left_nameless}
 
 -- in a world each file without names is held
 held_there : (world : World) (n : ℕ) → IsWorld limits_written world → is_nameless world.live n (map.get world.live.nodes n) ≡ true → is_held world n ≡ true

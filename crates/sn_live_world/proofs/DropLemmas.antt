@@ -6,10 +6,10 @@ use Rattle.std.proofs.lemmas.List.Elements.{Contains-append_left, Contains-push,
 use Rattle.std.proofs.lemmas.List.Sums.{fold-append}
 use Rattle.sn_changed.specs.Dropped.{TellsGone, with_drops}
 use Rattle.sn_changed.specs.declared.dropped.DroppedFile.{DroppedFile}
-use Rattle.sn_core.specs.Numbering.{has_gone}
-use Rattle.sn_core.specs.Told.{told_if, told_lost}
-use Rattle.sn_core.proofs.NumberLemmas.{abandoned_there, gone_by, kept_more}
-use Rattle.sn_core.proofs.ToldLemmas.{tells_if}
+use Rattle.sn_caller.specs.Numbering.{has_gone}
+use Rattle.sn_caller.specs.Told.{told_if, told_lost}
+use Rattle.sn_caller.proofs.NumberLemmas.{abandoned_there, gone_by, kept_more}
+use Rattle.sn_caller.proofs.ToldLemmas.{tells_if}
 use Rattle.sn_live.specs.Live as live
 use Rattle.sn_live.specs.declared.live.LiveTree.{LiveTree}
 use Rattle.sn_live_world.specs.Dropping.{DropsClosed, DropsIf, DropsLost}

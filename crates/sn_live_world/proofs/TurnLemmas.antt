@@ -3,11 +3,11 @@ use Rattle.std.proofs.Common.{◌≡◌, ℕ, Bool, ◌||◌, List, Option, sym,
 use Rattle.sn_changed.specs.Dropped.{LeadsOn, TellsGone, with_drops}
 use Rattle.sn_changed.specs.declared.dropped.DroppedFile.{DroppedFile}
 use Rattle.sn_changed.proofs.DroppedLemmas.{leads_on}
-use Rattle.sn_core.specs.Called.{TellsReleased, WereHeld}
-use Rattle.sn_core.specs.Numbering.{has_closed, has_gone}
-use Rattle.sn_core.specs.Told.{told_lost}
-use Rattle.sn_core.proofs.CallerLemmas.{live_after, turned_lost}
-use Rattle.sn_core.proofs.ToldLemmas.{caller_tells, closed_kept, lost_world}
+use Rattle.sn_caller.specs.Called.{TellsReleased, WereHeld}
+use Rattle.sn_caller.specs.Numbering.{has_closed, has_gone}
+use Rattle.sn_caller.specs.Told.{told_lost}
+use Rattle.sn_caller.proofs.CallerLemmas.{live_after, turned_lost}
+use Rattle.sn_caller.proofs.ToldLemmas.{caller_tells, closed_kept, lost_world}
 use Rattle.sn_live_world.specs.Dropping.{DropsClosed, DropsLost}
 use Rattle.sn_live_world.specs.Turned.{DropsTo}
 use Rattle.sn_live_world.specs.World.{changes_of, world_over}

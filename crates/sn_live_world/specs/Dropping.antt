@@ -2,8 +2,8 @@
 use Rattle.std.specs.Prelude.{◌≡◌, ℕ, Bool, true, ◌==◌, ◌&&◌, ◌||◌, List, [], Option, Contains}
 use Rattle.sn_changed.specs.Dropped.{TellsGone, with_drops}
 use Rattle.sn_changed.specs.declared.dropped.DroppedFile.{DroppedFile}
-use Rattle.sn_core.specs.Numbering.{has_gone}
-use Rattle.sn_core.specs.Told.{dropped_lost, told_if, told_lost}
+use Rattle.sn_caller.specs.Numbering.{has_gone}
+use Rattle.sn_caller.specs.Told.{dropped_lost, told_if, told_lost}
 use Rattle.sn_live_world.specs.World.{IsOver, changes_of, kept_of, kept_since_of, tree_over, world_over}
 use Rattle.sn_live_world.specs.declared.world.LiveWorld.{LiveWorld}
 use Rattle.sn_model.specs.Settling.{dropped, dropped_if, is_abandoned}

@@ -2,7 +2,7 @@
 use Rattle.std.specs.Prelude.{◌≡◌, ℕ, Bool, List, Option, None, Some, Result, Ok, Err}
 use Rattle.sn_changed.specs.Dropped.{LeadsOn, TellsGone}
 use Rattle.sn_changed.specs.declared.dropped.DroppedFile.{DroppedFile}
-use Rattle.sn_core.specs.Called.{CanTurn}
+use Rattle.sn_caller.specs.Called.{CanTurn}
 use Rattle.sn_core_files.specs.Decided.{MayLack}
 use Rattle.sn_limits.specs.Versions.{limits_written}
 use Rattle.sn_live_world.specs.World.{IsOver, changes_of, descriptors_of, room_of, tree_over, world_over}
@@ -20,7 +20,7 @@ use Rattle.sn_model.specs.declared.outcome.Caller.{Caller}
 use Rattle.sn_model.specs.declared.outcome.Outcome.{Outcome}
 use Rattle.sn_model.specs.declared.outcome.Pending.{Pending}
 use Rattle.sn_model.specs.declared.outcome.Pending.TheVariants.{Nothing, Makes, Does}
-use Rattle.sn_numbers.specs.Numbers.{next_number}
+use Rattle.sn_number_table.specs.Numbers.{next_number}
 
 -- why a call comes to nothing
 abbrev pub HasNone : CallFault → World → ℕ → Call → Type 0

@@ -1,7 +1,7 @@
 //! What becomes of whoever called, and of files that nobody has and no name stands for.
 ghost use Rattle.std.specs.Prelude.{◌≡◌, ◌+◌, ◌<◌, ◌≤◌, ◌==◌, ◌&&◌, ◌||◌, ℕ, true, OnErr, OnOk, is_some, length, if◌then◌else◌};
-ghost use Rattle.sn_core.specs.Called.{HasRoom};
-ghost use Rattle.sn_core.specs.Numbering.{has_closed};
+ghost use Rattle.sn_caller.specs.Called.{HasRoom};
+ghost use Rattle.sn_caller.specs.Numbering.{has_closed};
 ghost use Rattle.sn_desc.specs.InUse.{live_in};
 ghost use Rattle.sn_live_world.specs.Dropping.{DropsClosed, DropsIf, DropsLost};
 ghost use Rattle.sn_live_world.specs.Turned.{DropsTo, Turns};
@@ -11,7 +11,7 @@ ghost use Rattle.sn_model.specs.Steps.{with_caller};
 ghost use Rattle.sn_model.specs.Tree.{Tree};
 
 use crate::LiveWorld;
-use sn_core::turn;
+use sn_caller::turn;
 use sn_model::Caller;
 use std::alloc::AllocError;
 

@@ -12,7 +12,7 @@ ghost use Rattle.sn_model.specs.Tree.{Tree};
 ghost use Rattle.sn_model.specs.World.{Trees};
 ghost use Rattle.sn_model.specs.Worlds.{IsWorld};
 ghost use Rattle.sn_model.specs.declared.change.Change.{Change as TheChange};
-ghost use Rattle.sn_numbers.specs.Numbers.{kept_after, since_after};
+ghost use Rattle.sn_number_table.specs.Numbers.{kept_after, since_after};
 ghost use Rattle.sn_overlay.specs.Merges.{merge};
 ghost use Rattle.sn_overlay_change.specs.ChangeLayers.{layer_of_change};
 ghost use Rattle.sn_rooted.specs.Roots.{IsSoundOn, tree_on};

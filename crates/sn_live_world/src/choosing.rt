@@ -1,7 +1,7 @@
 //! Which number a new node gets.
 ghost use Rattle.std.specs.Prelude.{◌≡◌, true, IfSome, is_some};
-ghost use Rattle.sn_core.specs.Numbering.{gives_kept};
-ghost use Rattle.sn_core.specs.Served.{HasNumber};
+ghost use Rattle.sn_caller.specs.Numbering.{gives_kept};
+ghost use Rattle.sn_caller.specs.Choosing.{HasNumber};
 ghost use Rattle.sn_live_world.specs.Turned.{Picks};
 ghost use Rattle.sn_model.specs.Outcomes.{is_opening};
 ghost use Rattle.sn_model.specs.Steps.{filled};

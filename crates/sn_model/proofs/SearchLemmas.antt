@@ -1,6 +1,8 @@
 -- A search for the first number that isn't used.
-use Rattle.std.proofs.Common.{◌≡◌, ℕ, zero, suc, ◌+◌, ◌<◌, ◌≤◌, Bool, true, false, cond, Some, None, refl, sym, ap, ◌∙◌, arith, add-zero}
-use Rattle.sn_model.specs.Tree.{first_without}
+use Rattle.std.proofs.Common.{◌≡◌, ℕ, zero, suc, ◌+◌, ◌-◌, ◌<◌, ◌≤◌, Bool, true, false, cond, Some, None, is_some, refl, sym, ap, ◌∙◌, arith, add-zero}
+use Rattle.std.specs.FinMap as map
+use Rattle.sn_limits.specs.declared.limits.Limits.{Limits}
+use Rattle.sn_model.specs.Tree.{Tree, first_without, least_unused}
 
 -- it ends at the first number that isn't used
 pub first_found : (used : ℕ → Bool) (first n more : ℕ) → ((k : ℕ) → first ≤ k → k < first + n → used k ≡ true) → used (first + n) ≡ false → n < more → first_without used first more ≡ Some (first + n)
@@ -32,3 +34,16 @@ is_found used first (suc more) number e = looked (used first) refl (is_found use
         → cond b (first_without used (first + 1) more) (Some first) ≡ Some number → (used number ≡ false) × (first ≤ number) × (number < first + suc more)
     looked true t further f = let k = further f in (k.0, omega (arith, k.1), omega (arith, k.2))
     looked false t further f = let same : first ≡ number = cc in (ap used (sym same) ∙ t, omega (arith, same), omega (arith, same))
+
+-- ---- the least number that no node has
+
+-- is the first one behind those that are used
+pub least_is : (limits : Limits) (tree : Tree) (number : ℕ) → ((k : ℕ) → 2 ≤ k → k < number → is_some (map.get tree.nodes k) ≡ true) → map.get tree.nodes number ≡ None → 2 ≤ number → number ≤ limits.largest_number → least_unused limits tree ≡ Some number
+unfolding least_unused
+least_is limits tree number used unused low high =
+    let sum : 2 + (number - 2) ≡ number = omega arith in
+    first_found (λ k. is_some (map.get tree.nodes k)) 2 (number - 2) (limits.largest_number - 1) (λ k l h. used k l (omega (arith, sum))) (ap (λ k. is_some (map.get tree.nodes k)) sum ∙ ap is_some unused) (omega (arith, sum)) ∙ ap (λ k. Some k) sum
+
+pub none_is : (limits : Limits) (tree : Tree) (end : ℕ) → ((k : ℕ) → 2 ≤ k → k < end → is_some (map.get tree.nodes k) ≡ true) → limits.largest_number < end → least_unused limits tree ≡ None
+unfolding least_unused
+none_is limits tree end used all = none_without (λ k. is_some (map.get tree.nodes k)) 2 (limits.largest_number - 1) (λ k low high. used k low (omega (arith, all)))

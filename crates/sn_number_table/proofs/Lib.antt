@@ -1,2 +1,3 @@
+pub mod FreeLemmas
 pub mod MarkLemmas
 pub mod TableLemmas

@@ -8,9 +8,9 @@ use Rattle.sn_limits.specs.declared.limits.Limits.{Limits}
 use Rattle.sn_model.specs.Changes.{put_node, take_node}
 use Rattle.sn_model.specs.Tree.{Node, Tree, least_unused}
 use Rattle.sn_model.proofs.MapLemmas.{get_inserted, get_left, get_other, get_removed, same_or_apart}
-use Rattle.sn_numbers.specs.Numbers.{is_taken, next_number}
-use Rattle.sn_numbers.proofs.FreeLemmas.{next_is, next_of_kept}
-use Rattle.sn_plain.proofs.NumberLemmas.{least_is, none_is}
+use Rattle.sn_number_table.specs.Numbers.{is_taken, next_number}
+use Rattle.sn_number_table.proofs.FreeLemmas.{next_is, next_of_kept}
+use Rattle.sn_model.proofs.SearchLemmas.{least_is, none_is}
 use Rattle.sn_number_table.specs.Marked.{ArePassed, Sets, mark_at}
 use Rattle.sn_number_table.specs.Marks.{has_node, is_used}
 use Rattle.sn_number_table.specs.Table.{TellsNumbers, kept_of}

@@ -1,4 +1,5 @@
 pub mod Marked
 pub mod Marks
 pub mod Nameless
+pub mod Numbers
 pub mod Table

@@ -4,9 +4,10 @@
 //! search over the nodes themselves, and which numbers are kept back stands on no disk. So both are kept in a
 //! table beside the tree, which a pass over its nodes fills, and which goes on with each change.
 //!
-//! The rule is that of `sn_numbers`, whose tree is in memory: a new node gets the least number that no node has
-//! and that isn't kept back, or, where there is none but those, the least of them, and then none is kept back any
-//! more. A table tells the numbers of a tree (`TellsNumbers`) where exactly those are marked as taken that have a
+//! The rule (`next_number` of `specs/Numbers`): a new node gets the least number that no node has and that isn't kept
+//! back, or, where there is none but those, the least of them, and then none is kept back any more (`kept_after`). The
+//! numbers of files that went with their last descriptor, by a close or a logout, are kept back: the change that took
+//! their last name is in the log, but not that they went. A table tells the numbers of a tree (`TellsNumbers`) where exactly those are marked as taken that have a
 //! node in it.
 //!
 //! The way through it:

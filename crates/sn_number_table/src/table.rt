@@ -2,7 +2,7 @@
 ghost use Rattle.std.specs.Prelude.{◌≡◌, ℕ, ◌==◌, ◌||◌, ◌&&◌, not, false, is_some, IfOk};
 ghost use Rattle.sn_model.specs.Changes.{put_node, take_node};
 ghost use Rattle.sn_model.specs.Tree.{Node, Tree, least_unused};
-ghost use Rattle.sn_numbers.specs.Numbers.{next_number};
+ghost use Rattle.sn_number_table.specs.Numbers.{next_number};
 ghost use Rattle.sn_number_table.specs.Marked.{ArePassed};
 
 use crate::mark::Mark;

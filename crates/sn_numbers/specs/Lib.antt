@@ -1,3 +1,3 @@
+pub mod Back
 pub mod Live
 pub mod Marks
-pub mod Numbers

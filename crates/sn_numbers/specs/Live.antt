@@ -1,7 +1,7 @@
 -- What the live tree with its kept back numbers stands for.
 use Rattle.std.specs.Prelude.{ℕ, Bool}
 use Rattle.sn_model.specs.Tree.{Tree}
-use Rattle.sn_numbers.specs.Numbers.{held_of, since_of}
+use Rattle.sn_numbers.specs.Back.{held_of, since_of}
 use Rattle.sn_plain.specs.Plain.{tree_of}
 use Rattle.sn_numbers.specs.declared.numbered.NumberedTree.{NumberedTree}
 

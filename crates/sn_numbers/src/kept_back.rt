@@ -69,7 +69,7 @@ pub(crate) struct KeptBack {
 }
 
 impl KeptBack {
-    ghost use Rattle.sn_numbers.specs.Numbers.{held_of, since_of};
+    ghost use Rattle.sn_numbers.specs.Back.{held_of, since_of};
 
     /// No number is kept back. The memory for all 65,536 marks is taken here.
     pub fn new(alloc: Global) -> Result<KeptBack, AllocError>

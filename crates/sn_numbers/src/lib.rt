@@ -7,7 +7,7 @@
 //! kept back any more.
 //!
 //! [`NumberedTree`] is a `PlainTree` of `sn_plain` with these numbers. `kept_back` has the set of them,
-//! which takes its memory at first, so that a close needs none. `specs/Numbers` says which number is
+//! which takes its memory at first, so that a close needs none. `specs/Numbers` of `sn_number_table` says which number is
 //! next (`next_number`), and what stays kept back by a change (`kept_after`).
 //!
 //! What the sources leave open is decided in `docs/DECISIONS.md`, under "The tree in memory".

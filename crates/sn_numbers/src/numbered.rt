@@ -7,7 +7,8 @@ ghost use Rattle.sn_model.specs.Settling.{is_nameless, loses, settled};
 ghost use Rattle.sn_model.specs.Tests.{has_room};
 ghost use Rattle.sn_model.specs.Tree.{Tree};
 ghost use Rattle.sn_model.specs.World.{new_tree};
-ghost use Rattle.sn_numbers.specs.Numbers.{AreTaken, held_of, since_of, is_taken, kept_after, since_after, next_after, next_number};
+ghost use Rattle.sn_numbers.specs.Back.{held_of, since_of};
+ghost use Rattle.sn_number_table.specs.Numbers.{AreTaken, is_taken, kept_after, since_after, next_after, next_number};
 ghost use Rattle.sn_plain.specs.Plain.{Applies, tree_of};
 
 use crate::kept_back::KeptBack;

@@ -1,5 +1,4 @@
 pub mod CountedLemmas
-pub mod NumberLemmas
 pub mod OwnershipLemmas
 pub mod MakingLemmas
 pub mod SettledLemmas

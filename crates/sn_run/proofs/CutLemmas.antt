@@ -23,7 +23,7 @@ use Rattle.sn_ondisk.specs.Trees.{store_of}
 use Rattle.sn_opening.specs.Worlds.{frozen_of}
 use Rattle.sn_held.specs.Images.{IsImage}
 use Rattle.sn_held.specs.Moments.{ShowsState}
-use Rattle.sn_core.proofs.StepLemmas.{run_more}
+use Rattle.sn_caller.proofs.StepLemmas.{run_more}
 use Rattle.sn_run.specs.Runs.{Goes, LeavesFrom, ShowsCut, Standing}
 
 -- the worlds of a stopped machine are settled

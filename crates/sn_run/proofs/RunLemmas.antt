@@ -16,7 +16,7 @@ use Rattle.sn_model.specs.declared.reply.Reply.{Reply}
 use Rattle.sn_model.specs.Machine.{Running, Anything, CutRun, Lacks, Life, WholeRun}
 use Rattle.sn_model.specs.World.{World, new_world}
 use Rattle.sn_log.specs.Positions.{first_of}
-use Rattle.sn_core.proofs.StepLemmas.{run_more}
+use Rattle.sn_caller.proofs.StepLemmas.{run_more}
 use Rattle.sn_room.specs.Rooms.{fresh}
 use Rattle.sn_sound.specs.Disks.{IsOfDevice}
 use Rattle.sn_held.specs.Held.{Held}

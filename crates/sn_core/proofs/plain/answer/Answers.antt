@@ -2,7 +2,7 @@ use Rattle.std.proofs.Common.{◌≡◌, ◌∙◌, ◌+◌, ◌++◌, ◌∷◌
 use Rattle.std.proofs.lemmas.List.{take_more}
 use Rattle.sn_model.specs.declared.call.Event.{Event}
 use Rattle.sn_core.specs.PlainRuns.{PlainStep}
-use Rattle.sn_core.proofs.StepLemmas.{run_more}
+use Rattle.sn_caller.proofs.StepLemmas.{run_more}
 use Rattle.sn_core.proofs.plain.answer.Goals as goal
 
 pub loop-event-preserved : goal.loop-event-preserved

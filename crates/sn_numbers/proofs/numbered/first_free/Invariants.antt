@@ -1,5 +1,6 @@
 use Rattle.std.proofs.Common.{◌≡◌, ◌≤◌, ◌<◌, ℕ, true}
-use Rattle.sn_numbers.specs.Numbers.{held_of, is_taken}
+use Rattle.sn_numbers.specs.Back.{held_of}
+use Rattle.sn_number_table.specs.Numbers.{is_taken}
 use Rattle.sn_plain.specs.Plain.{tree_of}
 use Rattle.sn_numbers.proofs.numbered.first_free.Given as goal
 

@@ -6,10 +6,10 @@ use Rattle.sn_changed.specs.Dropped.{TellsGone}
 use Rattle.sn_model.specs.Settling.{dropped, dropped_if, is_abandoned}
 use Rattle.sn_model.specs.World.{World}
 use Rattle.sn_model.proofs.LoseLemmas.{dropped_once, still_abandoned}
-use Rattle.sn_core.specs.Numbering.{has_gone}
+use Rattle.sn_caller.specs.Numbering.{has_gone}
 use Rattle.sn_core.specs.Plain.{kept_of, kept_since_of, world_of}
-use Rattle.sn_core.proofs.NumberLemmas.{abandoned_there, gone_by, kept_more}
-use Rattle.sn_core.proofs.ToldLemmas.{tells_if, told_all, told_few}
+use Rattle.sn_caller.proofs.NumberLemmas.{abandoned_there, gone_by, kept_more}
+use Rattle.sn_caller.proofs.ToldLemmas.{tells_if, told_all, told_few}
 use Rattle.sn_core.proofs.world.PlainWorld.drop_each_closed.Goals as goal
 
 abbrev IsByClose : DroppedFile → Type 0

@@ -3,8 +3,8 @@ use Rattle.std.specs.Prelude.{All}
 use Rattle.arrayvec.specs.ArrayVec.{array_vec_len}
 use Rattle.sn_changed.specs.Dropped.{TellsGone}
 use Rattle.sn_model.specs.Settling.{dropped, is_abandoned}
-use Rattle.sn_core.specs.Called.{AreNumbers}
-use Rattle.sn_core.specs.Numbering.{has_gone}
+use Rattle.sn_caller.specs.Called.{AreNumbers}
+use Rattle.sn_caller.specs.Numbering.{has_gone}
 use Rattle.sn_core.specs.Plain.{kept_of, kept_since_of, world_of}
 use Rattle.sn_core.proofs.world.PlainWorld.drop_each_closed.Given as goal
 

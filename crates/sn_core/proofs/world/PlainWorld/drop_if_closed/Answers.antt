@@ -4,7 +4,7 @@ use Rattle.sn_limits.specs.Versions.{limits_written}
 use Rattle.sn_model.specs.NameTree.{IsTree}
 use Rattle.sn_numbers.specs.Live.{live_of}
 use Rattle.sn_core.specs.Plain.{world_of}
-use Rattle.sn_core.proofs.CallerLemmas.{is_left_nameless, taken_tree}
+use Rattle.sn_caller.proofs.CallerLemmas.{is_left_nameless, taken_tree}
 use Rattle.sn_core.proofs.world.PlainWorld.drop_if_closed.Goals as goal
 
 pub invariant_of-self : goal.invariant_of-self

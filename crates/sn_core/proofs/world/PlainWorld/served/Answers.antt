@@ -6,12 +6,14 @@ use Rattle.sn_model.specs.Settling.{OnlyLost, dropped}
 use Rattle.sn_model.specs.Steps.{with_caller, with_live}
 use Rattle.sn_model.specs.World.{World}
 use Rattle.sn_core.specs.declared.world.PlainWorld.{PlainWorld}
-use Rattle.sn_core.specs.Called.{CanTurn, HasRoom}
-use Rattle.sn_core.specs.Numbering.{has_closed}
+use Rattle.sn_caller.specs.Called.{CanTurn, HasRoom}
+use Rattle.sn_caller.specs.Numbering.{has_closed}
 use Rattle.sn_core.specs.Plain.{kept_of, room_of, world_of}
-use Rattle.sn_core.specs.Served.{Chooses, HasNumber, MakesChange}
+use Rattle.sn_caller.specs.Choosing.{Chooses, HasNumber}
+use Rattle.sn_core.specs.Served.{MakesChange}
 use Rattle.sn_core.proofs.AskedLemmas.{plain_stays, point_takes}
-use Rattle.sn_core.proofs.StepLemmas.{IsMade, IsServed, change_takes, choosing, chosen_lost, chosen_served, chosen_turns, chosen_whole, has_number, lacking, none_made, opening_takes, served_whole, some_made}
+use Rattle.sn_caller.proofs.StepLemmas.{IsServed, change_takes, choosing, chosen_lost, chosen_served, chosen_turns, chosen_whole, has_number, opening_takes, served_whole}
+use Rattle.sn_core.proofs.StepLemmas.{IsMade, lacking, none_made, some_made}
 use Rattle.sn_core.proofs.world.PlainWorld.served.Goals as goal
 use Rattle.sn_core.proofs.world.PlainWorld.served.Goals.{in-Some+in-Ok, in-None}
 

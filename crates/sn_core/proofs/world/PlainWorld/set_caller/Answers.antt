@@ -5,9 +5,9 @@ use Rattle.sn_desc.specs.InUse.{live_in}
 use Rattle.sn_model.specs.Settling.{dropped, is_held}
 use Rattle.sn_model.specs.World.{World}
 use Rattle.sn_core.specs.Plain.{kept_of, kept_since_of, world_of}
-use Rattle.sn_core.specs.Told.{dropped_lost}
-use Rattle.sn_core.proofs.CallerLemmas.{live_after, turned_lost, turned_numbers}
-use Rattle.sn_core.proofs.ToldLemmas.{caller_closed, caller_tells, closed_kept, lost_descriptors, lost_few, lost_world}
+use Rattle.sn_caller.specs.Told.{dropped_lost}
+use Rattle.sn_caller.proofs.CallerLemmas.{live_after, turned_lost, turned_numbers}
+use Rattle.sn_caller.proofs.ToldLemmas.{caller_closed, caller_tells, closed_kept, lost_descriptors, lost_few, lost_world}
 use Rattle.sn_core.proofs.world.PlainWorld.set_caller.Goals as goal
 
 pub drop_each_closed-dropped-requires-clause-numbers : goal.drop_each_closed-dropped-requires-clause-numbers

@@ -1,5 +1,5 @@
 use Rattle.sn_core.specs.Plain.{room_of, world_of}
-use Rattle.sn_core.proofs.CallerLemmas.{can_room}
+use Rattle.sn_caller.proofs.CallerLemmas.{can_room}
 use Rattle.sn_core.proofs.world.PlainWorld.turn.Goals as goal
 
 pub turn-requires : goal.turn-requires

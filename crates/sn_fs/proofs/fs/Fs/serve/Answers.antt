@@ -1,7 +1,7 @@
 use Rattle.std.proofs.Common.{Bool, false, IsSome, None, Some, sym, ap, subst, ◌∙◌, arith}
 use Rattle.std.proofs.lemmas.Bool.{true≢false}
 use Rattle.sn_block.specs.Lending.{device_of}
-use Rattle.sn_core.specs.Called.{HasRoom}
+use Rattle.sn_caller.specs.Called.{HasRoom}
 use Rattle.sn_cp_whole.specs.declared.base.PointBase.{PointBase}
 use Rattle.sn_held.specs.Held.{Held}
 use Rattle.sn_limits.specs.Versions.{limits_written}

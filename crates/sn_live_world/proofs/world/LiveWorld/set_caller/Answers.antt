@@ -1,5 +1,5 @@
 use Rattle.std.proofs.Common.{◌≡◌, ◌+◌, cond, is_some, length, refl, ap, ◌∙◌, arith}
-use Rattle.sn_core.proofs.CallerLemmas.{has_room}
+use Rattle.sn_caller.proofs.CallerLemmas.{has_room}
 use Rattle.sn_desc.specs.InUse.{InUse, live_in}
 use Rattle.sn_desc.specs.Sessions.{in_use_of}
 use Rattle.sn_live_world.specs.Dropping.{DropsClosed, DropsLost}

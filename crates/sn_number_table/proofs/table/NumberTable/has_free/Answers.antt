@@ -1,5 +1,5 @@
 use Rattle.std.proofs.Common.{is_some, sym, ap, ◌∙◌}
-use Rattle.sn_numbers.proofs.FreeLemmas.{some_next}
+use Rattle.sn_number_table.proofs.FreeLemmas.{some_next}
 use Rattle.sn_number_table.specs.Table.{kept_of}
 use Rattle.sn_number_table.proofs.table.NumberTable.has_free.Goals as goal
 

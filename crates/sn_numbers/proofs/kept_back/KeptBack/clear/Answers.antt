@@ -2,7 +2,7 @@ use Rattle.std.proofs.Common.{List, get_or, ap, ◌∙◌}
 use Rattle.sn_numbers.specs.declared.kept_back.Mark.{Mark}
 use Rattle.sn_numbers.specs.declared.kept_back.Mark.TheVariants.{Free}
 use Rattle.sn_numbers.specs.Marks.{is_kept, is_since}
-use Rattle.sn_numbers.specs.Numbers.{held_of, since_of}
+use Rattle.sn_numbers.specs.Back.{held_of, since_of}
 use Rattle.sn_numbers.proofs.MarkLemmas.{none_marked}
 use Rattle.sn_numbers.proofs.kept_back.KeptBack.clear.Goals as goal
 

@@ -3,7 +3,7 @@ use Rattle.std.proofs.lemmas.List.{length-map, with_items_is}
 use Rattle.sn_numbers.specs.declared.kept_back.Mark.{Mark}
 use Rattle.sn_numbers.specs.declared.kept_back.Mark.TheVariants.{Free}
 use Rattle.sn_numbers.specs.Marks.{forgotten, is_kept, is_since}
-use Rattle.sn_numbers.specs.Numbers.{held_of, since_of}
+use Rattle.sn_numbers.specs.Back.{held_of, since_of}
 use Rattle.sn_numbers.proofs.MarkLemmas.{changed_at, kept_since, since_since}
 use Rattle.sn_numbers.proofs.kept_back.KeptBack.end_point.Goals as goal
 

@@ -2,7 +2,7 @@ use Rattle.std.proofs.Common.{get_or, ap, ◌∙◌, arith}
 use Rattle.std.proofs.lemmas.List.{get_or_read}
 use Rattle.sn_numbers.specs.declared.kept_back.Mark.TheVariants.{Free}
 use Rattle.sn_numbers.specs.Marks.{is_kept}
-use Rattle.sn_numbers.specs.Numbers.{held_of}
+use Rattle.sn_numbers.specs.Back.{held_of}
 use Rattle.sn_numbers.proofs.kept_back.KeptBack.has.Goals as goal
 
 pub returns : goal.returns

@@ -1,7 +1,7 @@
 use Rattle.std.proofs.Common.{◌||◌, ◌==◌, get_or, refl, ap, ◌∙◌, arith}
 use Rattle.sn_numbers.specs.declared.kept_back.Mark.TheVariants.{Free}
 use Rattle.sn_numbers.specs.Marks.{is_kept, is_since}
-use Rattle.sn_numbers.specs.Numbers.{held_of, since_of}
+use Rattle.sn_numbers.specs.Back.{held_of, since_of}
 use Rattle.sn_numbers.proofs.MarkLemmas.{marked_at}
 use Rattle.sn_numbers.proofs.kept_back.KeptBack.put.Goals as goal
 

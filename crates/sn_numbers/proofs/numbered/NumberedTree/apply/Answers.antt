@@ -3,9 +3,10 @@ use Rattle.sn_model.specs.declared.change.Change.{Change}
 use Rattle.sn_model.specs.declared.change.Change.TheVariants.{Make}
 use Rattle.sn_model.specs.Changes.{apply}
 use Rattle.sn_model.specs.Settling.{loses}
-use Rattle.sn_numbers.specs.Numbers.{AreTaken, held_of, next_after}
+use Rattle.sn_numbers.specs.Back.{held_of}
+use Rattle.sn_number_table.specs.Numbers.{AreTaken, next_after}
 use Rattle.sn_plain.specs.Plain.{tree_of}
-use Rattle.sn_numbers.proofs.FreeLemmas.{change_keeps, made_there, taken_after}
+use Rattle.sn_number_table.proofs.FreeLemmas.{change_keeps, made_there, taken_after}
 use Rattle.sn_numbers.proofs.numbered.NumberedTree.apply.Goals as goal
 
 pub next_after_make-self-requires-clause-taken : goal.next_after_make-self-requires-clause-taken

@@ -1,8 +1,9 @@
 use Rattle.std.proofs.Common.{sym, subst}
 use Rattle.sn_model.specs.Tree.{Tree}
-use Rattle.sn_numbers.specs.Numbers.{AreTaken, held_of}
+use Rattle.sn_numbers.specs.Back.{held_of}
+use Rattle.sn_number_table.specs.Numbers.{AreTaken}
 use Rattle.sn_plain.specs.Plain.{tree_of}
-use Rattle.sn_numbers.proofs.FreeLemmas.{taken_closed}
+use Rattle.sn_number_table.proofs.FreeLemmas.{taken_closed}
 use Rattle.sn_numbers.proofs.numbered.NumberedTree.drop_closed.Goals as goal
 
 pub invariant_of-self : goal.invariant_of-self

@@ -1,9 +1,10 @@
 use Rattle.std.proofs.Common.{Some, sym, subst}
 use Rattle.sn_model.specs.Changes.{take_node}
 use Rattle.sn_model.specs.Tree.{Tree}
-use Rattle.sn_numbers.specs.Numbers.{AreTaken, held_of, next_after}
+use Rattle.sn_numbers.specs.Back.{held_of}
+use Rattle.sn_number_table.specs.Numbers.{AreTaken, next_after}
 use Rattle.sn_plain.specs.Plain.{tree_of}
-use Rattle.sn_numbers.proofs.FreeLemmas.{dropped_keeps, taken_after}
+use Rattle.sn_number_table.proofs.FreeLemmas.{dropped_keeps, taken_after}
 use Rattle.sn_numbers.proofs.numbered.NumberedTree.drop_file.Goals as goal
 
 pub invariant_of-self : goal.invariant_of-self

@@ -1,7 +1,7 @@
 use Rattle.std.proofs.Common.{is_some, ap, sym, ◌∙◌, arith}
 use Rattle.sn_plain.specs.Plain.{tree_of}
-use Rattle.sn_numbers.specs.Numbers.{held_of}
-use Rattle.sn_numbers.proofs.FreeLemmas.{room_is, some_next}
+use Rattle.sn_numbers.specs.Back.{held_of}
+use Rattle.sn_number_table.proofs.FreeLemmas.{room_is, some_next}
 use Rattle.sn_numbers.proofs.numbered.NumberedTree.has_room.Goals as goal
 
 pub returns-in-Some-clause-room : goal.returns-in-Some-clause-room

@@ -1,7 +1,7 @@
 use Rattle.std.proofs.Common.{sym, ◌∙◌, arith}
-use Rattle.sn_numbers.specs.Numbers.{held_of}
+use Rattle.sn_numbers.specs.Back.{held_of}
 use Rattle.sn_plain.specs.Plain.{tree_of}
-use Rattle.sn_numbers.proofs.FreeLemmas.{next_is, next_of_kept, taken_below}
+use Rattle.sn_number_table.proofs.FreeLemmas.{next_is, next_of_kept, taken_below}
 use Rattle.sn_numbers.proofs.numbered.NumberedTree.next_number.Goals as goal
 
 pub returns-then-number-from : goal.returns-then-number-from

@@ -8,7 +8,7 @@ use Rattle.sn_model.proofs.MapLemmas.{same_or_apart}
 use Rattle.sn_plain.specs.Plain.{tree_of}
 use Rattle.sn_nodes.specs.Stored.{node_of, stored_of}
 use Rattle.sn_nodes.proofs.SeenLemmas.{copied_is, seen, used_seen}
-use Rattle.sn_plain.proofs.NumberLemmas.{least_is, none_is}
+use Rattle.sn_model.proofs.SearchLemmas.{least_is, none_is}
 use Rattle.sn_plain.proofs.tree.PlainTree.least_unused.Goals as goal
 
 none_of : {X : Type 0} (o : Option X) → is_some o ≡ false → o ≡ None

@@ -3,8 +3,8 @@ use Rattle.sn_model.proofs.ChainLemmas.{some_same}
 use Rattle.sn_desc.specs.Closing.{pushed}
 use Rattle.sn_desc.specs.InUse.{InUse, live_in}
 use Rattle.sn_desc.specs.Sessions.{in_use_of}
-use Rattle.sn_core.proofs.CallerLemmas.{close_tells}
-use Rattle.sn_core.proofs.turning.close.Goals as goal
+use Rattle.sn_caller.proofs.CallerLemmas.{close_tells}
+use Rattle.sn_caller.proofs.turning.close.Goals as goal
 use Rattle.sn_desc.proofs.ReleaseLemmas.{closed_fewer, last_told, released_live}
 
 one : (n : ℕ) → Contains (n ∷ []) n

@@ -1,7 +1,7 @@
 //! What becomes of a caller's session and its descriptors.
 ghost use Rattle.std.specs.Prelude.{◌≡◌, ◌+◌, ◌-◌, ◌<◌, ◌≤◌, ℕ, true, Ok, if◌then◌else◌};
 ghost use Rattle.arrayvec.specs.ArrayVec.{array_vec_len};
-ghost use Rattle.sn_core.specs.Called.{CanTurn, HasRoomNow, TellsReleased, WereHeld};
+ghost use Rattle.sn_caller.specs.Called.{CanTurn, HasRoomNow, TellsReleased, WereHeld};
 ghost use Rattle.sn_desc.specs.InUse.{descriptor_of, in_world, live_in};
 ghost use Rattle.sn_desc.specs.Sessions.{in_use_of};
 ghost use Rattle.sn_model.specs.Descriptors.{is_held_in, next_descriptor, opened};

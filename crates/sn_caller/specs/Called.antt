@@ -2,7 +2,7 @@
 use Rattle.std.specs.Prelude.{◌≡◌, ℕ, ◌<◌, ◌≤◌, true, false, List, Ok, Contains}
 use Rattle.sn_model.specs.Descriptors.{Descriptors, next_descriptor}
 use Rattle.sn_model.specs.declared.outcome.Caller.{Caller}
-use Rattle.sn_model.specs.declared.outcome.Caller.TheVariants.{Stays, LogsIn, SetsUmask, LogsOut, Opens, OpensNew, Closes, Moves}
+use Rattle.sn_model.specs.declared.outcome.Caller.TheVariants.{Opens}
 use Rattle.sn_model.specs.Outcomes.{is_opening}
 use Rattle.sn_model.specs.Settling.{is_abandoned, is_held}
 use Rattle.sn_model.specs.World.{World}

@@ -7,10 +7,10 @@ use Rattle.sn_changed.proofs.HoldsLemmas.{StillHolds, moved_holds, same_holds}
 use Rattle.sn_desc.specs.InUse.{InUse, in_world, live_in}
 use Rattle.sn_desc.specs.Sessions.{in_use_of}
 use Rattle.sn_desc.specs.declared.sessions.Sessions.{Sessions}
-use Rattle.sn_core.proofs.CallerLemmas.{none_released}
-use Rattle.sn_core.proofs.LiveLemmas.{moved_live}
-use Rattle.sn_core.proofs.turning.turn.Goals as goal
-use Rattle.sn_core.proofs.turning.turn.Goals.{in-Stays, in-LogsIn, in-SetsUmask, in-Opens, in-Moves}
+use Rattle.sn_caller.proofs.CallerLemmas.{none_released}
+use Rattle.sn_caller.proofs.LiveLemmas.{moved_live}
+use Rattle.sn_caller.proofs.turning.turn.Goals as goal
+use Rattle.sn_caller.proofs.turning.turn.Goals.{in-Stays, in-LogsIn, in-SetsUmask, in-Opens, in-Moves}
 
 abbrev table_of : Sessions → Descriptors
 table_of s = (in_use_of s).descriptors

@@ -35,10 +35,10 @@ use Rattle.sn_model.proofs.OutcomeLemmas.{IsOfOld}
 use Rattle.sn_model.proofs.PartLemmas.{Made, made_is}
 use Rattle.sn_model.proofs.SettlingLemmas.{get_without, nameless_is}
 use Rattle.sn_model.proofs.StayLemmas.{change_stays, file_stays}
-use Rattle.sn_numbers.specs.Numbers.{kept_after}
+use Rattle.sn_number_table.specs.Numbers.{kept_after}
 use Rattle.sn_changed.proofs.HoldsLemmas.{some_descriptor}
-use Rattle.sn_core.specs.Called.{TellsReleased, WereHeld}
-use Rattle.sn_core.specs.Numbering.{GivesOut, Numbers, has_closed, has_gone}
+use Rattle.sn_caller.specs.Called.{TellsReleased, WereHeld}
+use Rattle.sn_caller.specs.Numbering.{GivesOut, Numbers, has_closed, has_gone}
 
 -- ---- where nothing changes
 none_given : (world : World) (n : ℕ) → GivesOut world world n → ⊥

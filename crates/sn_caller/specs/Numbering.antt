@@ -5,10 +5,10 @@ use Rattle.sn_limits.specs.Versions.{limits_written}
 use Rattle.sn_model.specs.declared.call.Event.{Event}
 use Rattle.sn_model.specs.declared.call.Event.TheVariants.{Call, Step, Restart}
 use Rattle.sn_model.specs.declared.change.Change.{Change}
-use Rattle.sn_model.specs.declared.change.Change.TheVariants.{Make, AddLink, Remove, Rename, Write, SetSize, SetAttributes}
+use Rattle.sn_model.specs.declared.change.Change.TheVariants.{Make}
 use Rattle.sn_model.specs.Settling.{is_held}
 use Rattle.sn_model.specs.World.{World}
-use Rattle.sn_numbers.specs.Numbers.{next_number}
+use Rattle.sn_number_table.specs.Numbers.{next_number}
 
 -- a number that no node had, and that one has now
 pub record GivesOut (old new : World) (number : ℕ) : Type 0 where

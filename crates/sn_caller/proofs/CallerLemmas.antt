@@ -29,7 +29,7 @@ use Rattle.sn_model.proofs.SettlingLemmas.{get_without}
 use Rattle.sn_changed.proofs.HoldsLemmas.{StillHolds}
 use Rattle.sn_desc.specs.Closing.{released_if}
 use Rattle.sn_desc.proofs.ReleaseLemmas.{told_last}
-use Rattle.sn_core.specs.Called.{AreNumbers, CanTurn, HasRoom, HasRoomNow, TellsReleased}
+use Rattle.sn_caller.specs.Called.{AreNumbers, CanTurn, HasRoom, HasRoomNow, TellsReleased}
 
 -- ---- what is released
 

@@ -3,8 +3,8 @@ use Rattle.sn_model.specs.Descriptors.{is_held_in}
 use Rattle.sn_changed.proofs.HoldsLemmas.{next_vacant, opened_holds}
 use Rattle.sn_desc.specs.InUse.{InUse, descriptor_of, live_in}
 use Rattle.sn_desc.specs.Sessions.{in_use_of}
-use Rattle.sn_core.proofs.LiveLemmas.{opened_live}
-use Rattle.sn_core.proofs.turning.open.Goals as goal
+use Rattle.sn_caller.proofs.LiveLemmas.{opened_live}
+use Rattle.sn_caller.proofs.turning.open.Goals as goal
 
 pub returns-in-Ok-clause-holds : goal.returns-in-Ok-clause-holds
 returns-in-Ok-clause-holds c n held =

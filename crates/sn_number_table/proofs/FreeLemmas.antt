@@ -1,5 +1,5 @@
 -- The numbers that a new node can get: the search for one, and what a change leaves taken.
-use Rattle.std.proofs.Common.{◌≡◌, ◌≢◌, ◌⊎◌, inl, inr, ℕ, zero, suc, ◌+◌, ◌-◌, ◌<◌, ◌≤◌, Bool, true, false, cond, ◌||◌, ◌==◌, Option, Some, None, Result, Ok, Err, is_some, is_none, min, max, nat_le, refl, sym, ap, subst, ◌∙◌, arith, add-zero, nat_lt, List, []}
+use Rattle.std.proofs.Common.{◌≡◌, ◌≢◌, ◌⊎◌, inl, inr, ℕ, zero, suc, ◌+◌, ◌-◌, ◌<◌, ◌≤◌, Bool, true, false, cond, ◌||◌, ◌==◌, Option, Some, None, Result, Ok, Err, is_some, is_none, min, max, nat_le, refl, sym, ap, subst, ◌∙◌, arith, nat_lt, List, []}
 use Rattle.std.specs.Option.{option_or}
 use Rattle.std.specs.Ordering.{nat_cmp, eq_by_cmp}
 use Rattle.std.specs.Cmp.{nat_cmp_total}
@@ -27,7 +27,7 @@ use Rattle.sn_model.proofs.MapLemmas.{same_or_apart, get_inserted, get_left}
 use Rattle.sn_model.proofs.MoveLemmas.{some_node}
 use Rattle.sn_model.proofs.PartLemmas.{Unlinked, IsRenamed, cut_is, linked_is, made_is, owned_is, removed_is, renamed_is, replaced_is, unlinked_is, written_is}
 use Rattle.sn_model.proofs.SearchLemmas.{first_found, is_found, none_without}
-use Rattle.sn_numbers.specs.Numbers.{AreTaken, is_taken, next_after, next_number}
+use Rattle.sn_number_table.specs.Numbers.{AreTaken, is_taken, next_after, next_number}
 
 -- ---- the search
 module _ (tree : Tree) (kept : ℕ → Bool) where

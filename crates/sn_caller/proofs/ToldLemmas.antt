@@ -10,11 +10,11 @@ use Rattle.sn_changed.proofs.DroppedLemmas.{tells_one_more}
 use Rattle.sn_model.specs.Changes.{take_node}
 use Rattle.sn_model.specs.Settling.{OnlyLost, dropped, dropped_if, is_abandoned, is_held}
 use Rattle.sn_model.specs.World.{World}
-use Rattle.sn_core.specs.Called.{TellsReleased, WereHeld}
-use Rattle.sn_core.specs.Numbering.{has_closed, has_gone}
-use Rattle.sn_core.specs.Told.{dropped_lost, told_if, told_lost}
-use Rattle.sn_core.proofs.CallerLemmas.{none_more, one_more}
-use Rattle.sn_core.proofs.NumberLemmas.{abandoned_there, closed_none, closed_one, unheld}
+use Rattle.sn_caller.specs.Called.{TellsReleased, WereHeld}
+use Rattle.sn_caller.specs.Numbering.{has_closed, has_gone}
+use Rattle.sn_caller.specs.Told.{dropped_lost, told_if, told_lost}
+use Rattle.sn_caller.proofs.CallerLemmas.{none_more, one_more}
+use Rattle.sn_caller.proofs.NumberLemmas.{abandoned_there, closed_none, closed_one, unheld}
 
 -- ---- one that may go
 

@@ -1,22 +1,11 @@
 -- Which number a new node gets, where some are kept back.
-use Rattle.std.specs.Prelude.{◌≡◌, ℕ, ◌-◌, ◌<◌, ◌≤◌, Bool, true, false, not, ◌&&◌, ◌||◌, Option, None, Some, is_some, min, max, slice_index_or, if◌then◌else◌}
+use Rattle.std.specs.Prelude.{◌≡◌, ℕ, ◌-◌, ◌<◌, ◌≤◌, Bool, true, not, ◌&&◌, ◌||◌, Option, None, Some, is_some, min, max, if◌then◌else◌}
 use Rattle.std.specs.Option.{option_or}
 use Rattle.std.specs.FinMap as map
 use Rattle.sn_limits.specs.declared.limits.Limits.{Limits}
 use Rattle.sn_model.specs.declared.change.Change.{Change}
 use Rattle.sn_model.specs.declared.change.Change.TheVariants.{Make}
 use Rattle.sn_model.specs.Tree.{Tree, first_without, least_unused}
-use Rattle.sn_numbers.specs.declared.kept_back.KeptBack.{KeptBack}
-use Rattle.sn_numbers.specs.declared.kept_back.Mark.TheVariants.{Free}
-use Rattle.sn_numbers.specs.Marks.{is_kept, is_since}
-
--- the numbers that are kept back
-unfoldable pub held_of : KeptBack → ℕ → Bool
-held_of k number = is_kept (slice_index_or k.marks.items number Free)
-
--- those of them that are so since the consistency point in progress began
-unfoldable pub since_of : KeptBack → ℕ → Bool
-since_of k number = is_since (slice_index_or k.marks.items number Free)
 
 -- a number that no new node gets yet: it has a node, or it is kept back
 abbrev pub is_taken : Tree → (ℕ → Bool) → ℕ → Bool

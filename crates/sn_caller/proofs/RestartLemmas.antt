@@ -8,7 +8,7 @@ use Rattle.sn_model.specs.World.{World}
 use Rattle.sn_model.specs.Settling.{is_nameless, settle, settled}
 use Rattle.sn_model.proofs.LoseLemmas.{none_of_both}
 use Rattle.sn_model.proofs.SettlingLemmas.{get_without}
-use Rattle.sn_core.specs.Numbering.{Numbers}
+use Rattle.sn_caller.specs.Numbering.{Numbers}
 
 none_settled : (tree : Tree) (number : ℕ) → map.get tree.nodes number ≡ None → map.get (settled tree).nodes number ≡ None
 none_settled tree number none =

@@ -1,0 +1,4 @@
+pub mod Called
+pub mod Choosing
+pub mod Numbering
+pub mod Told
