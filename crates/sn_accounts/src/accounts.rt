@@ -68,6 +68,8 @@ impl<'a> Accounts<'a> {
 
     /// Those that a text tells, as the C library's files tell them: of two lines with one name the first counts. An error is a
     /// want of memory.
+    ///
+    /// Proved: A text is read as the map of the accounts that its lines tell, in which the first line with a name counts.
     pub fn read(alloc: Global, text: &'a [u8]) -> Result<Self, AllocError>
         ensures { IfOk result (λ accounts. accounts ≡ map.from_entries (accounts_of text.now)) }
     {
@@ -82,6 +84,8 @@ impl<'a> Accounts<'a> {
     }
 
     /// The number of a name. It takes no memory.
+    ///
+    /// Proved: A name has the number that the map has.
     pub fn number(&self, name: &[u8]) -> Option<u32>
         ensures { result ≡ map.get self.now name.now }
     {

@@ -11,6 +11,8 @@ use crate::{Acl, Cred, Entry, Permissions, Tag};
 /// Whether a caller may do all that it wants with an object of this owner, group and ACL, by the access check
 /// algorithm of acl(5). An `Err` has the entry that denies it: the MASK where an entry for the caller contains
 /// what is wanted, else the first entry that is for the caller. The user 0 is granted everything.
+///
+/// Proved: A right is granted exactly by the access check algorithm of acl(5), and a denial names the deciding entry.
 pub fn check(cred: &Cred, owner: u32, group: u32, acl: &Acl, want: Permissions) -> Result<(), Entry>
     ensures { result_err result ≡ denial_of cred.now owner group acl.now want }
 {

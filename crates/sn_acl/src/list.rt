@@ -84,6 +84,8 @@ impl Acl {
     }
 
     /// The permission bits of a file with this ACL, as acl(5) relates them to its entries.
+    ///
+    /// Proved, also of `Acl::chmod` and `inherit`: Modes, `chmod` and inheritance follow acl(5).
     pub fn mode(&self) -> Mode
         ensures { result ≡ mode_of self.now }
     {

@@ -68,6 +68,9 @@ fn kind(tag: Tag) -> &'static str
 impl Acl {
     /// The ACL that has this text, byte for byte. `None` for a text that no valid ACL has: one with another
     /// order, with spaces or leading zeros, with an entry missing or doubled, or with more than 32 names.
+    ///
+    /// Proved, also of `Acl::print` and `spelling_is_one`: A text is parsed to the ACL that it spells, and printed so; each
+    /// valid ACL has one spelling, and any other text spells none.
     pub fn parse(text: &[u8]) -> Option<Self>
         ensures { result ≡ acl_of text.now }
     {

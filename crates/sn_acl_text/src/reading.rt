@@ -52,6 +52,10 @@ fn push_word<'a>(entries: &mut ArrayVec<TextEntry<'a>, MAX_ENTRIES>, word: &'a [
 
 /// The entries that the text of an ACL says, in its order. `None` where an entry is damaged, or where there are more than an ACL has. A text
 /// without entries says none. Whether they are a valid ACL is for the caller, who has the numbers of names.
+///
+/// Proved: A text is read as the entries that it says: between commas and line ends, without comments, in the long or the
+/// short form, each with its number, the number of its fourth field, or a name without one. There are none exactly where an
+/// entry is damaged or there are more than 36.
 pub fn parse_entries(text: &[u8]) -> Option<ArrayVec<TextEntry<'_>, MAX_ENTRIES>>
     ensures found { IfSome result (λ entries. said text.now ≡ Some entries.items) }
     ensures none { IsNone result → (all : List EntryValue) → said text.now ≡ Some all → 36 < length all }

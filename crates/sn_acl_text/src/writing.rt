@@ -11,6 +11,8 @@ use sn_acl::{Acl, Entry, Tag};
 pub const MAX_LONG_TEXT: usize = 756;
 
 /// The long text of an ACL, its entries in canonical order with commas between them.
+///
+/// Proved: An ACL is written in the long text form, its entries in canonical order with commas between them.
 pub fn print_long(acl: &Acl) -> ArrayString<MAX_LONG_TEXT>
     ensures { result.bytes ≡ long_text acl.now }
 {

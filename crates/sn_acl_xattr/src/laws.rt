@@ -5,6 +5,8 @@ ghost use Rattle.sn_acl.specs.declared.entries.Entry.{Entry};
 ghost use Rattle.sn_acl_xattr.specs.Values.{IsValueOf, value_of};
 
 /// What is written for an ACL is a value of it, so that it is read as that ACL.
+///
+/// Proved, also of `values_are_of_one_acl`: What is written for an ACL is a value of it, and no value is one of two ACLs.
 pub fn written_values_are_read()
     ensures { (acl : List Entry) → IsValid acl → IsValueOf (value_of acl) acl }
 {}

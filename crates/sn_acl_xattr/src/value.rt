@@ -29,6 +29,8 @@ fn version_bytes() -> [u8; HEAD_SIZE]
 }
 
 /// The value of an ACL, its entries in canonical order.
+///
+/// Proved: An ACL is written as its one value in canonical order.
 pub fn encode(acl: &Acl) -> ArrayVec<u8, LONGEST_VALUE>
     ensures { result.items ≡ value_of acl.now }
 {
@@ -44,6 +46,9 @@ pub fn encode(acl: &Acl) -> ArrayVec<u8, LONGEST_VALUE>
 /// The ACL whose entries a value has, in whatever order. `None` where it is the value of no valid ACL: of another version,
 /// with bytes after the last entry, with numbers that are those of no entry, with an entry missing or twice, with named
 /// entries and no MASK, or with more than 32 of them.
+///
+/// Proved: A value is read as an ACL exactly where it has the entries of a valid one, each once, in whatever order; where it
+/// has none of such, as none.
 pub fn decode(value: &[u8]) -> Option<Acl>
     ensures found { IfSome result (λ acl. IsValid acl × IsValueOf value.now acl) }
     ensures only { (acl : List TheEntry) → IsValid acl → IsValueOf value.now acl → result ≡ Some acl }

@@ -67,6 +67,9 @@ impl BlockAllocator {
     /// Takes the next free block, from where the last search stopped. It takes no memory: the room
     /// comes from `reserve`. `Full` comes where every free block of the data area is taken, and the
     /// search then stands at the end.
+    ///
+    /// Proved: A taken block's word was zero, it lies in the data area and wasn't taken before; `Full` comes only where no
+    /// block is left.
     pub fn take(&mut self) -> Result<u32, Full>
         requires { 0 < self.old.room }
         // The block was free, and wasn't taken before. `Full` comes only where none is left.
@@ -114,6 +117,8 @@ impl BlockAllocator {
 
     /// How many words the searches of all takes looked at: for each, those from where it began to the
     /// block that it took, both counted, and at `Full` those to the end.
+    ///
+    /// Proved: The words looked at are counted, and are at most the words of the map over all takes.
     pub fn looked(&self) -> u64
         ensures sum { result ≡ self.now.looked }
         ensures at_most { result ≤ length self.now.words }
@@ -140,6 +145,8 @@ impl BlockAllocator {
     }
 
     /// Gives up what was taken, and hands back the map as it was given.
+    ///
+    /// Proved: The map that is handed back when a build is given up is the one that was given.
     pub fn give_up(self) -> Map
         ensures { result ≡ self.words }
     {

@@ -76,6 +76,11 @@ fn set_attributes<T: NamedTree>(
 ///
 /// The tree is one whose directories form a hierarchy, as every name tree; of another one the answer
 /// says nothing. A fault is one of a look-up. Whatever the answer, the tree shows what it did.
+///
+/// Proved: The test is exact whether each of the seven changes can be applied to a tree that is read, where its directories
+/// form a hierarchy.
+/// Proved, also of `NamedTree`: The test looks up nodes and names, counts of names, and whether one directory is below
+/// another: it reads no byte of a file, takes no memory, leaves what the tree shows, and fails with a look-up alone.
 pub fn applies<T: NamedTree>(
     limits: &Limits,
     tree: &mut T,

@@ -78,6 +78,10 @@ impl<D: Device> Blocks<D> {
     /// Makes a block the one that `fetched` lends. It is read if it isn't kept. `Memory` comes only where
     /// memory is refused for one that isn't kept, and leaves the device as it was. `Device` comes only
     /// where the device failed, which is counted, or has come to its end.
+    ///
+    /// Proved, also of `fetched` and `read_block`: A block that is lent is the device's eight sectors, from a cache that
+    /// goes with what reads give, also after a write that failed, and lending changes nothing on the device.
+    /// Proved, also of `read_block`: A fault says whether the device failed or memory was refused, and the counts show it.
     pub fn fetch(&mut self, number: u32) -> Result<(), ReadFault>
         requires room { 8 * number + 8 ≤ (D.status (device_of self.old)).sectors }
         ensures lent { OnOk result (fetched_number self.new ≡ Some number) }
@@ -118,6 +122,9 @@ impl<D: Device> Blocks<D> {
     }
 
     /// Writes a sector. Its block is kept no longer, also after a fault, and no index that rests on it.
+    ///
+    /// Proved, also of `write_stretch`, `write_block` and `zero_range`: A call that writes touches the sectors that it names
+    /// and no others, whatever its answer, and at its success reads give what was written.
     pub fn write_sector(&mut self, at: u64, sector: &Sector) -> Result<(), Fault>
         requires room { at < (D.status (device_of self.old)).sectors }
         ensures disk { IsTrue D.tells_bytes → WritesSector at sector.now result
@@ -176,6 +183,8 @@ impl<D: Device> Blocks<D> {
 
     /// Writes a sector, and syncs. At `Ok` a crash leaves what reads give, here and in all that was
     /// written before.
+    ///
+    /// Proved, also of `sync`: After a sync a crash leaves what reads give.
     pub fn write_synced(&mut self, at: u64, sector: &Sector) -> Result<(), Fault>
         requires room { at < (D.status (device_of self.old)).sectors }
         ensures disk { IsTrue D.tells_bytes → WritesSynced at sector.now result

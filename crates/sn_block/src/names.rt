@@ -15,6 +15,9 @@ impl<D: Device> Blocks<D> {
     ghost use Rattle.sn_block.specs.Lending.{device_of, fetched_number, fetched_bytes};
 
     /// Whether a directory has an index of its names. Then it counts as the one used last.
+    ///
+    /// Proved, also of `new_index`, `keep_index` and `note_names`: Calls on indexes of names leave the device, its counts
+    /// and the block that is lent.
     pub fn has_index(&mut self, tree: &BlockTree) -> bool
         ensures device { device_of self.new ≡ device_of self.old }
         ensures number { fetched_number self.new ≡ fetched_number self.old }
@@ -46,6 +49,10 @@ impl<D: Device> Blocks<D> {
 
     /// The first block of a directory from one on that may have a name: each block passed over is there, and
     /// lacks it. Without an index no block is passed over. Where there is none it is the number of blocks.
+    ///
+    /// Proved, also of `next_wanted`: Each block of a directory that is passed over is there by what reads give, spells
+    /// names, and lacks the name that is looked for, or all names of the prints and the room, whatever was written since the
+    /// index learnt it, also where a write failed.
     pub fn next_block(&self, tree: &BlockTree, name: &[u8], from: u64) -> u64
         ensures after { from ≤ result }
         ensures end { from ≤ tree.now.size / 4096 → result ≤ tree.now.size / 4096 }

@@ -47,6 +47,9 @@ fn are_all_zero(bytes: &[u8]) -> bool
 /// What is read without a test needs its bytes there, as in a block, which has them all. The `try_`
 /// calls are for bytes that may end early, as a log record's: they answer `None` where fewer are
 /// left than they read, and then stay where they are.
+///
+/// Proved: What is read is what the bytes that are left begin with, and no other number is spelled so.
+/// Proved: A call for bytes that may end early answers `None` exactly where too few are left, and stays where it is.
 #[derive(Drop)]
 pub struct Reader<'a> {
     rest: &'a [u8],

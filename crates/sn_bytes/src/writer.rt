@@ -34,6 +34,8 @@ pub fn put_u16(block: &mut [u8], at: usize, number: u16) -> usize
 }
 
 /// Puts a number as four bytes, the low one first.
+///
+/// Proved, also of the other `put_` calls: What is put comes after what was put before, and nothing else changes.
 pub fn put_u32(block: &mut [u8], at: usize, number: u32) -> usize
     requires { at + 4 ≤ length block.old }
     ensures bytes { Puts block.old block.new at result (number_bytes 4 number) }

@@ -46,6 +46,10 @@ fn close(sessions: &mut Sessions, session: u32, fd: u32) -> Released
 /// Sets what becomes of a caller's session and its descriptors, and tells the live files that no descriptor
 /// has any more. What is opened goes under the session's next descriptor; where that isn't the one that was
 /// decided, or there is no such session, the clauses say only how many descriptors there are then.
+///
+/// Proved: Sessions turn without a tree: a caller's session and descriptors become what the model makes of them, over each
+/// world; the live files that lose their last descriptor are returned, and these with the descriptors of live files that are
+/// left are no more than before and one that is opened.
 pub fn turn(sessions: &mut Sessions, session: u32, caller: Caller) -> Released
     requires { HasRoomNow caller (in_use_of sessions.old).room }
     ensures world { (world : World) → CanTurn (in_use_of sessions.old).descriptors (in_use_of sessions.old).room session caller

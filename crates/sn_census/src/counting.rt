@@ -88,6 +88,13 @@ fn test_counted<D: Device>(
 /// otherwise stands: a name of an unused number, told of the block of its directory, or, told of the block
 /// of its record, a number with too many or too few names, or a directory that isn't reached from the root.
 /// At `Ok` the census tells the names of each number. Whatever the census counted before, it counts anew.
+///
+/// Proved: At `Ok` a root that is sound but for its links is linked, and so sound: each name leads to an inode, the root has
+/// none, each other inode has as many as it says, which for a directory is one, and each directory is reached from the root.
+/// Proved: A damage is at the block that is reported: a directory's block with a name that leads to no inode, or the block
+/// of a record that has not as many names as it says, or is that of a directory that isn't reached.
+/// Proved: The census counts anew whatever it counted before; over a device that tells its bytes nothing is written, and
+/// only its own failures are counted; over another nothing is written unless the device is reported as failed.
 pub fn count_links<D: Device>(
     census: &mut Census,
     blocks: &mut Blocks<D>,

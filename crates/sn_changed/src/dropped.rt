@@ -21,6 +21,10 @@ pub type DroppedFiles = ArrayVec<DroppedFile, 65>;
 
 /// Takes files that went from the live tree out of what changed, for which there is room. It takes no
 /// memory.
+///
+/// Proved, also of `dropped_laws`: Files that went are dropped from what changed in the room that there was for them,
+/// without memory, and then it is what changed up to the tree that is left: of distinct files without names, and after each
+/// caller.
 pub fn drop_each(overlay: &mut Overlay, files: &[DroppedFile])
     requires { HasRoom overlay.old (counts (length files.now) 0 0) }
     ensures layer { layer_of overlay.new ≡ with_drops (layer_of overlay.old) files.now }

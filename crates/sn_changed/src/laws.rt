@@ -5,6 +5,13 @@ ghost use Rattle.sn_changed.specs.Laws.{BuildsFit, CallersDrop, ChangesMerge, Dr
 use sn_overlay::changes_are_paid;
 
 /// How what changed since a root grows, and that it fits.
+///
+/// Proved: What changed since a root is a layer over its tree through which the live one is seen, from none over a new root
+/// on: each change of the live tree is merged and charged, and so is each file without names that goes, which its own charge
+/// pays.
+/// Proved: Where all that was charged since the root, with a charge for each file that its tree has without names, is no
+/// more than it leaves free, so is what the layer needs, with a charge for each live file without names: what a point has to
+/// build fits.
 pub fn changed_laws()
     ensures nothing { NothingChanged }
     ensures changes { ChangesMerge }
@@ -16,6 +23,9 @@ pub fn changed_laws()
 
 /// No file gets its first name by what a call has decided, and a call that is logged closes nothing: so it leaves
 /// each file without names so, and no fewer of them.
+///
+/// Proved: A call that is logged gives no file its first name and closes nothing, and so leaves each file without names so,
+/// and no fewer of them.
 pub fn decided_laws()
     ensures names { DecidedGiveNoFirstName }
     ensures kept { LoggedKeepOpen }

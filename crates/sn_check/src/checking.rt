@@ -18,6 +18,8 @@ use std::alloc::Global;
 
 /// Goes through a disk group by group, up to its first fault, as [`check`] does. At `Ok` it is sound, and so many blocks are
 /// free.
+///
+/// Proved: As the fault of a mount a verdict is `Ok` only of a clean disk, and else the fault that it names.
 pub fn test_disk<D: Device>(alloc: Global, blocks: &mut Blocks<D>) -> Result<u32, MountFault>
     ensures clean { IsTrue D.tells_bytes → IfOk result (λ free. IsClean (D.status (device_of blocks.old)).sectors (reads (D.disk (device_of blocks.old))) free) }
     ensures cause { IsTrue D.tells_bytes → IfErr result (IsCause (D.status (device_of blocks.old)).sectors (reads (D.disk (device_of blocks.old)))) }
@@ -51,6 +53,17 @@ pub fn test_disk<D: Device>(alloc: Global, blocks: &mut Blocks<D>) -> Result<u32
 /// verdict, and `NotFormatted`, `NoRoot` and `Version` come in this order, where there is no root to check; `Memory`
 /// where memory is refused, and `Device` where the device fails. Nothing is written. A device that gives other bytes at a
 /// second read makes a misspelt root body of it.
+///
+/// Proved: A disk is `Clean` only where it is sound, its newest root and those of its snapshots with the map of their
+/// blocks, and the log on top of the newest one; the number with it is that of the data blocks that no root reaches.
+/// Proved: A fault is at the block that is reported, and none of an earlier group is there: the root bodies (C1) come before
+/// pointers, blocks reached twice and spelling (C2, C3, C5), these before the map (C4), then names and links (C6), and last
+/// the log (C7), each over all roots.
+/// Proved: The verdict is exact, since no disk is two of these (`fault_laws` of sn_sound).
+/// Proved: M1, M3 and M2 come each exactly where superblock, gates and versions say so, and in this order; else there is a
+/// verdict, but for want of memory or a failure of the device.
+/// Proved: Reads give the same as before, nothing is written, and a failure is reported only where the device failed or
+/// ended, over any device.
 pub fn check<D: Device>(alloc: Global, blocks: &mut Blocks<D>) -> Result<Verdict, MountFault>
     ensures verdict { IsTrue D.tells_bytes → IfOk result (IsRight (D.status (device_of blocks.old)).sectors (reads (D.disk (device_of blocks.old)))) }
     ensures none { IsTrue D.tells_bytes → IfErr result (HasNoVerdict (D.status (device_of blocks.old)).sectors (reads (D.disk (device_of blocks.old)))) }

@@ -29,6 +29,14 @@ fn last_of(older: Position, newer: Position) -> Position
 /// Answers where the log goes on, behind the last of them, what they are charged together, and the live tree behind them,
 /// `None` where there is no record: then it is the root's tree. What changed of that is what they changed. Damaged is a
 /// record that is misspelt or can't be applied, told of the block of its gate.
+///
+/// Proved: The records of the root's epoch and of the next one are tried on the root's tree as it is on disk, by the limits
+/// of the root's version: where they end, what they make of it and their charges are those that the log has; or one is
+/// misspelt or can't be applied, and the block of its gate is reported.
+/// Proved: The live tree after the last record shows what they make of the root's tree, with what changed and its charges
+/// since no change; no consistency point is in progress, no number is kept back, and without a record no live tree is made.
+/// Proved, also of each other function: Nothing is written, and a failure is reported only where the device failed or ended,
+/// over any device.
 pub fn try_both<D: Device>(
     alloc: Global,
     blocks: &mut Blocks<D>,

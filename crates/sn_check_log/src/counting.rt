@@ -14,6 +14,8 @@ use sn_model::MountFault;
 use sn_rooted_tree::nameless_of;
 
 /// How many files of a sound root's tree have no name.
+///
+/// Proved: The number of files of the tree without a name is exact.
 pub fn count_nameless<D: Device>(
     blocks: &mut Blocks<D>,
     it: &CheckedRoot<'_>,

@@ -84,6 +84,12 @@ fn check_words<D: Device>(
 /// Compares each word of a slot's copy of the map with that of a map, which has a word for each block of the
 /// disk. The words past the last block are to be 0. The first word that is another is told by the block that
 /// it stands for.
+///
+/// Proved: At `Ok` each word of a slot's copy of the map is that of the map that is given, and 0 past the last block of the
+/// disk.
+/// Proved: A damage is a word that isn't that of the given map, reported at the block that the word is for.
+/// Proved: Over a device that tells its bytes nothing is written, and only its own failures are counted; over another
+/// nothing is written unless the device is reported as failed.
 pub fn check_map<D: Device>(
     blocks: &mut Blocks<D>,
     geometry: Geometry,

@@ -129,6 +129,18 @@ fn check_file<D: Device>(
 /// words of the map, and `body` is the block of the root body. At `Ok` what is tested is sound, and the
 /// bit is set in the words of the reached blocks. What is told otherwise stands: a pointer out of the data
 /// area, a block that is reached twice, or what is misspelt. After a fault the map has some of the marks.
+///
+/// Proved: At `Ok` a root is sound but for its links, whatever is in its blocks: these lie in the data area, each reached
+/// once, the inode file has its size, each tree ends at its own, and all records, ACL blocks and directory blocks are
+/// spelled.
+/// Proved: At `Ok` the two records that no node can have are zeros, the root is a directory, no directory has a hole, too
+/// many names or a name twice, and the root has no name that hides the directory of snapshots.
+/// Proved: The root's bit, clear before, is then set in the words of exactly the blocks that it reaches, and no other bit
+/// changed.
+/// Proved: A damage is at the block that is reported: a pointer out of the data area, a block reached twice, or what is
+/// misspelt.
+/// Proved: Over a device that tells its bytes nothing is written, and only its own failures are counted; over another
+/// nothing is written unless the device is reported as failed.
 pub fn check_root<D: Device>(
     alloc: Global,
     blocks: &mut Blocks<D>,

@@ -83,6 +83,13 @@ fn check_marks<D: Device>(
 /// then the words of the slot's copy of the map, then the names and links of each. At `Ok` they are sound, and
 /// the map that is answered has the words of the copy. What is told otherwise stands, and nothing of an earlier
 /// group does. The memory for the map and for the count of names is taken here.
+///
+/// Proved: At `Ok` all roots of a disk, the live one and those of its snapshots, are sound, and the words of the slot's copy
+/// of the map are those of what they reach; the map that is returned has those words.
+/// Proved: A damage is at the block that is reported, and none of an earlier group is there: pointers and spelling come
+/// before the map, and the map before names and links, each over all roots.
+/// Proved: Over a device that tells its bytes nothing is written, and only its own failures are counted; over another
+/// nothing is written unless the device is reported as failed.
 pub fn check_roots<D: Device>(
     alloc: Global,
     blocks: &mut Blocks<D>,

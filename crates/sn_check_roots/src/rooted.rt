@@ -41,6 +41,10 @@ pub(crate) fn root_at(root: &RootBody, i: usize) -> Rooted
 }
 
 /// The first root before one that has the same inode file. What that one reaches is the same, and as sound.
+///
+/// Proved, also of `mark_roots` and `link_roots`: A root is taken as seen exactly where an earlier one has the same inode
+/// file, and then as the first of those: its marks are copied and its links aren't counted, and what is promised of all
+/// roots holds of it too.
 pub(crate) fn seen_before(root: &RootBody, i: usize) -> Option<usize>
     requires fits { IsRootBody root.now }
     requires within { i < length (rooted_in root.now) }

@@ -54,6 +54,11 @@ fn has_misfit<S: AsStr>(words: &[S]) -> bool
 }
 
 /// What the words ask for, which are `clap`'s to read. `Usage` where they ask for nothing.
+///
+/// Proved: Words of which one is empty or begins with a dash are no command.
+/// Proved: A task comes only of its own words: the command's name, as many words as it takes, numbers of 32 bits in decimal
+/// without leading zeros, and one of the five words for a crash.
+/// Proved: Words that ask for a task are refused only for want of memory, so what else is said is usage.
 pub fn parse<'a, S: AsStr>(alloc: Global, words: &'a [S]) -> Result<Task<'a>, WordsFault>
     ensures misfits { list_any (λ word. is_misfit (S.text word)) words.now ≡ true → result ≡ Err fault.Usage }
 

@@ -24,6 +24,9 @@ impl PlainWorld {
 
     /// Makes room for the file that a caller opens, if it opens one. Where memory is refused nothing
     /// changes.
+    ///
+    /// Proved, also of `set_caller` and `settle`: What becomes of the caller, and of the files that it alone held, takes no
+    /// memory once room was made.
     pub fn prepare(&mut self, caller: &Caller) -> Result<(), AllocError>
         ensures world { world_of self.new ≡ world_of self.old }
         ensures kept { kept_of self.new ≡ kept_of self.old }
@@ -134,6 +137,10 @@ impl PlainWorld {
     /// goes where nobody has it open any more: one that lost its last descriptor, or its name by the
     /// change that was made. Only those are looked at. The numbers of the former are kept back. It tells
     /// the files that went, each once, and whether with the last descriptor.
+    ///
+    /// Proved: A file without a name goes exactly when nobody has it open any more; those that go are returned, each once
+    /// and no other, and whether with the last descriptor, and with the descriptors of live files that are left they are no
+    /// more than before, one that is opened, and one for a name that was lost.
     pub fn set_caller(&mut self, session: u32, caller: Caller, lost: Option<u16>) -> DroppedFiles
         requires whole { IsTree limits_written (world_of self.old).live }
         requires opens { CanTurn (world_of self.old).descriptors (room_of self.old) session caller }

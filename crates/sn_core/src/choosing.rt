@@ -28,6 +28,8 @@ impl PlainWorld {
     ghost use Rattle.sn_core.specs.Plain.{kept_of, world_of};
 
     /// What was pending, with the next number for a new node. One has to be unused.
+    ///
+    /// Proved, also of `apply`: The change with the number chosen is made of the tree exactly, or not at all.
     pub fn choose<'a>(&self, pending: Pending<'a>, caller: Caller) -> Chosen<'a>
         requires { HasNumber (world_of self.now).live pending }
         ensures { Chooses (world_of self.now).live (kept_of self.now) pending.entry caller result }

@@ -14,6 +14,8 @@ impl PlainWorld {
 
     /// What a call comes to, or its first refusal. `Memory` comes only once its session and arguments
     /// have passed. Nothing changes.
+    ///
+    /// Proved: The outcome of a call is what the model decides.
     pub fn decide<'a>(
         &self,
         alloc: Global,

@@ -39,6 +39,13 @@ fn answer(alloc: Global, world: &mut PlainWorld, events: &[Event], replies: &mut
 /// The room for the replies is looked for first, and then that for the tree and the sessions:
 /// without either nothing is done. A run that finds none for the tree hands back the list with the
 /// room for all replies.
+///
+/// Proved: For every list of events, restarts among them, the replies and the end are a whole run of the machine from the
+/// empty world, without a device: each reply is the call's first refusal or its answer, each denial names its place and
+/// entry, and a refusal changes nothing.
+/// Proved: Where a run without a device ends well, a new node has the least number that no node has and that isn't kept
+/// back, as are numbers of files that went with their last descriptor since the last restart, until one of them has to be
+/// given out.
 pub fn run_plain(alloc: Global, events: &[Event]) -> (Vec<Reply>, End)
     ensures run { WholeRun OfMemory limits_written (Holds new_world) events.now result.0.items result.1 }
     ensures numbers { result.1 ≡ End.Clean → (last : Numbered) × PlainRun new_numbered events.now result.0.items last }

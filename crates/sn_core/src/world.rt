@@ -138,6 +138,8 @@ impl PlainWorld {
     }
 
     /// Answers an event.
+    ///
+    /// Proved: A world in memory keeps no frozen trees: a call that would make a snapshot finds no memory.
     pub fn answer(&mut self, alloc: Global, event: &Event) -> Reply
         requires { IsWorld limits_written (world_of self.old) }
         ensures step { PlainStep (numbered_of self.old) event.now result (numbered_of self.new) }

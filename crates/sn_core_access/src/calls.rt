@@ -188,6 +188,9 @@ pub fn chown<V: TreeView>(
 }
 
 /// What access comes to.
+///
+/// Proved, also of `getacl`, `chmod`, `chown`, `setacl` and `umask`: The outcome of a call that asks for rights or sets
+/// them, or its first refusal, is exactly the model's, over every view that tells what it shows and without a device.
 #[tactic(auto, unfolding(sn_model::specs::AccessCalls::access_outcome))]
 pub fn access<V: TreeView>(
     view: &mut V,

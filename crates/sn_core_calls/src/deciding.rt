@@ -240,6 +240,10 @@ fn decide_shown<'a, V: FileView>(
 
 /// What a call comes to, its first refusal, or why it has neither: `Memory` where what it tells found none, `View`
 /// where the view found a fault. Both come only once its session and arguments have passed. Nothing changes.
+///
+/// Proved: The outcome of a call, or its first refusal, is exactly the model's in each world that the sessions and a view
+/// show, whatever that view reads; where memory for the answer or the view fails, session and arguments had passed, and a
+/// fault is one that the view found.
 pub fn decide<'a, V: FileView>(
     alloc: Global,
     view: &mut V,

@@ -48,6 +48,9 @@ pub fn mode_bits_argument(bits: u16) -> Result<ModeBits, Refusal>
 
 /// An argument that is an ACL: EINVAL where it is no valid ACL's one spelling. A dash is no default
 /// ACL, and EINVAL for an access ACL.
+///
+/// Proved, also of `full`, `writable_parent`, `granted`, `live`, `one_tree` and `sticky`: Each test is there once for all
+/// calls, and is the model's.
 pub fn acl_argument(kind: AclKind, word: &Word) -> Result<NewAcl, Refusal>
     ensures { result ≡ calls.acl_argument kind word.now }
 {

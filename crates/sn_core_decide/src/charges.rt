@@ -6,6 +6,10 @@ ghost use Rattle.sn_model.specs.FileCalls as files;
 use sn_limits::Limits;
 
 /// A node gets a name or loses one: its inode, that of the directory, and the block of the name.
+///
+/// Proved, also of `unlink_charge`, `rename_charge`, `size_charge`, `write_charge`, `attributes_charge` and
+/// `blocks_spanned`: What a call is charged is the model's charge, said once for each kind of change, for calls and for the
+/// changes of a log; so is how many blocks a write spans.
 pub fn name_charge(limits: &Limits) -> u64
     ensures { result ≡ 2 * limits.now.inode_charge + limits.now.block_charge }
 {

@@ -196,6 +196,9 @@ fn open_absent<'a, V: CallView>(
 }
 
 /// What open comes to, under the descriptor that it answers.
+///
+/// Proved, also of `unlink`, `mkdir` and `stat`: The outcome of a call, or its first refusal, is exactly the model's, over
+/// every view that tells what it shows and without a device.
 pub fn open<'a, V: CallView>(
     limits: &Limits,
     view: &mut V,

@@ -5,6 +5,9 @@ ghost use Rattle.sn_model.specs.Outcomes.{asks, does};
 use sn_model::{AskedPoint, Caller, Change, Outcome, Pending, Reply};
 
 /// What a call comes to that changes no tree: what becomes of its caller, and what it is told.
+///
+/// Proved, also of `does`: The outcome of a call that changes no tree, or makes one change and nothing else, is the model's
+/// outcome.
 pub fn asks(caller: Caller, told: Reply) -> Outcome<'static>
     ensures { result ≡ asks caller told }
 {

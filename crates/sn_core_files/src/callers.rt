@@ -21,6 +21,9 @@ pub fn decided<'a, F>(
 }
 
 /// The session with this number, which has to be logged in: EINVAL where there is no such session, and EBADF where nobody is.
+///
+/// Proved, also of `logged_out`: Whoever calls is logged in, or refused with `EBADF`; who logs in isn't, or is refused with
+/// `EBUSY`.
 pub fn logged_in(sessions: &Sessions, session: u32) -> Result<&Session, Refusal>
     ensures { Answers (λ s. s.now) result (logged_in (alone (in_use_of sessions.now)) session) }
 {

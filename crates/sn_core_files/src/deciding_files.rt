@@ -97,6 +97,9 @@ pub fn decide_unlink<'a, V: FileView>(
 /// What open comes to: a descriptor for a file that is there, or for one that is made (POSIX.1-2017 `open`). The rights
 /// that the flags name are asked for here, once for all reads and writes through it. EMFILE comes behind the tests of the
 /// arguments, and before a name is looked up.
+///
+/// Proved, also of `decide_close`, `decide_read`, `decide_write`, `decide_seek`, `decide_ftruncate`, `decide_unlink` and
+/// `decide_logout`: The outcome of a call on an open file is the model's, over each view of files.
 #[tactic(auto, unfolding(sn_model::specs::FileCalls::open_outcome))]
 pub fn decide_open<'a, V: FileView>(
     view: &mut V,

@@ -7,6 +7,9 @@ use std::alloc::Global;
 
 /// What calls ask of the trees beside what decisions ask: the bytes of files, the names that a directory is
 /// listed with, and how many files of a snapshot have none.
+///
+/// Proved: What calls ask of a tree beside what decisions ask: how many bytes a file has, those from an offset on, the names
+/// that a directory is listed with, and how many files of a snapshot have no name.
 pub trait FileView: MoveView {
     ghost use Rattle.std.specs.Prelude.{◌≡◌, ℕ, ◌+◌, ◌<◌, ◌^◌, IsTrue, IfOk, IfErr, List, length, take, drop};
     ghost use Rattle.sn_walk.specs.declared.object.Home.{Home};

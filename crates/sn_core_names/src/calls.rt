@@ -146,6 +146,9 @@ fn link_in<'a, V: CallView>(
 }
 
 /// What link comes to: a file gets one more name.
+///
+/// Proved, also of `rename`, `rmdir` and `readdir`: The outcome of a call on names, or its first refusal, is exactly the
+/// model's, over every view that tells what it shows and without a device.
 #[tactic(auto, unfolding(sn_model::specs::NameCalls::link_outcome))]
 pub fn link<'a, V: CallView>(
     limits: &Limits,

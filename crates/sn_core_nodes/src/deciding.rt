@@ -18,6 +18,9 @@ use sn_model::{Access, AclKind, Caller, Outcome, Reply, StoredAcl, Word};
 use std::alloc::Global;
 
 /// What mkdir comes to: a new directory, where the caller may write (POSIX.1-2017 `mkdir`). EINVAL comes for a mode above 01777.
+///
+/// Proved, also of `decide_stat`, `decide_access`, `decide_chmod`, `decide_chown`, `decide_getacl` and `decide_setacl`: The
+/// outcome of a call on a node that a path names, or its first refusal, is the model's, over each view of files.
 pub fn decide_mkdir<'a, V: FileView>(
     view: &mut V,
     sessions: &Sessions,

@@ -32,6 +32,8 @@ pub struct Point {
 
 impl Point {
     /// A point that writes these blocks, these words of the map and this root, into a slot whose gate is so.
+    ///
+    /// Proved: A new point is at its first stage, whatever is on the disk, where the slot's gate is as it says.
     pub fn new(
         geometry: Geometry,
         blocks: Vec<NewBlock>,
@@ -116,6 +118,9 @@ impl Point {
     }
 
     /// How many steps are left until its root counts.
+    ///
+    /// Proved, also of `count_laws`: The number of steps that are left is exact: each step leaves one less, and with its
+    /// beginning a point of F new blocks and M blocks of the map has at most F + M + 4.
     pub fn steps_left(&self) -> u64
         requires whole { IsWhole (work_of self.now) }
         requires stage { IsStageOf (work_of self.now) (stage_of self.now) }
@@ -134,6 +139,17 @@ impl Point {
 
     /// Makes the next step, of at most eight sector writes and at least one. It reads nothing and takes no memory. After a
     /// fault nothing may be written before the next mount.
+    ///
+    /// Proved: A step leads from the point's stage on the disk to the next one at `Ok`: new blocks and the map in what reads
+    /// give, and from the map's sync on in all that a crash may leave.
+    /// Proved: Whatever the answer, only the step's own sectors were written: one new block, one block of the slot's map
+    /// copy, its gate, or its body.
+    /// Proved: In the parts of the root a crash at any moment leaves the root that was newest, with its records; in the
+    /// gate's opening that or the next one, and at `Ok` the next.
+    /// Proved: Each step has exactly the writes and syncs of its stage: eight writes or one, never none, a sync after the
+    /// map's last block, and one with each part of the root.
+    /// Proved, also of `Point::is_done`: The point is done after the step that opened the gate, and not before, and a fault
+    /// leaves it at its stage.
     pub fn advance<D: Device>(&mut self, blocks: &mut Blocks<D>) -> Result<(), Fault>
         requires room { 8 * (work_of self.old).blocks ≤ (D.status (device_of blocks.old)).sectors }
         requires whole { IsWhole (work_of self.old) }
@@ -157,6 +173,10 @@ impl Point {
     }
 
     /// Makes all steps that are left. After a fault nothing may be written before the next mount.
+    ///
+    /// Proved: All steps in a row write only sectors of the point, whatever the answer, and a crash at any moment leaves the
+    /// old root or the next one; at `Ok` the point is done, nothing is unsynced, and every crash leaves the next root.
+    /// Proved: Exactly the writes and syncs that are left are made, and before a fault at most as many.
     pub fn finish<D: Device>(&mut self, blocks: &mut Blocks<D>) -> Result<(), Fault>
         requires room { 8 * (work_of self.old).blocks ≤ (D.status (device_of blocks.old)).sectors }
         requires whole { IsWhole (work_of self.old) }

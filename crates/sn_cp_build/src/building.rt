@@ -107,6 +107,23 @@ fn finished(build: Build, inode_file: BlockTree, edit: SnapshotEdit) -> Result<B
 /// can't be used, over a sound one never: one whose blocks lie on the device, with a map that tells in its bit what it
 /// reaches. What a snapshot alone reaches that goes isn't free yet, nor what the live tree alone reaches where a snapshot
 /// takes its place. After an error there is nothing to undo.
+///
+/// Proved: Over a sound inode file that the map's bit 0 tells, with an overlay over its tree that shows a name tree, the new
+/// inode file denotes the tree seen through the overlay, and is sound, in every store that has the new blocks and agrees
+/// with the old one in what the old inode file reaches.
+/// Proved: The row above asks that the old one is sound, that the map tells in its bit what it reaches, which is bit 0 but
+/// for a snapshot that is brought back, and that the overlay lies over its tree and shows a name tree.
+/// Proved: Over a sound inode file that the map's bit 0 tells, bit 0 of the new map is set for exactly what the new inode
+/// file reaches in these stores, which is nothing but new blocks and those that the old one reached.
+/// Proved: Whatever the device tells, the new blocks were free, their numbers rise, and they are no more than the overlay
+/// needs; of the map bit 0 alone changes, but for the bit of a snapshot that is made or goes.
+/// Proved: A snapshot that is brought back keeps its bit, and bit 0 tells the new tree as above, whatever it was before. The
+/// new blocks were free in the old map, so none is one that the live tree of before reaches.
+/// Proved: The bit of a snapshot that is made becomes what bit 0 of the new map is, in each word; that of one that goes is
+/// cleared in each word, so that what nothing else reaches is free after this build; no other snapshot's bit changes.
+/// Proved: Over such an inode file it is never `Full` where what the overlay needs is free, and never `Damaged` where the
+/// disk's blocks lie on the device.
+/// Proved: Nothing is written, and nothing is counted but a failure of the device.
 pub fn build<D: Device>(
     alloc: Global,
     blocks: &mut Blocks<D>,

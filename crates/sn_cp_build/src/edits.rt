@@ -26,6 +26,8 @@ impl Model for SnapshotBit {
 
 impl SnapshotBit {
     /// `None` for 0, which is the live tree's, and for what is no bit of a word.
+    ///
+    /// Proved: A bit of a snapshot is from 1 to 31, by its type.
     pub fn new(number: u8) -> Option<Self>
         ensures valid { IsSome result ↔ (1 ≤ number) × (number ≤ 31) }
         ensures value { IfSome result (λ bit. bit ≡ number) }

@@ -7,6 +7,10 @@ use sn_inode::inode_laws;
 
 /// A file that was planned with the size and the blocks of a layer has the bytes that are seen of it, and a directory
 /// whose names were changed as the layer says has the names.
+///
+/// Proved: A file that was planned with the size and the blocks of a layer has the bytes that are seen of it through the
+/// layer, and ends at its size, in every store that has the new blocks and agrees with the old one in what the file reached.
+/// Proved: A directory whose names were changed as a layer says has the names that are seen of it, none twice.
 pub fn content_laws()
     ensures files { FilesAreSeen }
     ensures directories { DirectoriesAreSeen }

@@ -176,6 +176,20 @@ fn planned<D: Device>(
 /// fewer blocks are left than a path for each of those names and blocks and one more take, and `Damaged` only where the
 /// number's record can't be read or the node can't be made, over a sound root never (`damage_laws`). After an error the
 /// build can only be given up.
+///
+/// Proved: Over the tree of a sound inode file, with a layer that shows a name tree, the inode that a number gets is the
+/// node seen through the layer, in every store that has the new blocks and agrees with the old one in what the number
+/// reached: kind, owner, ACLs and mode, a file's bytes and count of names, a directory's names; and it is well formed.
+/// Proved: What a node's new content reaches, with what was released, is what the old one reached with what was added, each
+/// block as often; a number that is gone has its blocks released, and one that is gone and had no inode changes nothing.
+/// Proved: At most a path of blocks for each changed name, for each written block, and one more are added; the change is one
+/// that an inode file can take, and of that number.
+/// Proved, also of `room_laws`: `Full` comes only where fewer blocks are left than the node takes: over a sound inode file
+/// with a layer over its tree, a path for each changed name and written block, and one more.
+/// Proved, also of `damage_laws`: `Damaged` comes only where the number's record can't be read or the node can't be made of
+/// what is there, and never over a sound inode file with a layer over its tree, whose blocks lie on the device and can't be
+/// taken.
+/// Proved: Nothing is written, and nothing is counted but a failure of the device.
 pub fn build_node<D: Device>(
     alloc: Global,
     build: &mut Build,

@@ -63,6 +63,16 @@ pub struct Begun {
 /// goes on under the next epoch, behind the root that is being made, and what changes goes into an overlay of its own, with
 /// room for so many drops of files. Where a snapshot is to be brought back, what changed is what drops the files without
 /// names of its tree; nothing may then be logged before the point is finished.
+///
+/// Proved: A point that has begun is in progress (`sn_cp_progress`): built of the live tree with the snapshots that are
+/// asked for, over an empty overlay with room for so many drops; a crash while it begins leaves an image of the settled
+/// world, whatever the answer.
+/// Proved, also of `make_point`: A point makes the snapshots that are asked for: a new one, whose name is free and for which
+/// the version has room, is the live tree as it is, one that is there and goes is gone, and no other changes.
+/// Proved, also of `GoingPoint::advance` and `GoingPoint::finish`: The exact writes and syncs of beginning, steps and end
+/// are known, and none writes the superblock, the root that counts or its map.
+/// Proved, also of `make_point` and `make_recovery`: The root that is made follows on the one that counted: of the next
+/// generation, and one epoch on, or two where a mount makes it.
 pub fn begin_point<D: Device>(
     alloc: Global,
     blocks: &mut Blocks<D>,
@@ -134,6 +144,12 @@ impl GoingPoint {
     }
 
     /// Makes the next step, which isn't the last. After a fault nothing may be written before the next mount.
+    ///
+    /// Proved, also of `GoingPoint::finish`: Each step leaves an image of the settled world to a crash at any moment, and
+    /// the mount with the point at its next stage; all that are left in a row leave that image or one with the point's
+    /// snapshots, and the mount ready for another point over the next root.
+    /// Proved: Each step but the last leaves the tree of the root that counts as it was on the device, so that look-ups go
+    /// on over it.
     pub fn advance<D: Device>(&mut self, blocks: &mut Blocks<D>) -> Result<(), Fault>
         requires disk { 8 * (work_of self.old.point).blocks ≤ (D.status (device_of blocks.old)).sectors }
         requires whole { IsWhole (work_of self.old.point) }

@@ -81,6 +81,20 @@ fn make<D: Device>(
 /// Makes a whole consistency point of what changed since the root that counts, with the snapshots that are asked for: then
 /// the next root counts, the log is empty, and nothing is charged. Answers the empty overlay for what changes from then on,
 /// with room for so many drops of files.
+///
+/// Proved: Of a mount that is ready for a whole point, a crash at any moment of it leaves an image of the settled world, or
+/// of that with the snapshots asked for; at `Ok` the mount runs on with these over the next root, with an empty log and an
+/// empty overlay, ready for another.
+/// Proved, also of `begin_point`: Want of memory or of an age and a read that fails come before the first write and change
+/// nothing of disk, log, room or what is kept; over such a mount neither `Damaged` nor too little free space comes where
+/// what is asked can be made.
+/// Proved: At `Ok` all that the new map leaves is free, nothing is charged or dropped, and the overlay that is returned has
+/// room for as many drops as were asked for.
+/// Proved: Writes and syncs are known: one to begin, eight for each block of data and of the map, and those of the root,
+/// with no more new blocks than what changed needs; where the device failed, it has counted that.
+/// Proved, also of `begin_point` and `make_recovery`: `Age` comes only where no root can follow by such a point, or none on
+/// that.
+/// Proved, also of `make_recovery`: Superblock, the root that counted and its map aren't written.
 pub fn make_point<D: Device>(
     alloc: Global,
     blocks: &mut Blocks<D>,
@@ -120,6 +134,12 @@ pub fn make_point<D: Device>(
 /// and nothing is charged. Its blocks are taken from those that are free on the disk as it is, so that a block which only the
 /// live tree of before reaches is in use until the next root counts. Answers the empty overlay for what changes from then on,
 /// with room for so many drops of files.
+///
+/// Proved: A snapshot is brought back by a whole point: at `Ok` the live tree is the snapshot's without its files without
+/// names, all frozen trees are as they were, the log is empty, and nothing is charged. A crash at any moment leaves an image
+/// of the settled world from before, or of that one. This asks that the mount is ready for a point, that there is such a
+/// snapshot, that the overlay drops exactly its files without names, and that a charge for each of them is free.
+/// Proved: What holds of `make_point` below holds of `make_restore` too, with the overlay of the drops for what changed.
 pub fn make_restore<D: Device>(
     alloc: Global,
     blocks: &mut Blocks<D>,

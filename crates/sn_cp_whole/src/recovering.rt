@@ -33,6 +33,11 @@ use std::alloc::Global;
 /// Makes a whole consistency point of what a mount has replayed on top of the root that counts: then the next root
 /// counts, two epochs on, so that replay finds nothing. The log isn't touched, so no clearing begins it; the disk has to
 /// be synced. Answers the next root, as it is kept.
+///
+/// Proved: What a mount has replayed becomes a root: a crash at any moment leaves an image of the world that it found,
+/// whatever the answer, at `Ok` one over the next root, whose tree is the live one, with nothing logged; all that may be
+/// refused comes before the first write.
+/// Proved: The costs are those of a point but for its beginning, and no more new blocks are written than the disk has.
 pub fn make_recovery<D: Device>(
     alloc: Global,
     blocks: &mut Blocks<D>,

@@ -120,6 +120,10 @@ impl Sessions {
     }
 
     /// Logs a caller in, where there is such a session.
+    ///
+    /// Proved, also of `logout` and `get`: Who is logged in and what each session has open are the two maps of the model.
+    /// Proved, also of `logout`, `set_umask`, `open`, `close`, `seek` and `clear`: None of these calls takes memory, and
+    /// `open` needs room that `reserve` made before.
     pub fn login(&mut self, session: u32, caller: Session)
         ensures { in_use_of self.new ≡ record (in_use_of self.old) { sessions = slice_set (in_use_of self.old).sessions session (Some caller) } }
     {
@@ -145,6 +149,9 @@ impl Sessions {
     }
 
     /// What is open under a descriptor. It is EBADF where nothing is.
+    ///
+    /// Proved, also of `readable`, `writable` and `seek`: A descriptor that isn't open, or not for what is asked, is
+    /// `EBADF`; a seek past the largest file is `EINVAL`.
     pub fn get(&self, session: u32, fd: u32) -> Result<&OpenFile, Refusal>
         ensures { Answers (λ f. descriptor_of f.now) result (descriptor_at (in_use_of self.now).descriptors session fd) }
     {
@@ -177,6 +184,9 @@ impl Sessions {
     }
 
     /// The descriptor that a session gets next: the least that isn't open. It is EMFILE where all are.
+    ///
+    /// Proved, also of `open`: A session gets the least of 64 descriptors that it doesn't have, and `EMFILE` where it has
+    /// all.
     pub fn next_descriptor(&self, session: u32) -> Result<u32, Refusal>
         ensures next { result ≡ next_descriptor (in_use_of self.now).descriptors session }
         ensures within { IfOk result (λ fd. fd < 64) }
@@ -202,6 +212,8 @@ impl Sessions {
 
     /// Opens a file under the session's next descriptor, for which there is room. It is EMFILE where
     /// the session has no descriptor left, and then nothing changes.
+    ///
+    /// Proved, also of `get`: The rights and the file of a descriptor stay those that it was opened with.
     pub fn open(&mut self, session: u32, file: OpenFile) -> Result<u32, Refusal>
         requires session { session < 64 }
         requires room { 0 < (in_use_of self.old).room }
@@ -309,6 +321,9 @@ impl Sessions {
     }
 
     /// Whether a descriptor has the live file with this number.
+    ///
+    /// Proved, also of `close` and `logout`: Whether a descriptor has a live file is a look-up; a close or a logout returns
+    /// each live file that lost its last descriptor, once.
     pub fn is_held(&self, number: u16) -> bool
         ensures { result ≡ is_held_in (in_use_of self.now).descriptors number }
     {
@@ -316,6 +331,9 @@ impl Sessions {
     }
 
     /// How many descriptors have live files. It is kept, and not counted anew.
+    ///
+    /// Proved, also of `logout`: How many descriptors have live files is kept; a logout takes one at least for each file
+    /// that it returns.
     pub fn live(&self) -> u16
         ensures { result ≡ live_in (in_use_of self.now).descriptors }
     {
@@ -323,6 +341,8 @@ impl Sessions {
     }
 
     /// Whether any descriptor has a file of this tree, live or frozen: it passes over all of them once.
+    ///
+    /// Proved: The test is exact whether any descriptor has a file of a tree, live or frozen, and is one pass.
     pub fn has_open(&self, home: &Home) -> bool
         ensures { IsTrue result ↔ HasOpen (in_use_of self.now).descriptors home.now }
     {

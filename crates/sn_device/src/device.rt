@@ -11,6 +11,9 @@ use sn_limits::Sector;
 
 /// Sectors numbered from 0. A fault comes only with one more failure, or at the device's end, where
 /// every call is a fault that does nothing and isn't counted.
+///
+/// Proved: After a crash each sector written since the last successful sync may have any bytes, and the others have what
+/// reads give: that is what a crash means in all crates above.
 pub trait Device {
     /// Whether the device tells its bytes. Of one that doesn't, no clause speaks of bytes and
     /// crashes.

@@ -2,6 +2,9 @@
 ghost use Rattle.sn_device.specs.Laws.{NowCounts, OnlyNow, ClockMovesOn, CallAdds, WriteTears, SyncSettles, StretchTears, TouchesTear, OthersAreKept, SyncedIsRead, StretchWidens};
 
 /// What a crash may leave, as laws over all disks. It does nothing: its contract is what it is for.
+///
+/// Proved: A property of every content that a crash may leave is carried over calls, stretches of sectors and writes
+/// elsewhere.
 pub fn crash_laws()
     ensures now_counts { NowCounts }
     ensures only_now { OnlyNow }

@@ -23,6 +23,8 @@ enum Entry {
 /// A device in memory, which can be told to fail, and to crash. It takes 512 bytes a sector, and
 /// as many and a few more for each write that its record keeps: where that can't grow the device
 /// has come to its end for good. What a crash may leave of it is all that the model allows.
+///
+/// Proved: The device in memory keeps the contract of a device and faults exactly where it is asked to.
 #[derive(Drop)]
 pub struct MemDevice {
     sectors: Vec<Sector>,
@@ -89,6 +91,9 @@ impl MemDevice {
     /// The device after a crash that fills each sector written or tried since the last sync that
     /// succeeded. It is a new one: nothing is unsynced, no fault is due, and its counts are at 0. A
     /// device that is spent stays so.
+    ///
+    /// Proved: A crash makes one of the contents that the trait allows; it can fill each sector as a seed draws, and says
+    /// exactly what it left.
     pub fn crash(self, fill: Fill) -> MemDevice
         ensures left { CrashNow (disk_of self) (contents_of result) }
         ensures first { disk_of result ≡ first (contents_of result) }

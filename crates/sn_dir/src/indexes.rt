@@ -68,6 +68,9 @@ fn place_tops<D: Device>(
 /// Where a directory can have an index of its names (`NameIndex::is_for`) and has none, it begins one, which
 /// knows what another one knows of blocks in the same places. For that up to sixteen indirect blocks are
 /// read: where the device fails there, that is the answer. Where memory is refused there is no index.
+///
+/// Proved, also of `lookup`: To begin an index fails only where the device does, and what an index knows changes no answer
+/// of a look-up.
 pub fn begin_index<D: Device>(blocks: &mut Blocks<D>, tree: &BlockTree) -> Result<(), TreeFault>
     ensures failed { IfErr result (λ fault. fault ≡ Read DeviceFailed) }
     ensures same { IsTrue D.tells_bytes → D.disk (device_of blocks.new) ≡ D.disk (device_of blocks.old) }

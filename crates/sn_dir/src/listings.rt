@@ -95,6 +95,8 @@ fn gathered<D: Device>(
 /// All names of a directory with their numbers, sorted by the bytes of the names, and where a name stands
 /// twice by number. `Damaged` comes exactly where one of the directory's blocks isn't on the device, is a
 /// hole, or doesn't spell names. Memory is taken for the answer, and for blocks that aren't kept.
+///
+/// Proved: All names come with their numbers, sorted by their bytes, and where a name is there twice by number.
 pub fn names<D: Device>(
     alloc: Global,
     blocks: &mut Blocks<D>,

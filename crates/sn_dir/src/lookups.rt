@@ -62,6 +62,13 @@ fn count_in<D: Device>(blocks: &mut Blocks<D>, tree: &BlockTree, i: u64) -> Resu
 /// and `Damaged` comes exactly where one that is read so isn't on the device, is a hole, or doesn't spell
 /// names. Where a name stands twice, the first one counts. Blocks that the directory's index knows to lack the
 /// name aren't read again; where the directory has no index it begins one, with the faults of `begin_index`.
+///
+/// Proved, also of `count` and `is_empty`: The number under a name, how many names there are, and whether there is any, are
+/// what the directory means, on any image.
+/// Proved, also of `is_empty`, `count` and `names`: Blocks are read in turn, up to where the answer is known, and `Damaged`
+/// comes exactly where one that is needed so isn't on the device, is a hole, or doesn't spell names, with that block, if
+/// there is one.
+/// Proved, also of `count`, `is_empty`, `names` and `begin_index`: Nothing is written.
 pub fn lookup<D: Device>(
     blocks: &mut Blocks<D>,
     tree: &BlockTree,

@@ -75,6 +75,8 @@ fn are_apart(changes: &[NameChange<'_>]) -> bool
 
 /// Whether these are changes of different names, to numbers and names that a directory can have. It is one pass
 /// where the names rise; else each is compared with those before it.
+///
+/// Proved: The test is exact whether a list has each name once, with names and numbers that there can be.
 pub fn are_changes(changes: &[NameChange<'_>]) -> bool
     ensures { IsTrue result ↔ AreChanges changes.now }
 {

@@ -88,6 +88,20 @@ fn wanted<D: Device>(
 /// path for each name and one more, in a directory of the size that this one gets, and `Damaged` only where a block of
 /// the directory can't be read or one that its tree reaches isn't on the device: it carries that block, if there is one.
 /// Memory is taken for the lists, for changed blocks, and for blocks that aren't kept.
+///
+/// Proved, also of `insert` and `remove`: A directory in which names were set and taken out is planned in memory, while the
+/// old one is only read, and nothing is written.
+/// Proved: In every store with the new blocks that agrees with the old one in what the old directory reaches, each name of
+/// the list has the number that it was to have, or none, and every other name the number that it had.
+/// Proved: No name is there twice where none was before; where each block was there and spelled names, each is and does.
+/// Proved: What the new directory reaches with what is released is what the old one reached with what was added, each block
+/// as often.
+/// Proved: A directory has a block from its first change on; at most one block of names changes for each name, and only that
+/// one for a name that is to go and isn't there; the new blocks are at most a path for each name and one path more.
+/// Proved, also of `size_laws`: A name is in a new block only where no block before that has room for it, so a directory
+/// that grows has few blocks for its names, and stays within the largest size as long as its names are as few as may be.
+/// Proved: `Full` comes only where fewer blocks are left, counted by the levels of the size that the directory gets, and
+/// `Damaged` only where a block of the old one can't be read, with that block, if there is one.
 pub fn change<D: Device>(
     alloc: Global,
     build: &mut Build,

@@ -23,6 +23,9 @@ fn is_directory(seen: &Option<SeenNode>) -> bool
 /// ```text
 /// let mut live = LoggedTree { shown: Through { overlay: &changed, below: &mut root }, directories: &directories };
 /// ```
+///
+/// Proved: A tree below an overlay with a table of its directories is a tree that changes can be tried on: what is seen,
+/// names of directories and the way up from them.
 #[derive(Drop)]
 pub struct LoggedTree<'a, B> {
     pub shown: Through<'a, B>,

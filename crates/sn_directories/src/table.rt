@@ -100,6 +100,9 @@ impl Directories {
     }
 
     /// A number gets a name in a directory, and has no other one if it is a directory's.
+    ///
+    /// Proved, also of `Directories::lose`: A table that has the directories of a tree still has them where a name comes or
+    /// goes.
     pub fn gain(&mut self, directory: u16, number: u16)
         ensures { (tree : Tree) (link : Link) → TellsDirectories tree self.old → link.directory ≡ directory → fin.get tree.links link ≡ None
             → names_in tree directory < 65535 → (HasKind tree number Directory → names_for tree number ≡ 0)
@@ -120,6 +123,9 @@ impl Directories {
     }
 
     /// Whether a directory is another one, or is below it. It goes up by the directories that they are in.
+    ///
+    /// Proved: Whether a directory is another one or below it is as the model has it, of a name tree, and found in no more
+    /// steps than such a tree has names.
     pub fn is_at_or_below(&self, top: u16, directory: u16) -> bool
         ensures { (tree : Tree) → IsTree limits_written tree → TellsDirectories tree self.now → HasKind tree directory Directory
             → result ≡ is_at_or_below tree top directory }

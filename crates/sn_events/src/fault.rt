@@ -17,6 +17,9 @@ pub enum ChangeFault {
 
 impl ChangeFault {
     /// What a call is refused with: ENOMEM or EIO.
+    ///
+    /// Proved, also of `ChangeFault::stops`: A change that finds no memory is refused with `ENOMEM`, one whose blocks can't
+    /// be read with `EIO`, and so is one whose record can't be written, which alone stops the mount.
     pub fn errno(self) -> Errno
         ensures { result ≡ errno_of self }
     {

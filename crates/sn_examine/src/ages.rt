@@ -9,6 +9,9 @@ use sn_model::{Damage, MountFault};
 
 /// Whether a mount of a root ends in a point of recovery: the root isn't of the version that is written, a record is logged,
 /// or a file has no name. Whoever asks that asks it here.
+///
+/// Proved: Something is to recover exactly where the root isn't of the version that is written, a record is logged, or a
+/// file of the root's tree has no name.
 pub fn is_to_recover(root: &RootBody, logged: u32, nameless: u32) -> bool
     ensures { TellsByNumbers result root.now logged nameless }
 {
@@ -23,6 +26,8 @@ fn has_age_left(root: &RootBody) -> bool
 }
 
 /// Damaged where something is to recover and no age is left for that, which is told of the half of the root's epoch.
+///
+/// Proved: A root without an age left, where something is to recover, is a damage of the log too.
 pub fn test_age(geometry: Geometry, root: &RootBody, recovers: bool) -> Result<(), MountFault>
     ensures left { OnOk result (recovers ≡ true → HasAgeLeft root.now) }
     ensures aged { IfErr result (λ f. IsAged f geometry root.now recovers) }

@@ -52,6 +52,14 @@ pub fn find_newest<D: Device>(blocks: &mut Blocks<D>) -> Result<DiskRoot, MountF
 }
 
 /// Reads superblock and roots, and looks for records of later epochs.
+///
+/// Proved, also of `find_newest`, `find_room` and `read_map`: The newest root of a formatted disk is found, no record of an
+/// epoch after the next one being the first in a half, with its map and the room that is left.
+/// Proved: M1, M3 and M2 come each only where the superblock, the gates and the versions say so, and in this order.
+/// Proved: A damage of the roots (C1) or of the log (C7) is at the block that is reported, and the contents are an image of
+/// no world; a record of an epoch after the next, at the first place of a half, is such a damage.
+/// Proved, also of each other function: Nothing is written, and a fault of the device is reported only where it failed or
+/// ended.
 pub fn find_root<D: Device>(blocks: &mut Blocks<D>) -> Result<DiskRoot, MountFault>
     ensures found { IsTrue D.tells_bytes → IfOk result (λ r. HasRoot (D.status (device_of blocks.old)).sectors (reads (D.disk (device_of blocks.old))) r.geometry r.slot r.root) }
     ensures fits { IfOk result (λ r. IsRootBody r.root) }

@@ -100,6 +100,9 @@ pub fn read_map<D: Device>(
 
 /// The room that is left on top of a root whose log is charged so much, and whose tree has so many files without names,
 /// and the map that tells it. Damaged where more is charged than is free, which is told of the half of the root's epoch.
+///
+/// Proved: Charges of more than the map has free are a damage of the log, reported at the half of the root's epoch; how much
+/// is free is the root's where the map is right, and a file without names is charged as the root's version says.
 pub fn find_room<D: Device>(
     alloc: Global,
     blocks: &mut Blocks<D>,

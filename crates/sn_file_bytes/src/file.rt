@@ -45,6 +45,9 @@ impl FileBytes {
     }
 
     /// The bytes from an offset on, at most so many; none behind the end.
+    ///
+    /// Proved: The bytes of a file in memory, in blocks with holes, are a plain list, and a read gives the bytes from an
+    /// offset on, as many as there are.
     pub fn read(&self, alloc: Global, offset: u64, count: usize) -> Result<Vec<u8>, AllocError>
         ensures { IfOk result (λ bytes. bytes.items ≡ take count (drop offset self.now)) }
     {
@@ -59,6 +62,9 @@ impl FileBytes {
 
     /// Puts bytes over those from an offset on. The list grows where they end behind its end, and is
     /// filled with zeros up to the offset where that is behind it.
+    ///
+    /// Proved: A write puts bytes over those from an offset on, with zeros up to it, and one that finds no memory leaves the
+    /// list.
     pub fn write(&mut self, alloc: Global, offset: u64, bytes: &[u8]) -> Result<(), AllocError>
         requires { offset + length bytes.now < 2 ^ 64 }
         ensures ok { OnOk result (self.new ≡ overwritten self.old offset bytes.now) }
@@ -73,6 +79,8 @@ impl FileBytes {
     }
 
     /// Cuts the list off, or puts zeros behind its end. It takes no memory.
+    ///
+    /// Proved: A new size cuts the list off or puts zeros after it.
     pub fn set_size(&mut self, size: u64)
         ensures { self.new ≡ resized self.old size }
     {

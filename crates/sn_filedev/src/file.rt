@@ -18,6 +18,11 @@ use std::os::unix::fs::FileExt;
 
 /// A device over a file. What is written may wait in memory until a sync, so what wasn't synced
 /// when the device is dropped may be lost.
+///
+/// Proved: A device over a file is safe on any file, and its faults and counts are those of the trait.
+/// Proved: A write that succeeds is gathered, and after a sync that succeeds none waits; after a sync that the file failed
+/// none succeeds.
+/// Proved: A read gives its sector as the block around it had it when it was fetched.
 #[derive(Drop)]
 pub struct FileDevice<F: FileExt + OpenFile> {
     file: F,

@@ -10,6 +10,12 @@ use std::alloc::{AllocError, Global};
 ///
 /// Which snapshots there are is known without a look-up. Each answer of a look-up is that of the frozen tree with this
 /// name, and nothing where no snapshot has it. A fault is one of the tree.
+///
+/// Proved: Through an overlay the frozen trees are seen as they are below: which snapshots there are, their names in the
+/// order of their bytes, and of each tree the nodes, names, default ACLs, bytes and listings, and how many files have no
+/// name.
+/// Proved: No look-up changes the frozen trees or the live one, and its faults are a want of memory for the answer and the
+/// tree's own.
 pub trait HasSnapshots: Below {
     ghost use Rattle.std.specs.Prelude.{◌≡◌, ◌+◌, ◌<◌, ◌^◌, IsTrue, IfOk, IfErr, drop, length, take};
     ghost use Rattle.std.specs.FinMap as map;

@@ -28,6 +28,8 @@ impl<D: Device> Fs<D> {
 
     /// The free blocks of the root that counts: the data blocks that neither its tree reaches nor one of its snapshots.
     /// What was logged since takes some of them with the next consistency point.
+    ///
+    /// Proved: The free blocks are those that the root that counts leaves free.
     pub fn free(&self) -> u32
         ensures room { result ≡ (held self.now).room.free }
         ensures blocks { (world : World) (r : Runs (held self.now) world) → result ≡ free_blocks (held self.now).at.blocks r.store r.root }
@@ -132,6 +134,36 @@ impl<D: Device> Fs<D> {
     /// a whole one comes where that isn't enough: so ENOSPC comes only where the call doesn't fit behind that. So it does
     /// where the call asks for one. EIO comes where the device fails. Where that was in a read, nothing has changed; in a
     /// write or a sync it stops the mount: then every call is ESTOPPED.
+    ///
+    /// Proved: Each reply is one of the machine, from each state that the mounted file system means; a running one is over
+    /// the tree of the root that counts, as the device has it, seen through what changed since, with the frozen trees of its
+    /// snapshots and with who is logged in.
+    /// Proved: A crash at any moment of a call leaves the settled world from before it or the one after it, and once the
+    /// call is answered the one after it alone, or after an `EIO` that stopped the mount either.
+    /// Proved: `EIO` comes only where the device failed or ended, and a failed write or sync stops the mount while a failed
+    /// read doesn't; `ENOSPC` comes only right after a whole consistency point that the call made, where its charge, with
+    /// one for each file without a name and the reserve, is more than is free.
+    /// Proved, also of `Fs::step`: A call makes a whole point, after the one in progress, only where it asks for one, its
+    /// record has no room in the log, its charge with those since the root isn't free, no number is left but those kept
+    /// back, or no root could follow on the one that counts.
+    /// Proved, also of `Fs::step`: A call that is recorded has room for its record and its charge, a number, and a root that
+    /// can follow; `ELIMIT` for age comes only where a point is needed and no root can follow that leaves an age.
+    /// Proved: A call that asks for a point, as `sync` does, is answered after one wherever its tests pass, so then the
+    /// durable tree is the live one.
+    /// Proved: A snapshot is made, or goes, by the point of the call that asks for it: after it the mount runs with the
+    /// frozen trees that the model wants, and a crash at any moment of the call leaves the snapshots from before or after
+    /// it, and all else that was answered.
+    /// Proved: Calls come between any two steps, and all promises of a call hold there: what they change is logged under the
+    /// next epoch, charged on both roots, and lies over what was frozen.
+    /// Proved: Of such calls the numbers that are kept back, and the files that are dropped, are counted since the point
+    /// began.
+    /// Proved: Where memory is refused for a call, or a block that it needs can't be read, its session and arguments had
+    /// passed; after its point, if it makes one, nothing was written, the world is as it was, and the mount goes on.
+    /// Proved: A call whose outcome is a change is recorded, also where the change alters nothing, with exactly the writes
+    /// of its body's sectors and two more, and two syncs; where the device fails, with at most these.
+    /// Proved: After its point, if it makes one, a call whose outcome is no change, or is refused otherwise, writes nothing;
+    /// nor does one of a stopped mount.
+    /// Proved: Whatever it answers, a call that needs no point writes in its half of the log alone.
     pub fn call(&mut self, session: u32, call: &Call) -> Reply
         requires { IsFs self.old }
         ensures answered { IsTrue D.tells_bytes → Answers (event.Call session call.now) result

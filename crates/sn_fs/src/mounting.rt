@@ -21,6 +21,26 @@ use std::alloc::Global;
 /// the files that no name stands for. Where anything was replayed or dropped, a consistency point makes a root of it; then
 /// the first place of the log is cleared. `NotFormatted`, `NoRoot`, `Version` and `Damaged` come in this order, each before anything
 /// is written, and as the check of the image tells them.
+///
+/// Proved, also of `Fs::call` and `Fs::step`: Over any device, unless a failure has stopped the mount: the log is on a
+/// device that has all its blocks, a point can begin or one is in progress, each open file has room for its drop, and no
+/// more files are parked than can be counted.
+/// Proved, also of `Fs::call` and `Fs::step`: A new node gets the least number that no node has and that isn't kept back; a
+/// mount keeps none back, those from before a point began are kept back until it is done, and those since until the next one
+/// is.
+/// Proved: A mount runs over the world that the contents are an image of, with the log empty at its first place, nothing
+/// charged or changed since the root, and no number kept back.
+/// Proved: Where the contents are an image of a world, no crash leaves another world from the mount's first sync on, also
+/// where it fails; before that nothing is written.
+/// Proved: M1, M3 and M2 come only where superblock, gates and versions say so, a damage only where the contents are an
+/// image of no world, M6 only where the device failed or ended, and no other fault where it failed.
+/// Proved: A damage of the roots or the log is at the block that is reported, and then nothing was written.
+/// Proved: A mount writes neither the superblock nor the root that counts and its map, also where it fails.
+/// Proved: A mount makes a root exactly where a record was replayed, a file without names dropped, or the root isn't of the
+/// version that is written: the one that follows, of the next generation and two epochs later, with the writes and syncs of
+/// a whole consistency point and a sync.
+/// Proved: Otherwise the root is unchanged, for one write and two syncs; a mount that fails makes at most the writes and
+/// syncs of a point.
 pub fn mount<D: Device>(alloc: Global, device: D) -> Result<Fs<D>, Unmounted<D>>
     ensures mounted { IsTrue D.tells_bytes → IfOk result (λ fs. Mounts (D.status device).sectors (D.disk device) (held fs) (has_stopped fs)) }
     ensures root { IsTrue D.tells_bytes → IfOk result (λ fs. (world : World) (im : IsImage (reads (D.disk device)) world)
@@ -70,6 +90,8 @@ pub fn mount<D: Device>(alloc: Global, device: D) -> Result<Fs<D>, Unmounted<D>>
 
 impl<D: Device> Fs<D> {
     /// Unmounts: hands the device back, and calls nothing of it.
+    ///
+    /// Proved: The device comes back as the calls left it.
     pub fn into_device(self) -> D
         ensures disk { D.disk result ≡ (held self).disk }
         ensures status { D.status result ≡ (held self).status }

@@ -289,6 +289,15 @@ impl<D: Device> Fs<D> {
     /// change in between is in the log, and comes into the next one. ENOMEM, EIO where a block can't be read, and
     /// ELIMIT where no root can follow come in the first one and change nothing; EIO where the device fails while it is
     /// written to stops the mount.
+    ///
+    /// Proved: A step begins a point, brings it to its next stage, or finishes it, and says `Done` exactly where the frozen
+    /// tree became durable; its writes and syncs are exactly those of that stage, one to eight writes and at most one sync.
+    /// Proved, also of `Fs::call`: After a whole point the log is empty, nothing is charged, nothing has changed since the
+    /// root, and no number is kept back; its root has the next generation and the next epoch.
+    /// Proved, also of `Fs::call`: Where a point is refused for memory, age, or a block that can't be read, nothing was
+    /// written and nothing has changed.
+    /// Proved, also of `Fs::call` and `Fs::unmount`: A point writes neither the superblock nor the root that counts and its
+    /// map, also where it is cut off; nor does a call that makes one first.
     pub fn step(&mut self) -> Reply
         requires { IsFs self.old }
         ensures answered { IsTrue D.tells_bytes → Answers event.Step result

@@ -54,6 +54,13 @@ impl<D: Device> Fs<D> {
     /// so that the next mount finds it in the root, and hands the device back. ENOMEM, EIO where a block can't be read, and
     /// ELIMIT where no root can follow change nothing but that: the file system goes on. EIO where the device fails while it
     /// is written stops it, and ESTOPPED comes where that was before.
+    ///
+    /// Proved, also of `Fs::call`: The point in progress is finished first, with the writes and syncs that were left of it,
+    /// where a call lacks something or asks for a point, and by an unmount: then its root counts, with what was logged since
+    /// it began, and numbers that were kept back before aren't any more.
+    /// Proved: An unmount finishes the point in progress and makes a whole one of the tree without the files that no name
+    /// stands for; a crash at any moment of it leaves the settled world, and where it is refused for memory, age or a block
+    /// that can't be read, nothing has changed.
     pub fn unmount(self) -> Result<D, StillMounted<D>>
         requires { IsFs self }
         ensures unmounted { IsTrue D.tells_bytes → IfOk result (λ device. HasUnmounted (held self) (D.disk device) (D.status device)) }

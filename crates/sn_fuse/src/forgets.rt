@@ -59,6 +59,8 @@ impl<'a> Forgets<'a> {
     }
 
     /// That at an index, from 0 on; `None` past the last.
+    ///
+    /// Proved: The nodes of a BATCH_FORGET are those that its bytes list, in their order.
     pub fn get(&self, index: usize) -> Option<Forget>
         ensures { result ≡ slice_get self.now index }
     {

@@ -97,6 +97,12 @@ fn answer_to(bytes: &[u8]) -> Decoded<'_>
 }
 
 /// What the bytes of one read from `/dev/fuse` say. The bytes past the length that the head tells aren't looked at.
+///
+/// Proved: Any bytes are exactly one of four: too short, with fewer bytes than a head or a length below a head's or above
+/// what is there; of an unknown opcode; misspelt, where the body spells no operation with its opcode; or the request that
+/// they spell.
+/// Proved: A request has all of its names and data, each in its place: a name is one or more bytes without 0, there is as
+/// much data as its length says, and nothing follows the last field.
 pub fn decode(bytes: &[u8]) -> Decoded<'_>
     ensures short { (result ≡ Short) ↔ IsShort bytes.now }
     ensures unknown { (head : TheHead) → (result ≡ Unknown head) ↔ IsUnknown bytes.now head }
@@ -107,6 +113,8 @@ pub fn decode(bytes: &[u8]) -> Decoded<'_>
 }
 
 /// No bytes spell two requests.
+///
+/// Proved: No bytes spell two requests.
 pub fn requests_differ()
     ensures { RequestsDiffer }
 {}

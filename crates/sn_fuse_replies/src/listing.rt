@@ -144,6 +144,9 @@ impl Listing {
     }
 
     /// Puts one more entry at the end, if it fits: `false` where it doesn't. What it held stays in any case.
+    ///
+    /// Proved: One more entry is put at the end of a listing exactly if all of it fits in the size that was asked for, each
+    /// at a multiple of 8; where it doesn't fit, or memory is refused, the listing is unchanged.
     pub fn push(&mut self, entry: &DirectoryEntry<'_>) -> Result<bool, AllocError>
         requires { length entry.now.name.now ≤ NAME_MAX }
         ensures room { self.new.room ≡ self.old.room }

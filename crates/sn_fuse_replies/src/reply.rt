@@ -61,6 +61,9 @@ fn push(out: &mut Vec<u8>, front: &[u8], tail: &[u8]) -> Result<(), AllocError>
 
 /// Appends the one spelling of an answer to the message with this `unique`. Without memory for it the buffer stays as it was.
 /// Of data and listings there are at most 2^31 bytes, which is far more than a message may ask for.
+///
+/// Proved: An answer is appended as its one spelling: the length, the error negated or 0, the given `unique`, and the body
+/// of its kind, with each number in its place and all of its data; where memory is refused, the buffer is unchanged.
 pub fn encode(out: &mut Vec<u8>, unique: u64, answer: &Answer<'_>) -> Result<(), AllocError>
     requires { length (tail_of answer.now) ≤ 2 ^ 31 }
     ensures ok { OnOk result (out.new.items ≡ out.old.items ++ reply_bytes unique answer.now) }
@@ -75,6 +78,8 @@ pub fn encode(out: &mut Vec<u8>, unique: u64, answer: &Answer<'_>) -> Result<(),
 }
 
 /// Answers that are spelled alike are to one message, and are one, if they are of one kind.
+///
+/// Proved: Answers that are spelled alike are to one message, and are one, if they are of one kind.
 pub fn replies_differ()
     ensures { RepliesDiffer }
 {}

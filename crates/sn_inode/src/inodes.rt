@@ -56,6 +56,9 @@ fn decoded(
 /// The inode of a number, `None` where no node has it: its record is unused, or the inode file has none for
 /// it. `Damaged` comes exactly where the record's block, or one on the way to it, isn't on the device, or
 /// the record spells no inode of this version.
+///
+/// Proved, also of `acls`: The inode of a number and its ACLs are what the inode file means, on any image, and `Damaged`
+/// comes exactly where a block that is needed isn't on the device, or spells no record or no ACLs, with that block.
 pub fn get<D: Device>(
     blocks: &mut Blocks<D>,
     limits: &Limits,

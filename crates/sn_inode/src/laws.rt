@@ -4,6 +4,8 @@ ghost use Rattle.sn_inode.specs.Laws.{SoundInodesAreRead, SoundAclsAreRead, Chan
 use sn_tree_read::read_laws;
 
 /// On a sound image `Damaged` is never answered.
+///
+/// Proved: On a sound image whose blocks lie on the device no reader of an inode answers `Damaged`.
 pub fn inode_laws()
     ensures inodes { SoundInodesAreRead }
     ensures acls { SoundAclsAreRead }

@@ -48,6 +48,18 @@ fn size_with(file: &BlockTree, changes: &[InodeChange]) -> u64
 /// build can only be given up. `Full` comes only where fewer blocks are left than three for each change and
 /// two more, and `Damaged` only where the record of one of the numbers can't be read, or a block that the
 /// old file reaches isn't on the device: it carries that block, if there is one.
+///
+/// Proved: An inode file in which numbers have other inodes is planned in memory, and nothing is written: each changed
+/// number has the inode that is wanted, with its ACLs kept or in a block of their own, and each other number the one that it
+/// had.
+/// Proved, also of `change_laws`: The record of any other number is unchanged byte for byte, and is zeros where the old file
+/// had none, so the two that no node can have stay zeros.
+/// Proved: The file gets as many blocks as the largest of the numbers needs, and no more; it never shrinks.
+/// Proved, also of `change_laws`: No change gives a file a default ACL, whether ACLs are set or kept.
+/// Proved: What was reached with what was added is what is reached with what is released, each block as often, and the new
+/// blocks are at most three for each change and two more.
+/// Proved: `Damaged` comes only where a changed number's record can't be read, or the old file reaches a block that isn't on
+/// the device, with that block, if there is one.
 pub fn with<D: Device>(
     alloc: Global,
     build: &mut Build,

@@ -12,6 +12,9 @@ use sn_limits::{Kind, Limits};
 
 /// Whether a tree has the size of an inode file: whole blocks, at least one, and at most a record for each
 /// number of this version.
+///
+/// Proved, also of `are_changes`: The tests are exact whether a tree has the size of an inode file, and whether changes can
+/// be made together, the second in one pass.
 pub fn is_inode_file(limits: &Limits, file: &BlockTree) -> bool
     ensures { IsTrue result ↔ IsInodeFile limits.now file.now }
 {

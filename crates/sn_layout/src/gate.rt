@@ -8,6 +8,8 @@ use crate::{SECTOR_SIZE, Sector};
 use sn_bytes::{put_u8, put_zeros};
 
 /// Whether what stands behind a gate counts: a root body, or a record of the log.
+///
+/// Proved: A gate is open exactly where its first byte is 1.
 #[derive(Clone, Copy, PartialEq, Eq, Hash)]
 pub enum Gate {
     Open,

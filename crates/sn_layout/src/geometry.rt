@@ -80,6 +80,9 @@ pub enum Area {
 }
 
 /// Where things lie on a disk of so many blocks.
+///
+/// Proved, also of `areas_cover_the_disk`: The areas of a disk of 256 to 1,048,576 blocks follow one another without a gap
+/// and cover it.
 #[derive(Clone, Copy, PartialEq, Eq, Hash)]
 pub struct Geometry {
     blocks: u32,

@@ -11,6 +11,9 @@ use sn_bytes::{Reader, put_bytes, put_u32, put_zeros};
 const MAGIC: [u8; 8] = *b"SNAPFSYS";
 
 /// What the first block says of its disk.
+///
+/// Proved, also of `RootBody`, `Gate`, `read_map_words` and `put_map_words`: Superblock, root body, snapshot names, block
+/// trees, gates and the blocks of a map copy are encoded to their one spelling, and decoded exactly from it.
 #[derive(Clone, Copy, PartialEq, Eq)]
 pub struct Superblock {
     pub geometry: Geometry,

@@ -178,6 +178,8 @@ pub struct AclParts {
 
 impl AclParts {
     /// Parts an access ACL into what an inode keeps: its three object entries, and the named ones with the mask.
+    ///
+    /// Proved, also of `NamedEntries::join`: An access ACL is parted into mode bits and ACL block, and joined again.
     pub fn of(acl: &Acl) -> Self
         ensures { acl.now ≡ joined result.objects result.access }
     {
@@ -201,6 +203,9 @@ impl AclParts {
 
 /// The entries of an inode's ACLs that its mode bits don't hold. A block is taken only where there
 /// are some.
+///
+/// Proved, also of `put_lists` and `read_lists`: ACL blocks, modes and the two lists of ACLs in a log record are encoded to
+/// their one spelling, and decoded exactly from it.
 #[derive(PartialEq, Eq, Drop)]
 pub struct AclBlock {
     pub access: NamedEntries,

@@ -181,6 +181,8 @@ fn take_out(block: &mut [u8], start: usize, end: usize, size: usize)
 }
 
 /// The names of a directory block, which are read where they stand.
+///
+/// Proved: A directory block is read in place, exactly where it spells entries, and a name is found where it is one of them.
 #[derive(Drop)]
 pub struct DirectoryBlock<'a> {
     links: &'a [u8],
@@ -256,6 +258,8 @@ impl<'a> DirectoryBlock<'a> {
 
     /// Puts a name with its number behind the others. `false` where the block has no room for it,
     /// and nothing is changed. That the name doesn't stand there yet is not tested here.
+    ///
+    /// Proved, also of `remove`: A name is put in where there is room and taken out in place, and the others stay.
     pub fn insert(block: &mut Block, name: &[u8], number: u16) -> bool
         requires block { IsDirectoryBlock block.old }
         requires link { IsLink (record { number = number; name = name.now }) }

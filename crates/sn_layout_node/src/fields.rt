@@ -77,6 +77,8 @@ pub fn put_kind(block: &mut [u8], at: usize, kind: Kind) -> usize
 
 /// Reads a kind. `None` where no byte is left or it is none; how far the reader has come then is
 /// open.
+///
+/// Proved, also of `special_bits_of` and `read_name`: Kinds, S bits and names are read as log records have them too.
 pub fn read_kind(reader: &mut Reader<'_>) -> Option<Kind>
     ensures found { IfSome result (λ kind. reader.old ≡ kind_number kind ∷ reader.new) }
     ensures only { (kind : TheKind) (rest : List ℕ) → reader.old ≡ kind_number kind ∷ rest → (result ≡ Some kind) × (reader.new ≡ rest) }

@@ -146,6 +146,9 @@ impl Inode {
 }
 
 /// A record of the inode file.
+///
+/// Proved, also of `IndirectBlock`: Inode records and indirect blocks are encoded to their one spelling, and decoded exactly
+/// from it.
 #[derive(PartialEq, Eq, Drop)]
 pub enum InodeRecord {
     Unused,

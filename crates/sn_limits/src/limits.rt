@@ -61,6 +61,9 @@ impl Limits {
     pub const WRITTEN: Limits = Limits::VERSION_2;
 
     /// The limits of a version that is read.
+    ///
+    /// Proved: The numbers are those of format versions 1 and 2, no other version is read, and calls run under those of
+    /// version 2 (`Limits::WRITTEN`).
     pub fn of_version(version: u32) -> Option<Limits>
         ensures { result ≡ limits_of version }
     {

@@ -99,6 +99,9 @@ pub fn has_name_length(name: &[u8]) -> bool
 
 /// Whether a directory can have this name: 1 to 255 bytes of printable ASCII without space and
 /// slash, and neither `.` nor `..`.
+///
+/// Proved, also of `begins_with_name` and `SnapshotName::parse`: The names that directories and snapshots can have are
+/// exactly those of their grammars.
 pub fn is_name(name: &[u8]) -> bool
     ensures { result ≡ names.is_name name.now }
 {

@@ -39,6 +39,9 @@ impl LiveTree {
     /// Takes a file away that no name stands for, where there is room for a drop. `by_close` says that it goes with its
     /// last descriptor, and then its number is kept back; that of one that goes with its last name can be given out at
     /// once. It takes no memory.
+    ///
+    /// Proved, also of `reserve_drops`: A file without names goes without memory, in the room that there was for it; its
+    /// number is kept back exactly where it went with its last descriptor.
     pub fn drop_file(&mut self, number: u16, by_close: bool)
         requires { HasDrops self.old 1 }
         ensures live { (below : Tree) → IsLive self.old below → ShowsNameless self.old below number → IsLive self.new below }
@@ -58,6 +61,10 @@ impl LiveTree {
 
     /// The files that no name stands for, each once: those that go once what is shown is settled. Where none is counted,
     /// no number is looked at. The error comes where memory is refused.
+    ///
+    /// Proved, also of `settled_changes` and `settle`: All files without names are listed, each once; they go from a copy of
+    /// what changed, or from what is shown, which then is the settled tree with no number kept back for it; only memory may
+    /// be refused, and then nothing that is shown changed.
     pub fn nameless_files(&self, alloc: Global) -> Result<Vec<DroppedFile>, AllocError>
         ensures gone { (below : Tree) → IsLive self.now below → IfOk result (λ files. TellsGone (shown_of self.now below) (settled (shown_of self.now below)) files.items) }
         ensures named { IfOk result (λ files. GoWithNames files.items) }

@@ -50,6 +50,9 @@ pub struct LiveTree {
 
 impl LiveTree {
     /// The live tree of a root that was just mounted: nothing changed since. It takes no memory.
+    ///
+    /// Proved, also of `next_number` and `nameless`: Over a root nothing changed; the next number and the count are those of
+    /// the tree that is shown.
     pub fn over(
         alloc: Global,
         directories: Directories,
@@ -83,6 +86,9 @@ impl LiveTree {
     }
 
     /// Whether a number is that of a file without names. No tree below is read for it.
+    ///
+    /// Proved, also of `PreparedLive::lost`: Whether a number is that of a file without names, and which file loses its last
+    /// name by a change, is answered without a look at the tree below.
     pub fn is_nameless(&self, number: u16) -> bool
         ensures { (below : Tree) → IsLive self.now below → result ≡ is_nameless (shown_of self.now below) number (map.get (shown_of self.now below).nodes number) }
     {
@@ -136,6 +142,10 @@ impl LiveTree {
     /// Reads and grows all that a change of what is shown asks for, where it can be applied under the limits, with room
     /// for it and for so many drops beside. `None` where it can't be applied. Nothing that is shown changes, and no room
     /// for drops is lost, whatever the answer. A fault is one of the tree below, or of memory.
+    ///
+    /// Proved, also of `commit`: A change is prepared exactly where it can be applied under the given limits, of any version
+    /// that is read, and what is shown is unchanged, with its room for drops, whatever the answer; to make it takes no
+    /// memory, can't fail, and leaves that room.
     pub fn prepare<B: KeepsNames>(
         &mut self,
         alloc: Global,
@@ -176,6 +186,11 @@ impl LiveTree {
     /// Makes a change that was prepared, where there is room for it: then what is shown is what the change makes of it,
     /// and the state still belongs to it. What changed has grown by what the change makes different. Where the change gives out a number that is kept back, none is any more. It
     /// takes no memory, and leaves room for as many drops as there was beside the change.
+    ///
+    /// Proved: What is shown becomes exactly what the model makes of it by a change, and the state goes on with it: overlays
+    /// over one another, a name tree, tables of its directories and numbers, and the list and count of its files without
+    /// names; what changed is merged with exactly the layer of the change.
+    /// Proved: The numbers that are kept back are those that the model keeps back by the change.
     pub fn commit(&mut self, prepared: PreparedLive)
         requires { HasRoomFor self.old prepared 0 }
         ensures live { (limits : TheLimits) (below : Tree) (change : TheChange) → limits_of limits.version ≡ Some limits → IsLive self.old below → CanBeMade limits prepared (shown_of self.old below) change → IsLive self.new below }

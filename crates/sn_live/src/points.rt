@@ -15,6 +15,10 @@ impl LiveTree {
     /// A consistency point begins, where none is in progress: what changed so far is what it writes, and stays below what
     /// changes from now on, which is kept in `since` and has the room for drops that this has. Nothing that is shown
     /// changes. It takes no memory.
+    ///
+    /// Proved, also of `end_point`: A consistency point begins and ends without a change of what is shown, and without
+    /// memory: what changed so far lies below what changes from then on, and is let go once a root is durable over which the
+    /// rest shows what was shown.
     pub fn begin_point(&mut self, since: Overlay)
         requires between { HasNoPoint self.old }
         requires empty { layer_of since ≡ no_changes }
@@ -50,6 +54,8 @@ impl LiveTree {
     /// The root of a whole consistency point is durable, which was made while none was in progress: it shows all that is
     /// shown, and nothing changed since. What changes from now on is kept in `since`, and has the room for drops that this
     /// has. All numbers that were kept back can be given out again. It takes no memory.
+    ///
+    /// Proved: Where a root shows all that is shown, nothing changed since, and no number is kept back.
     pub fn replace_root(&mut self, alloc: Global, since: Overlay)
         requires between { HasNoPoint self.old }
         requires empty { layer_of since ≡ no_changes }

@@ -79,6 +79,9 @@ fn decide_over<'x, 'c, B: KeepsNames + HasContents + HasSnapshots>(
 
 /// What a call comes to over a live tree of a root and the frozen ones, or why it has no outcome: `Memory` where what it
 /// tells found none, `View` where the root found a fault. Nothing changes.
+///
+/// Proved: The outcome of a call over a live tree and the tree below it, which lists names and has snapshots, or its first
+/// refusal, is exactly the model's in the world whose live tree is what is shown, and whose frozen trees are those below.
 pub fn decide_live<'x, 'c, B: KeepsNames + HasContents + HasSnapshots>(
     alloc: Global,
     root: &'x mut B,
@@ -115,6 +118,9 @@ pub fn decide_live<'x, 'c, B: KeepsNames + HasContents + HasSnapshots>(
 
 /// What a call comes to that needs no look-up of a tree, or why it has no outcome: `Memory` where what it tells found
 /// none, `View` where a look-up is needed. In both cases its session and arguments have passed.
+///
+/// Proved: The outcome of a call that needs no look-up is the model's without any, and of each other call its session and
+/// arguments have passed.
 pub fn decide_unread<'x, 'c, B: HasSnapshots>(
     alloc: Global,
     root: &'x B,

@@ -18,6 +18,13 @@ use sn_walk::{Attributes, Failure, Home, TreeView};
 /// ```text
 /// let mut view = LiveView { tree, numbers };
 /// ```
+///
+/// Proved: A tree that changes can be tried on, with a table of its numbers and with frozen trees beside it, is a view of
+/// the live tree and the frozen ones: each look-up of a walk or a decision, the names of snapshots, and whether a directory
+/// may get another name are the model's.
+/// Proved: Where that tree lists names, it is a view of their files too: how many bytes a file has, those from an offset on,
+/// and the names that a directory is listed with, that of snapshots too, are the model's.
+/// Proved: No look-up changes what is seen, and a fault is one of the tree.
 #[derive(Drop)]
 pub struct LiveView<'a, T> {
     pub tree: &'a mut T,

@@ -34,6 +34,10 @@ impl LiveWorld {
 
     /// Makes room for the file that a caller opens, if it opens one, and for its drop. Where memory is refused nothing
     /// that is shown changes, and no room for drops is lost.
+    ///
+    /// Proved, also of `prepare_change`: All that a call needs is read and grown before it changes anything: room for the
+    /// file that it opens and for its drop, and what its change asks for, beside room for the drops of all open files; what
+    /// is shown is unchanged, whatever the answer.
     pub fn prepare_caller(&mut self, caller: &Caller) -> Result<(), AllocError>
         requires { HasDrops self.old (live_in (descriptors_of self.old)) }
         ensures alike { Alike self.old self.new }
@@ -101,6 +105,10 @@ impl LiveWorld {
     /// Sets what becomes of a caller's session and its descriptors. A live file that no name stands for goes where nobody
     /// has it open any more: one that lost its last descriptor, or its last name by the change that was made. Only those
     /// are looked at. The numbers of the former are kept back. It takes no memory.
+    ///
+    /// Proved: A caller becomes what the model makes of it, without memory: each live file that nobody has open and no name
+    /// stands for goes, and no other, with its drop merged, its number kept back where it went with its last descriptor, and
+    /// room left for the drops of all open files.
     pub fn set_caller(&mut self, session: u32, caller: Caller, lost: Option<u16>)
         requires room { HasRoom caller (room_of self.old) }
         requires drops { HasDrops self.old (live_in (descriptors_of self.old) + (if is_opening caller then 1 else 0) + (if is_some lost then 1 else 0)) }

@@ -97,6 +97,9 @@ impl LiveWorld {
 
     /// Makes a change that was prepared, where there is room for it, and answers the file that loses its last name, if
     /// one does. It takes no memory, and leaves room for as many drops as there was beside the change.
+    ///
+    /// Proved: A change is made without memory, what changed since the root is merged with exactly its layer, and the file
+    /// that loses its last name is returned: in a world of the model no other is left to nobody.
     pub fn commit(&mut self, prepared: PreparedLive) -> Option<u16>
         requires { HasRoomFor self.old prepared 0 }
         ensures over { (below : Tree) (change : TheChange) → IsOver self.old below → CanBeMade limits_written prepared (tree_over self.old below) change → IsOver self.new below }

@@ -42,6 +42,9 @@ impl LiveWorld {
 
     /// What was pending, with the next number for a new node: the least that no node has and that isn't kept back, or
     /// the least that no node has where there is no other. `None` where no number is left for what is to be made.
+    ///
+    /// Proved, also of `gives_kept`: A new node gets the number that the model chooses, and there is one wherever one is
+    /// left.
     pub fn choose<'a>(&self, pending: Pending<'a>, caller: Caller) -> Option<Picked<'a>>
         ensures picked { (below : Tree) → IsOver self.now below → IfSome result (λ picked. Picks (tree_over self.now below) (kept_of self.now) pending.entry caller picked) }
         ensures opening { IfSome result (λ picked. is_opening picked.caller ≡ is_opening caller) }

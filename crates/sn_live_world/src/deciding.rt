@@ -90,6 +90,11 @@ impl LiveWorld {
 
     /// What a call comes to, or why it comes to nothing. `Memory` and `Read` come only once its session and arguments
     /// have passed, and of calls that may find no memory. Nothing changes. A call that needs no look-up reads nothing.
+    ///
+    /// Proved: The outcome of a call over a sound root and its snapshots, its live tree seen through what changed since, is
+    /// exactly the model's, where the device tells its bytes; a call that needs no look-up reads nothing, and before memory
+    /// is refused or a read fails, session and arguments had passed.
+    /// Proved, also of `prepare_change` and `prepare_restore`: Nothing is counted of the device but a read that failed.
     pub fn decide<'c, D: Device>(
         &self,
         alloc: Global,

@@ -15,6 +15,8 @@ impl LiveWorld {
     ghost use Rattle.sn_live_world.specs.World.{HasDrops, HasNoPoint, HasSessions, IsOver, changes_of, kept_of, kept_since_of, nameless_of, point_of, tree_over, world_over};
 
     /// A copy of what changed, without the files that no name stands for. Nothing changes.
+    ///
+    /// Proved: What changed can be copied without the files that no name stands for.
     pub fn settled_changes(&self, alloc: Global) -> Result<Overlay, AllocError>
         ensures { (below : Tree) → IsOver self.now below → IfOk result (λ settled. DropsNameless (tree_over self.now below) (changes_of self.now) (layer_of settled)) }
     {
@@ -23,6 +25,8 @@ impl LiveWorld {
 
     /// A consistency point begins, where none is in progress: what changed so far is what it writes, and what changes
     /// from now on goes to this overlay. Nothing that is shown changes. It takes no memory.
+    ///
+    /// Proved, also of `end_point` and `replace_root`: Consistency points begin and end without a change of what is shown.
     pub fn begin_point(&mut self, since: Overlay)
         requires none { HasNoPoint self.old }
         requires empty { layer_of since ≡ no_changes }

@@ -70,6 +70,10 @@ fn settled_over<D: Device>(
 /// left as it is until the other takes its place. No file is read, but each inode and each directory of the snapshot's
 /// tree is. `Memory` comes where memory is refused. `Read` comes where a block can't be read, and where no snapshot has the
 /// name, which a device that tells its bytes excludes.
+///
+/// Proved: All that is needed to bring a snapshot back is read and grown before anything changes: a live tree over the
+/// snapshot's, which shows it without its files without names, with its tables. What changed of the snapshot's tree is paid
+/// by their charges alone.
 pub fn prepare_restore<D: Device>(
     alloc: Global,
     blocks: &mut Blocks<D>,
@@ -96,6 +100,10 @@ impl LiveWorld {
     /// names, and so does the live tree from now on. Who is logged in and what is open in snapshots stays; of the tree that
     /// was live nobody may have a file open. No number is kept back any more, and what changes from now on goes to
     /// this overlay. It takes no memory.
+    ///
+    /// Proved: A restored snapshot takes the live tree's place without memory: over a root that shows the snapshot's tree
+    /// without its files without names the world is what the model makes of it, nothing has changed since, and no number is
+    /// kept back.
     pub fn restore(&mut self, alloc: Global, restored: RestoredTree, since: Overlay)
         requires between { IsBetween restored }
         requires empty { layer_of since ≡ no_changes }

@@ -48,6 +48,8 @@ impl Log {
 
     /// Whether there is room for the record of a change. Where there isn't, a consistency point has to
     /// come first.
+    ///
+    /// Proved: The test is exact whether a record has room.
     pub fn has_room(&self, payload: &Payload<'_>) -> bool
         ensures { IsTrue result ↔ HasRoom self.now payload.now }
     {
@@ -56,6 +58,11 @@ impl Log {
 
     /// Appends the record of a change. It takes no memory. After a fault the position is as it was,
     /// and what stands there isn't known, so that nothing may be appended before the next mount.
+    ///
+    /// Proved: Where each crash left the records of some changes, a crash at any moment of an append leaves them or them
+    /// with the new one, and after its success the new one too.
+    /// Proved: No sector outside the half is touched, and a record of n sectors takes n + 2 writes and 2 syncs, and no
+    /// memory; its gate and the next one are whole sectors, with zeros after the first byte.
     pub fn append<D: Device>(
         &mut self,
         blocks: &mut Blocks<D>,
@@ -76,6 +83,8 @@ impl Log {
     }
 
     /// Goes on at the first place of an epoch. It touches no device.
+    ///
+    /// Proved: Going to another epoch touches no device.
     pub fn go_to_epoch(&mut self, epoch: u64)
         ensures { self.new ≡ first_of self.old.blocks epoch }
     {

@@ -64,6 +64,9 @@ impl Replay {
 
     /// What stands at the position, which then is the one behind a change that was found, and else
     /// stays.
+    ///
+    /// Proved: Replay gives a change where its record is next in the epoch after an open gate, and else says whether the
+    /// records end there or one is misspelt.
     pub fn next<'a, D: Device>(
         &mut self,
         blocks: &mut Blocks<D>,

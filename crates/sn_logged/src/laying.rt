@@ -51,6 +51,9 @@ fn prepare_over<'x, B: KeepsNames>(
 /// Reads and grows all that a change of what is seen asks for, where it can be applied under the limits: its layer, its
 /// charge, and room for it in the overlay, and for so many drops beside. `None` where it can't be applied. Nothing that is
 /// seen changes, and no room is lost, whatever the answer. A fault is one of the tree below, or of memory.
+///
+/// Proved, also of `commit_change`: All that reads, grows or may fail comes first, and leaves what is seen and the room that
+/// there was, whatever the answer; to lay over what was prepared takes no memory, can't fail, and leaves that room.
 pub fn prepare_change<B: KeepsNames>(
     alloc: Global,
     limits: &Limits,
@@ -83,6 +86,9 @@ pub fn prepare_change<B: KeepsNames>(
 /// Lays a change that was prepared over what is seen, where there is room for it: then the tree that is seen is the one that
 /// the change makes of it, and the table tells its directories. It takes no memory, and leaves room for as many drops as
 /// there was beside the change. What the overlay makes different is then what it did, and what the change does beside.
+///
+/// Proved: What the overlay makes different after a change is what it did before, merged with exactly the layer of the
+/// change.
 pub fn commit_change(prepared: PreparedChange, overlay: &mut Overlay, directories: &mut Directories)
     requires { HasRoomFor overlay.old prepared 0 }
     ensures shown { (limits : TheLimits) (below : Tree) (change : TheChange) → limits_of limits.version ≡ Some limits → IsShown (layer_of overlay.old) below directories.old → CanBeLaid limits prepared (through (layer_of overlay.old) below) change
@@ -101,6 +107,12 @@ pub fn commit_change(prepared: PreparedChange, overlay: &mut Overlay, directorie
 
 /// Lays a change over what is seen of a tree below, where it can be applied under the limits, and answers what it is
 /// charged. `None` where it can't be applied; then all is as it was. A fault is one of the tree below, or of memory.
+///
+/// Proved: A change is laid over a tree that is read exactly where it can be applied, and what is seen and what it is
+/// charged are then the model's, by the given limits, of any version that is read; otherwise overlay and table are as they
+/// were.
+/// Proved: Overlay and table are ready for the next change: the overlay lies over the tree, what is seen is a name tree, and
+/// the table has its directories.
 pub fn lay_change<B: KeepsNames>(
     alloc: Global,
     limits: &Limits,

@@ -122,6 +122,9 @@ impl Map {
     }
 
     /// How many blocks are free, of all of them.
+    ///
+    /// Proved, also of `next_free`, `copy_bit0_to`, `copy_bit_to_0` and `clear_bit`: Each pass over the block map, on lanes
+    /// of several words, is a plain list function of the words.
     pub fn count_free(&self) -> u32
         ensures { result ≡ count_by is_free_word self.now }
     {

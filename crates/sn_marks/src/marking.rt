@@ -22,6 +22,9 @@ pub struct RootBit {
 /// Marks the block of a pointer. A pointer 0 names none. One that leads out of the data area is the fault
 /// `Pointer`, and one to a block that is marked already `ReachedTwice`; both are told of its block, and
 /// leave the map as it was.
+///
+/// Proved: The block of a pointer is marked, and a pointer 0 marks none; a pointer out of the data area, or to a block whose
+/// bit is set, is reported as that at its block, and leaves the map as it was.
 pub fn mark(map: &mut Map, root: &RootBit, pointer: u32) -> Result<(), CheckFault>
     requires { length map.old ≡ root.now.geometry }
     ensures marks { OnOk result (Marks root.now.geometry root.now.bit (block_reach pointer) map.old map.new) }

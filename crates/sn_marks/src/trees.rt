@@ -163,6 +163,13 @@ fn mark_indirect<D: Device>(
 /// Marks each block of a tree, and tests that the tree ends at its size. `top` is the block that its
 /// sixteen pointers stand in. What is told is so: a pointer that leads out of the data area, a block that
 /// is reached again, or a pointer or a byte past the size. After a fault the map has some of the marks.
+///
+/// Proved: At `Ok` each block of a tree has its mark, whatever size the tree claims and whatever is in its blocks; all lie
+/// in the data area, none was marked before or is reached twice, no other bit changed, and the tree ends at its size.
+/// Proved: A damage is at the block that is reported: a pointer out of the data area, a block reached twice or marked
+/// before, a pointer or a byte past the size.
+/// Proved: A pointer is marked before it is followed, so each block that is read lies in the data area; over a device that
+/// tells its bytes nothing is written.
 pub fn mark_tree<D: Device>(
     blocks: &mut Blocks<D>,
     map: &mut Map,

@@ -27,6 +27,19 @@ use std::alloc::Global;
 /// directory of user 0 and group 0, of mode 0755, and no snapshots. `Size` comes where the number isn't
 /// from 256 to 1,048,576 or the device has fewer than eight sectors for each block. At `Device` any
 /// part may have been written.
+///
+/// Proved: A device that was formatted opens to the new world: a root directory alone, of user 0 and group 0 and of mode
+/// 0755, no snapshots, and nobody logged in.
+/// Proved: A device that was formatted is a sound disk of so many blocks, and so an image that runs begin from, with its
+/// first root in slot A: generation 1, epoch 1, the limits that are written, no snapshots, and an inode file of one block,
+/// the first of the data area.
+/// Proved: All other data blocks are free.
+/// Proved: Nothing is unsynced, after exactly the writes of the sectors before the data area and 33 more, and four syncs.
+/// Proved: K1 comes exactly where the number of blocks isn't from 256 to 1,048,576, or the device has fewer than eight
+/// sectors for each.
+/// Proved: At K1, and where memory is refused (K2), the device comes back as it was.
+/// Proved: K3 comes only where the device failed or ended, after no more writes and syncs than those, and no count of it
+/// fell.
 pub fn mkfs<D: Device>(alloc: Global, device: D, blocks: u32) -> Result<D, Unformatted<D>>
     ensures opens { IsTrue D.tells_bytes
         → IfOk result (λ formatted. Opens blocks (reads (D.disk formatted)) new_world) }

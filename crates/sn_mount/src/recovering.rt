@@ -36,6 +36,23 @@ use std::alloc::Global;
 /// for. Where a record was replayed, a file dropped, or the root isn't of the version that is written, a whole point makes a
 /// root of that, which is of that version. Last it clears the first place of the root's half of the log, where nothing is logged then. `NotFormatted`, `NoRoot`, `Version` and `Damaged` come in this
 /// order, each before anything is written, and as the check tells them.
+///
+/// Proved: Only a clean disk is mounted: what is no image of a world is refused, for the cause that a check reports, which
+/// is M1, M3, M2, or a damage at its block, of the first group that has one.
+/// Proved: Where the disk's contents are an image of a world, a mount that succeeds has found that world, with the frozen
+/// trees of its snapshots, runs over it, and is ready for a point, with nothing logged and nothing charged.
+/// Proved: No tree is handed out: the world is the live tree of the root that counts, as the device has it and unchanged,
+/// with the frozen trees of its snapshots beside it.
+/// Proved: On any clean disk what is found runs.
+/// Proved: From the first sync on, whatever a crash leaves is an image of that world, also where the mount fails; before it
+/// nothing is written, superblock, the root that counted and its map never are, and nothing is where the disk is why there
+/// is no mount.
+/// Proved: A mount makes a root exactly where a record was replayed, a file without names dropped, or the root isn't of the
+/// version that is written: the one that follows, in the other slot, of the next generation and two epochs on, for the
+/// writes and syncs of a whole point and a sync; otherwise root, slot and map are unchanged, for one write and two syncs.
+/// Proved: A fault of the device comes only where it failed or ended, and a mount that fails costs no more than the largest
+/// point for which the device has room.
+/// Proved: What is found is a world, no number is kept back, and the room that is left is the image's, after the mount.
 pub fn recover<D: Device>(alloc: Global, blocks: &mut Blocks<D>) -> Result<Recovered, MountFault>
     ensures recovers { IsTrue D.tells_bytes → Recovers result (D.status (device_of blocks.old)).sectors (D.disk (device_of blocks.old)) (D.disk (device_of blocks.new)) }
     ensures clean { IsTrue D.tells_bytes → OnOk result (IsSomeClean (D.status (device_of blocks.old)).sectors (reads (D.disk (device_of blocks.old)))) }

@@ -79,6 +79,9 @@ impl NameIndexes {
 
     /// Begins the index of a directory on a device of so many sectors, which knows no names, and isn't kept
     /// before `keep`. Where there are indirect blocks, `place_below` tells it where the others are.
+    ///
+    /// Proved, also of `place_below`, `note_names` and `keep`: What is learnt from a block's bytes, from an indirect block
+    /// or from another index is true where those were.
     pub fn begin(&self, tree: &BlockTree, sectors: u64) -> Result<NameIndex, AllocError>
         requires { is_indexable tree.now ≡ true }
         ensures tree { IfOk result (λ index. tree_of index ≡ tree.now) }
@@ -89,6 +92,9 @@ impl NameIndexes {
 
     /// The first block of a directory from one on that may have a name: each block passed over lacks it.
     /// Without an index no block is passed over. Where there is none it is the number of blocks.
+    ///
+    /// Proved: A block that is passed over is at its place on the device, spells names, and none of them is the one that is
+    /// looked for.
     pub fn next_block(&self, tree: &BlockTree, name: &[u8], from: u64) -> u64
         ensures after { from ≤ result }
         ensures end { from ≤ tree.now.size / 4096 → result ≤ tree.now.size / 4096 }
@@ -104,6 +110,8 @@ impl NameIndexes {
     /// The first block of a directory from one on that may have a name of one of these prints, or at least
     /// this room: each block passed over has neither. Without an index no block is passed over. Where there
     /// is none it is the number of blocks.
+    ///
+    /// Proved: A block that is passed over for several names has none of these, and less room than is asked for.
     pub fn next_wanted(&self, tree: &BlockTree, prints: &[Print], least: usize, from: u64) -> u64
         ensures after { from ≤ result }
         ensures end { from ≤ tree.now.size / 4096 → result ≤ tree.now.size / 4096 }

@@ -10,6 +10,11 @@ impl NodeTable {
 
     /// The system forgets an id so many times. Where nothing holds it any more, it goes, and with it the
     /// directories above it that nothing else held.
+    ///
+    /// Proved, also of `close`, `unlink`, `rename` and `drop_first_link`: After a forget, a close, an unlink, a rename, or a
+    /// first name that is dropped, the table is as that alone makes it, without ids that went one after another, each of
+    /// which no lookup, handle or name below held when its turn came. No id is left with nothing to hold it, if none was
+    /// before.
     pub fn forget(&mut self, id: u64, count: u64)
         ensures goes { Goes (forgotten (table_of self.old) id count) (table_of self.new) }
         ensures idle { NoneIsIdled (table_of self.old) (table_of self.new) }

@@ -82,6 +82,9 @@ impl NodeTable {
 
     /// An object was made under a name of a directory, and its id is told once. It gets a new one, and one that
     /// stood for an earlier object of this number stands for none from now on.
+    ///
+    /// Proved: An object that is made gets the next id, and the one that stood for an earlier object of its number stands
+    /// for none from then on.
     pub fn make(&mut self, parent: u64, name: &[u8], inode: u64) -> Result<u64, NodeFault>
         ensures ok { OnOk result (table_of self.new ≡ made (table_of self.old) parent name.now inode) }
         ensures id { IfOk result (λ id. id ≡ (table_of self.old).next) }
@@ -97,6 +100,10 @@ impl NodeTable {
 
     /// An object was found under a name of a directory, and its id is told once more: that which stands for it,
     /// or a new one.
+    ///
+    /// Proved: An object that is found under a name gets the id that stands for it, or the next one, and was looked up once
+    /// more; the name leads to that id, and to no other one. Where the directory's id stands for nothing the answer is
+    /// `Stale`, and where memory is refused the table stays as it was.
     pub fn meet(&mut self, parent: u64, name: &[u8], inode: u64) -> Result<u64, NodeFault>
         ensures ok { OnOk result (table_of self.new ≡ met (table_of self.old) parent name.now inode) }
         ensures id { IfOk result (λ id. id ≡ given (table_of self.old) inode) }

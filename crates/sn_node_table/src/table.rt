@@ -61,6 +61,10 @@ impl NodeTable {
 
     /// The number of the object that an id stands for. None where the id isn't known, or where another one
     /// stands for the object that it stood for.
+    ///
+    /// Proved, also of `NodeTable::path` and `NodeTable::child_path`: A number is told, and a path, exactly of an id that
+    /// stands for an object: the path is that of its first name, of its directory's first name, and so on, where it has no
+    /// more than 1,023 bytes.
     pub fn inode(&self, id: u64) -> Option<u64>
         ensures { result ≡ inode_of (table_of self.now) id }
     {

@@ -7,6 +7,9 @@ use std::alloc::{AllocError, Global};
 use std::collections::BTreeMap;
 
 /// The numbers by directory and name. A directory without names isn't there.
+///
+/// Proved: The names in memory are the model's one finite map of links: a lent one is looked up as it is, and those of a
+/// directory are listed in the order of their bytes.
 #[derive(Drop)]
 pub struct Links {
     directories: BTreeMap<u16, Names>,

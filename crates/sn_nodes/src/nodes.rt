@@ -111,6 +111,9 @@ fn nameless_at(node: &Option<StoredNode>) -> u32
 }
 
 /// The nodes by number.
+///
+/// Proved: The nodes in memory are a finite map by number, each with how many names it has and how many are of it; a change
+/// of one changes no other.
 #[derive(Drop)]
 pub struct Nodes {
     map: BTreeMap<u16, StoredNode>,
@@ -165,6 +168,8 @@ impl Nodes {
 
     /// Gives a number a node, and hands back the one that it had. It needs no memory where there was
     /// one.
+    ///
+    /// Proved, also of `Nodes::write` and `Links::insert`: What finds no memory has changed nothing.
     pub fn insert(
         &mut self,
         number: u16,
@@ -333,6 +338,8 @@ impl Nodes {
     }
 
     /// Takes all files away that no name stands for.
+    ///
+    /// Proved: A settling takes away exactly the files that no name is counted for.
     pub fn settle(&mut self)
         ensures { (number : ℕ) → map.get (stored_of self.new) number ≡ filtered is_kept (map.get (stored_of self.old) number) }
     {
@@ -341,6 +348,8 @@ impl Nodes {
     }
 
     /// How many files no name is counted for.
+    ///
+    /// Proved: How many files no name is counted for is kept through every change.
     pub fn nameless(&self) -> u32
         ensures { result ≡ bare_in (stored_of self.now) }
     {

@@ -7,6 +7,9 @@ use std::alloc::{AllocError, Global};
 const NUMBERS: usize = 65_536;
 
 /// Which numbers are those of files without names, beside a tree that is read. All memory is taken at first.
+///
+/// Proved: A list of the numbers of files without names has exactly those that were put into it and not taken out since; all
+/// memory is taken at first.
 #[derive(Drop)]
 pub struct NamelessFiles {
     listed: Vec<bool>,

@@ -39,6 +39,9 @@ impl NumberTable {
     }
 
     /// A node has this number, as a pass over the nodes of a tree finds it. It isn't kept back.
+    ///
+    /// Proved, also of `new`: A number that is taken has a node, and no other one gets one by it; all memory is taken at
+    /// first.
     pub fn take(&mut self, number: u16)
         ensures taken { (n : ℕ) → is_taken_in self.new n ≡ (n == number || is_taken_in self.old n) }
         ensures kept { (n : ℕ) → kept_of self.new n ≡ (not (n == number) && kept_of self.old n) }
@@ -50,6 +53,9 @@ impl NumberTable {
 
     /// The number that a new node gets: the least that no node has and that isn't kept back, or the least that
     /// no node has where there is no other. None where all numbers have a node.
+    ///
+    /// Proved: Of each tree whose numbers the table has, a new node gets the number that `sn_numbers` gives it: the least
+    /// that no node has and that isn't kept back, or the least that no node has where there is no other.
     pub fn next_number(&self, limits: &Limits) -> Option<u16>
         ensures { (tree : Tree) → TellsNumbers tree self.now → result ≡ next_number limits.now tree (kept_of self.now) }
     {
@@ -65,6 +71,8 @@ impl NumberTable {
     }
 
     /// Whether a number is left for a new node. One that is kept back is.
+    ///
+    /// Proved: Whether a number is left is as the model has it: one that is kept back is.
     pub fn has_free(&self, limits: &Limits) -> bool
         ensures { (tree : Tree) → TellsNumbers tree self.now → result ≡ is_some (least_unused limits.now tree) }
     {
@@ -91,6 +99,10 @@ impl NumberTable {
     }
 
     /// A node has this number now. Where it was kept back, no number is any more.
+    ///
+    /// Proved, also of `lose` and `lose_closed`: The table still has the numbers of the tree where a node is made or goes.
+    /// Proved, also of `lose`, `lose_closed` and `release_all`: Where a number that is kept back is given out, none is any
+    /// more; the number of a file that a close or a logout dropped is kept back, that of any other node that goes isn't.
     pub fn make(&mut self, number: u16)
         ensures tells { (tree : Tree) (node : Node) → TellsNumbers tree self.old → TellsNumbers (put_node tree number node) self.new }
         ensures kept { (n : ℕ) → kept_of self.new n ≡ (kept_of self.old n && not (kept_of self.old number)) }
@@ -122,6 +134,9 @@ impl NumberTable {
     }
 
     /// A consistency point begins: what is kept back so far is so since before it.
+    ///
+    /// Proved, also of `end_point` and `is_kept_back`: Which numbers are kept back since the consistency point in progress
+    /// began is known; once its root is durable, all others can be given out.
     pub fn begin_point(&mut self)
         ensures taken { (n : ℕ) → is_taken_in self.new n ≡ is_taken_in self.old n }
         ensures kept { (n : ℕ) → kept_of self.new n ≡ kept_of self.old n }

@@ -130,6 +130,9 @@ impl NumberedTree {
 
     /// The number that a new node gets: the least that no node has and that isn't kept back, or the
     /// least that no node has where there is no other.
+    ///
+    /// Proved, also of `apply`: A new node gets the least number that no node has and that isn't kept back, or, where there
+    /// is none but those, the least of them, and then none is kept back any more.
     pub fn next_number(&self, limits: &Limits) -> Option<u16>
         ensures { result ≡ next_number limits.now (live_of self.now) (kept_back_of self.now) }
     {
@@ -201,6 +204,8 @@ impl NumberedTree {
 
     /// Takes a file away that went with its last descriptor, and that no name stands for: its number
     /// is kept back. It takes no memory.
+    ///
+    /// Proved: Kept back is the number of a file that a close or a logout dropped; that takes no memory.
     pub fn drop_closed(&mut self, number: u16)
         requires number { 2 ≤ number }
         requires nameless { is_nameless (live_of self.old) number (map.get (live_of self.old).nodes number) ≡ true }
@@ -214,6 +219,8 @@ impl NumberedTree {
 
     /// Takes a file away that went with its last name. Its number can be given out at once. It takes
     /// no memory.
+    ///
+    /// Proved: A file that goes with its last name leaves its number free.
     pub fn drop_file(&mut self, number: u16)
         requires number { 2 ≤ number }
         requires nameless { is_nameless (live_of self.old) number (map.get (live_of self.old).nodes number) ≡ true }
@@ -227,6 +234,8 @@ impl NumberedTree {
 
     /// Takes all files away that no name stands for. No number is kept back any more. It takes no
     /// memory, and passes over all numbers.
+    ///
+    /// Proved, also of `NumberedTree::over`: A settled tree keeps no number back, nor does one that was there already.
     pub fn settle(&mut self)
         ensures tree { live_of self.new ≡ settled (live_of self.old) }
         ensures none { (n : ℕ) → kept_back_of self.new n ≡ false }
@@ -246,6 +255,9 @@ impl NumberedTree {
     }
 
     /// A consistency point begins: what is kept back so far is so since before it.
+    ///
+    /// Proved, also of `end_point` and `is_kept_back`: Which numbers are kept back since the consistency point in progress
+    /// began is known; once its root is durable, all others can be given out.
     pub fn begin_point(&mut self)
         ensures tree { live_of self.new ≡ live_of self.old }
         ensures kept { (n : ℕ) → kept_back_of self.new n ≡ kept_back_of self.old n }

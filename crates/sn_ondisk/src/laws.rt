@@ -10,6 +10,9 @@ ghost use Rattle.sn_ondisk.specs.Footprints.{BlocksDependOnTheirSectors, RootsDe
 
 /// What the write of a record's gate, or of the sector that clears a place, does to a log half,
 /// whether it was done or torn.
+///
+/// Proved: A torn write of a record's gate leaves the records as they were or with the new one.
+/// Proved, also of `root_gate_laws`: Closing an open gate, writing after a closed one and clearing a place lose nothing.
 pub fn log_gate_laws()
     ensures adds_one_or_none { GateAddsOneOrNone }
     ensures open_adds_one { OpenGateAddsOne }
@@ -21,6 +24,9 @@ pub fn log_gate_laws()
 
 /// What the write of a slot's gate, or of the body behind a closed one, does to the newest root,
 /// whether it was done or torn.
+///
+/// Proved, also of `shown_laws`: A torn write of a root's gate leaves the old root with its records or the new one with its
+/// own.
 pub fn root_gate_laws()
     ensures closing { ClosingKeepsTheRoot }
     ensures body { BodyKeepsTheRoot }
@@ -38,6 +44,8 @@ pub fn shown_laws()
 {}
 
 /// The sectors that each reading depends on.
+///
+/// Proved, also of `tree_laws` and `map_laws`: Each reading depends on named sectors alone.
 pub fn footprints()
     ensures blocks { BlocksDependOnTheirSectors }
     ensures roots { RootsDependOnTheirBlock }
@@ -62,6 +70,8 @@ pub fn tree_laws()
 {}
 
 /// How often pointers lead to a block: they add up along lists and down a level.
+///
+/// Proved: How often pointers lead to a block adds up along lists and down a level, and so counts what a tree reaches.
 pub fn count_laws()
     ensures named { NamedIsCounted }
     ensures joined { JoinedAddUp }
@@ -72,6 +82,8 @@ pub fn count_laws()
 
 /// What a slot's copy of the block map holds, on which sectors that depends, and how its blocks make
 /// it, each of them spelled by `sn_layout::put_map_words`.
+///
+/// Proved: A map copy holds its words exactly where each of its blocks is spelled with its part of them.
 pub fn map_laws()
     ensures words { WordsAreThoseSpelled }
     ensures one { MapIsOne }
@@ -82,6 +94,8 @@ pub fn map_laws()
 {}
 
 /// Each reading of a log half has one answer.
+///
+/// Proved, also of `root_is_one` and `map_laws`: Each reading has one answer.
 pub fn log_is_one()
     ensures record { RecordIsOne }
     ensures ready { ReadyIsReplayed }
@@ -98,6 +112,8 @@ pub fn root_is_one()
 {}
 
 /// Where roots, map copies and log halves lie.
+///
+/// Proved, also of `block_laws`: Roots, map copies and log halves lie apart; a block on the disk is whole.
 pub fn place_laws()
     ensures roots { RootsLieInTheirAreas }
     ensures halves { HalvesAreTheirAreas }

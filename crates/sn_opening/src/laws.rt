@@ -5,6 +5,11 @@ ghost use Rattle.sn_opening.specs.LogLaws.{ClearingShows, NewerAppendOpensEither
 ghost use Rattle.sn_opening.specs.PointLaws.{BeginShows, BlockIsReached, BlocksKeepWhatIsShown, DoneStands, LogKeepsThePoint, MapBlockIsReached, OpeningOpensEither, SyncStores};
 
 /// What a disk opens to, and on what that depends.
+///
+/// Proved: A disk opens to one world at most, which is settled.
+/// Proved: Under a snapshot's name is its image as it is, and no other name has one.
+/// Proved: The records of the root's epoch come first, and after them those of the next.
+/// Proved: What a root stands for depends on the blocks that it reaches, and what is shown opens to it.
 pub fn opening_laws()
     ensures one { OpensToOne }
     ensures settled { OpensToSettled }
@@ -15,6 +20,9 @@ pub fn opening_laws()
 {}
 
 /// What a mounted file system keeps of its log, call by call.
+///
+/// Proved: With changes that make of its tree one that covers the live tree, a root stands for that tree, settled; one more
+/// change that is made to both, and a file that a close drops, keep that.
 pub fn covering_laws()
     ensures stand { CoversStandForTheLive }
     ensures more { OneMoreCovers }
@@ -23,6 +31,11 @@ pub fn covering_laws()
 {}
 
 /// What a write to the log leaves of it.
+///
+/// Proved: A call that is logged, between points or between two steps of one, leaves the world from before it or the one
+/// after it, at each moment; what an append can go on after is shown.
+/// Proved: While a mount clears the first place of its half, the disk shows the root alone.
+/// Proved: Two epochs on, replay finds nothing in a half without a later record.
 pub fn log_laws()
     ensures older { OlderAppendOpensEither }
     ensures newer { NewerAppendOpensEither }
@@ -33,6 +46,10 @@ pub fn log_laws()
 {}
 
 /// What the steps of a point leave of it, and what calls between them leave of the point.
+///
+/// Proved: While a point begins, and while it writes blocks apart from what is shown, the disk shows the same.
+/// Proved: The write of the next root's gate leaves the world of the old root or that of the next.
+/// Proved: A call that is logged between two steps leaves what the point has on the disk.
 pub fn point_laws()
     ensures begin { BeginShows }
     ensures blocks { BlocksKeepWhatIsShown }
@@ -41,6 +58,9 @@ pub fn point_laws()
 {}
 
 /// How far a point is, step by step.
+///
+/// Proved: Each step leads to the next stage; after the last one the next root counts, denotes what was frozen, and is
+/// sound.
 pub fn step_laws()
     ensures block { BlockIsReached }
     ensures map { MapBlockIsReached }
@@ -49,6 +69,8 @@ pub fn step_laws()
 {}
 
 /// What a run of a mount leaves to a crash, over any list of events.
+///
+/// Proved: In a run, a crash at any moment leaves a state from the last acknowledged one on.
 pub fn run_laws()
     ensures states { RunsLeaveTheirStates }
 {}

@@ -2,6 +2,8 @@ ghost use Rattle.sn_overlay.specs.Laws.{ChangesArePaid, DropsArePaid, DropsStayP
 
 /// At each number the tree that is seen through a layer has the layer's node, or none where the layer
 /// says so, or the node below.
+///
+/// Proved, also of `layers_show_names`: There is one tree that is seen through a layer of changed nodes, names and blocks.
 pub fn layers_show_nodes()
     ensures { LayersShowNodes }
 {}
@@ -13,6 +15,9 @@ pub fn layers_show_names()
 {}
 
 /// To see a tree through two layers is to see it through their merge.
+///
+/// Proved, also of `merges_are_layers`, `merges_fit` and `merges_lie`: To see a tree through two layers is to see it through
+/// their merge, which is whole and fits the tree below where they do.
 pub fn merges_show_both()
     ensures { MergesShowBoth }
 {}
@@ -23,11 +28,16 @@ pub fn merges_are_layers()
 {}
 
 /// A merge fits the tree below both.
+///
+/// Proved, also of `merges_are_layers`: A layer that fits a tree has of each node not made anew its kind, and its ACLs
+/// unless it says that they may differ, and a block begins before its file's end; merges keep that.
 pub fn merges_fit()
     ensures { MergesFit }
 {}
 
 /// A merge needs no more blocks than both layers.
+///
+/// Proved: The blocks that a consistency point needs for a merge are at most those for both layers.
 pub fn needs_add()
     ensures { NeedsAdd }
 {}
@@ -44,6 +54,9 @@ pub fn two_levels_are_charged()
 
 /// The charge for a change pays for the blocks that its layer needs, and for a charge for each file
 /// that it leaves without names.
+///
+/// Proved, also of `drops_are_paid`, `merges_stay_paid` and `drops_stay_paid`: The charge for a change covers what its layer
+/// needs, and a file that it leaves without names, whose own charge pays for its drop.
 pub fn changes_are_paid()
     ensures { ChangesArePaid }
 {}

@@ -34,6 +34,10 @@ impl Overlay {
     }
 
     /// What became of a node, if anything did.
+    ///
+    /// Proved, also of `name`, `block`, `reserve`, `reserve_beside` and `merge`: An overlay in memory looks up what its
+    /// layer has; laying another over it gives the merge, takes no memory, can't fail where room was made, and leaves the
+    /// room beyond.
     pub fn node(&self, number: u16) -> Option<&NodeChange>
         ensures { option_copied result ≡ map.get (layer_of self.now).nodes number }
     {
@@ -58,6 +62,10 @@ impl Overlay {
     }
 
     /// The nodes that changed, in the order of their numbers, each with what became of it.
+    ///
+    /// Proved, also of `names_of` and `take_blocks`: An overlay hands out exactly the nodes that changed, the names of a
+    /// directory that changed and the blocks of a file that were written, each once, in the order of their keys; the blocks
+    /// are moved out, and nothing else changes.
     pub fn nodes(&self) -> &[(u16, NodeChange)]
         ensures { result.now ≡ map.entries (layer_of self.now).nodes }
     {
@@ -121,6 +129,8 @@ impl Overlay {
     }
 
     /// A copy. Where memory is refused, this one is as it was.
+    ///
+    /// Proved: A copy is the same layer.
     pub fn copy(&self, alloc: Global) -> Result<Overlay, AllocError>
         ensures { IfOk result (λ copy. layer_of copy ≡ layer_of self.now) }
     {
@@ -162,6 +172,8 @@ impl Overlay {
     }
 
     /// A node goes, with the names and blocks that it had. It takes no memory.
+    ///
+    /// Proved: A node goes with its names and blocks without memory, as by the merge of the layer in which it is gone.
     pub fn drop_node(&mut self, number: u16, by_close: bool)
         requires { HasRoom self.old (record { nodes = 1; names = 0; blocks = 0 }) }
         ensures layer { layer_of self.new ≡ merge (layer_of self.old) (gone number by_close) }

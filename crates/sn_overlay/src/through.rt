@@ -53,6 +53,8 @@ fn shows_block(
 /// let mut live = Through { overlay: &top, below: &mut Through { overlay: &bottom, below: &mut image } };
 /// let node = live.node(number)?;
 /// ```
+///
+/// Proved: A tree is read through an overlay, over which another one may lie.
 #[derive(Drop)]
 pub struct Through<'a, B> {
     pub overlay: &'a Overlay,

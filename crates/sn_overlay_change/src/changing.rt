@@ -437,6 +437,9 @@ fn layered<B: Below>(
 /// All that is read is read here, and all memory that the change takes is taken here, so that laying
 /// the overlay over an older one, where there is room, can't fail. A fault is one of the tree below, or
 /// memory's.
+///
+/// Proved: The overlay of a change that can be applied is made of what is read of the tree below, of old blocks only those
+/// of which some bytes stay, and this alone takes memory.
 pub fn of_change<B: Below>(
     alloc: Global,
     limits: &Limits,

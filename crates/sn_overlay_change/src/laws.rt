@@ -37,11 +37,16 @@ pub fn writes_show()
 {}
 
 /// Through the layer of any change, the tree is what the change makes of it.
+///
+/// Proved: Each of the seven changes has a layer: through it the tree is exactly what the change makes of it.
 pub fn changes_show()
     ensures { ChangesShow }
 {}
 
 /// That layer is whole, and fits the tree.
+///
+/// Proved, also of `changes_need`: The layer of a change may be laid over others there, and needs no more blocks than are
+/// counted for the change.
 pub fn changes_are_layers()
     ensures { ChangesAreLayers }
 {}
@@ -57,11 +62,16 @@ pub fn changes_count()
 {}
 
 /// A change leaves no more files without names than are counted for it.
+///
+/// Proved: A change leaves no more files without names than are counted for it.
 pub fn nameless_are_counted()
     ensures { NamelessAreCounted }
 {}
 
 /// By a change that gives no file its first name, files without names stay so.
+///
+/// Proved, also of `staying_is_counted`: A change that makes a node of an unused number or names a file that has a name, and
+/// each of another kind, leaves files without names so, and no fewer of them.
 pub fn nameless_stay()
     ensures { NamelessStay }
 {}
@@ -72,6 +82,10 @@ pub fn staying_is_counted()
 {}
 
 /// Through the layer in which a file is gone, the tree is the one without its node.
+///
+/// Proved, also of `drops_lie`, `drops_need` and `drops_are_counted`: The layer in which a file is gone shows the tree
+/// without its node, lies over the tree and needs what is counted for one node, and a file without names that goes is one
+/// less of them.
 pub fn drops_show()
     ensures { DropsShow }
 {}
@@ -92,6 +106,9 @@ pub fn drops_are_counted()
 {}
 
 /// The block in which a file is cut off is the old one with zeros from there on.
+///
+/// Proved, also of `cuts_keep`, `writes_splice`, `writes_span` and `writes_keep`: What a cut or a write leaves of each block
+/// is said once.
 pub fn cuts_zero()
     ensures { CutsZero }
 {}

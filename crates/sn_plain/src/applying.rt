@@ -67,6 +67,10 @@ impl PlainTree {
 
     /// Makes a change of the tree, as replay and a logged call need it: rights were looked at when it
     /// was decided. All memory is taken before anything is changed.
+    ///
+    /// Proved, also of `make`, `add_link`, `remove`, `rename`, `write`, `set_size` and `set_attributes`: Each of the seven
+    /// changes that can be logged turns the tree into the one that the model gives, exactly where the model gives one;
+    /// otherwise, and where memory is refused, the tree is unchanged, and `CannotApply` says that the model gives none.
     pub fn apply(
         &mut self,
         alloc: Global,

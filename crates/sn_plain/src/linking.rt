@@ -128,6 +128,8 @@ impl PlainTree {
     }
 
     /// Takes a file away that no name stands for. It takes no memory.
+    ///
+    /// Proved, also of `settle`: A file without names is taken away, one or all, without memory.
     pub fn drop_file(&mut self, number: u16)
         requires number { 2 ≤ number }
         requires nameless { is_nameless (tree_of self.old) number (map.get (tree_of self.old).nodes number) ≡ true }

@@ -39,6 +39,8 @@ impl PlainTree {
     }
 
     /// The names of a directory, in the order of their bytes: none where it has none, or isn't there.
+    ///
+    /// Proved: A listing is exactly the names of its directory, in their order.
     pub fn names(&self, alloc: Global, directory: u16) -> Result<Names, AllocError>
         ensures { IfOk result (λ names. names ≡ names_of (tree_of self.now) directory) }
     {

@@ -9,6 +9,8 @@ impl PlainTree {
     ghost use Rattle.sn_plain.specs.Plain.{tree_of};
 
     /// How many files no name stands for. It is kept, and not counted anew.
+    ///
+    /// Proved: How many files have no name is kept, and not counted anew.
     pub fn nameless(&self) -> u32
         ensures { result ≡ nameless_in (tree_of self.now) }
     {

@@ -93,6 +93,8 @@ impl PlainTree {
     }
 
     /// The number that a name of a directory stands for. The name isn't copied.
+    ///
+    /// Proved, also of `attributes`: Look-ups, of names that are lent, answer what a walk sees of the tree.
     pub fn link(&self, directory: u16, name: &[u8]) -> Option<u16>
         ensures { result ≡ (viewed (tree_of self.now)).link directory name.now }
     {
@@ -100,6 +102,9 @@ impl PlainTree {
     }
 
     /// How many names a directory has; 0 of any other number.
+    ///
+    /// Proved, also of `names_for` and `is_below`: The names of a directory and of a number are looked up, not counted, and
+    /// whether a directory lies in another by the way up.
     pub fn names_in(&self, directory: u16) -> u64
         ensures { result ≡ names_in (tree_of self.now) directory }
     {

@@ -18,6 +18,9 @@ use std::alloc::Global;
 use std::io::Write;
 
 /// Checks what a device has, and writes the line of the verdict.
+///
+/// Proved: Over each device that tells its bytes, the verdict is that of `check` (sn_check), and its line alone is written,
+/// or where writing fails the front of it; M1, M3 and M2 come only where they are right.
 pub fn check_on<D: Device + Drop, W: Write>(
     alloc: Global,
     device: D,

@@ -340,6 +340,15 @@ pub fn refuse<E: Write, P: Write>(fault: ProgramFault, err: &mut E, person: &mut
 /// 2 for words that are no command, else 1. A fault is told by a line on standard error, also that of a run which was cut
 /// short and whose remains were saved, where the status is 0. `person` is told which file failed and why, what a damage
 /// means, how far a long run has come, and which commands there are where the words are none.
+///
+/// Proved: Status 0 comes only where the words ask for a task and it is done: `mkfs` writes one `ok`, `check` a `clean`,
+/// `run` lines of replies, one to each line of some script, and `stop-at` those of a run on a copy of some image, or their
+/// front where a fault is reported.
+/// Proved: At status 0 only `stop-at` writes to standard error, and what is for a person goes to a writer of its own; with
+/// status 2 nothing is written, with status 1 nothing or the front of what the words may be answered.
+/// Proved: Status 3 comes only where the words ask for a check and one was made: one line with a fault is written then, and
+/// nothing on standard error.
+/// Proved: K1 comes exactly where no disk has so many blocks.
 pub fn program<
     F: FileExt + OpenFile + LockFile + Read + Drop,
     R: Files<File = F> + AllocGlobal + Clock,

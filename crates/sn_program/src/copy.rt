@@ -26,6 +26,11 @@ pub struct CutShort {
 
 /// Runs events on a copy that takes so many more writes, writes the replies, and crashes: each sector that was written
 /// since the last sync that succeeded is filled.
+///
+/// Proved: A run that is cut short is a run on the copy that it was given, and leaves what a crash leaves of that, each
+/// unsynced sector filled as was asked.
+/// Proved: Where that copy was an image of a world, so is what is left: of the machine's run, cut short after the replies
+/// that were given.
 pub fn answer_cut<W: Write, L: Watch>(
     alloc: Global,
     copy: MemDevice,

@@ -92,6 +92,8 @@ pub(crate) fn on_file<T>(which: Which, done: io::Result<T>) -> Result<T, Program
 }
 
 /// Writes the fault's line, and gives the exit status, which also holds where the line can't be written.
+///
+/// Proved, also of `refuse`: The status of a fault is 2 for words that are no command, and 1 for any other.
 pub fn tell<W: Write>(fault: ProgramFault, err: &mut W) -> u8
     ensures { result ≡ status_of fault }
 {

@@ -22,6 +22,11 @@ pub struct Answered<D: Device> {
 }
 
 /// Runs events on a device, and writes the replies, also where the run doesn't end well.
+///
+/// Proved: Over each device that tells its bytes, the lines of the replies of a run, as `run` has it, are written, from the
+/// world that the device's disk is an image of; a disk without a root is refused for that, and where the device counted no
+/// failure, only its end failed.
+/// Proved: All of the lines of the replies are written, or, where writing fails, the front of them, and nothing else.
 pub fn answer<D: Device, W: Write, L: Watch>(
     alloc: Global,
     device: D,
@@ -46,6 +51,8 @@ pub fn answer<D: Device, W: Write, L: Watch>(
 }
 
 /// What a run comes to: its own fault goes before one of writing.
+///
+/// Proved: A run's own fault goes before one of writing.
 pub fn outcome(end: End, written: Result<(), ProgramFault>) -> Result<(), ProgramFault>
     ensures { result ≡ outcome_of end written }
 {

@@ -31,6 +31,9 @@ fn read_bytes<R: Read + Drop>(alloc: Global, reader: R) -> Result<Vec<u8>, Progr
 }
 
 /// The events of the script that a reader has left to give, all of it.
+///
+/// Proved: Of a reader whose bytes are known, the events are those that all of them spell as a script; bytes that spell none
+/// are refused with the first bad line, or 0 past 16,777,216 bytes, unless the reader fails or memory is refused.
 pub fn read_events<R: Read + Drop>(alloc: Global, reader: R) -> Result<Vec<Event>, ProgramFault>
     // What is read is spelled so, and has at most 16,777,216 bytes.
     ensures found { IfOk result (λ events. AreEventsOf (R.remaining reader) events.items) }

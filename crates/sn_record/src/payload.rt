@@ -48,6 +48,8 @@ impl<'a> Model for Payload<'a> {
 impl<'a> Payload<'a> {
     /// The payload of a change, or none where its names aren't such as a directory can have, or it writes no byte or over
     /// 65,536. All else is so by its types. Whether it can be applied to a tree is not asked.
+    ///
+    /// Proved: The test is exact which changes have a payload; whether a change can be applied is not asked.
     pub fn of(change: &'a Change<'a>) -> Option<Self>
         ensures valid { IsSome result ↔ IsSpelled change.now }
         ensures same { IfSome result (λ payload. payload ≡ change.now) }
@@ -68,6 +70,9 @@ impl<'a> Payload<'a> {
     }
 
     /// How many bytes it has.
+    ///
+    /// Proved, also of `payloads_fit` and `payloads_differ`: Each payload has 1 to 65,547 bytes, and no two changes have one
+    /// payload.
     pub fn size(&self) -> usize
         ensures value { result ≡ length (payload_bytes self.now) }
         ensures spelled { IsSpelled self.now }
@@ -263,6 +268,9 @@ fn put_fields(block: &mut [u8], at: usize, change: &Change<'_>) -> usize
 }
 
 /// Writes the payload of a change at an offset, and answers the offset after it.
+///
+/// Proved, also of `decode`: The payload of a record, for all seven changes, is written as the change's one spelling, and
+/// read exactly from it, with nothing after it; names and written bytes are lent from it.
 pub fn put_change(block: &mut [u8], at: usize, change: &Change<'_>) -> usize
     requires spelled { IsSpelled change.now }
     requires room { at + length (payload_bytes change.now) ≤ length block.old }

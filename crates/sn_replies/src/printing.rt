@@ -119,6 +119,8 @@ fn push_reply(alloc: Global, text: &mut Vec<u8>, reply: &Reply) -> io::Result<()
 }
 
 /// The lines of replies, one for each.
+///
+/// Proved: The printed text is the one spelling of the replies.
 pub fn print_replies(alloc: Global, replies: &[Reply]) -> Result<Vec<u8>, AllocError>
     ensures { IfOk result (λ text. text.items ≡ flat_map reply_line replies.now) }
 {

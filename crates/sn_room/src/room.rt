@@ -82,6 +82,9 @@ impl Room {
     }
 
     /// Whether a call fits that comes to this, where so many live files have no name.
+    ///
+    /// Proved: A call fits exactly where the charges since the durable root's moment, its own, one inode's for each parked
+    /// file, and the reserve unless it removes, are at most the free blocks.
     pub fn fits(&self, limits: &Limits, nameless: u32, outcome: &Outcome<'_>) -> bool
         ensures exact { result ≡ fits limits.now self.now nameless outcome.now }
         ensures within { IsTrue result → charged_behind limits.now self.now nameless outcome.now < 2 ^ 32 }
@@ -98,6 +101,9 @@ impl Room {
     }
 
     /// A call was logged, and is charged.
+    ///
+    /// Proved, also of `drop_files`, `begin_point` and `end_point`: What is charged and dropped is counted since the root's
+    /// moment and since the point in progress began; a root that is durable leaves what came since its point.
     pub fn log(&mut self, charge: u64)
         requires { self.old.charged + charge < 2 ^ 64 }
         ensures { self.new ≡ logged charge self.old }

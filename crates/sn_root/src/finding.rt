@@ -26,6 +26,9 @@ pub struct NewestRoot {
 
 /// The root that counts: of the slots whose gate is open, that with the greater generation. It reads
 /// the gates and the bodies of the open slots, three blocks at most.
+///
+/// Proved, also of `finding_is_one`: The newest root is found where there is one, and else the one fault that the disk has:
+/// no open slot, an unknown version, a misspelt body or two roots of one generation; a failed read is an answer of its own.
 pub fn newest<D: Device>(blocks: &mut Blocks<D>) -> Result<NewestRoot, RootFault>
     requires room { 32 ≤ (D.status (device_of blocks.old)).sectors }
     ensures found { IsTrue D.tells_bytes → Finds (reads (D.disk (device_of blocks.old))) result }

@@ -31,6 +31,8 @@ impl PointKind {
 /// The root that follows on this one, in the version of these limits, with the next generation and a later
 /// epoch, and with the same trees until its caller puts others in. There is none past a generation or an epoch
 /// of 2^62. It can be written where the limits are those of a version, and its snapshots fit them.
+///
+/// Proved: The next root has the limits that it is given, and the next generation and epoch, up to 2^62.
 pub fn next_root(root: &RootBody, limits: &Limits, kind: PointKind) -> Option<RootBody>
     ensures some { IsSome result ↔ ((root.now.generation + 1 ≤ 2 ^ 62) × (root.now.epoch + epochs_of kind ≤ 2 ^ 62)) }
     ensures value { IfSome result (λ next. next ≡ following kind limits.now root.now) }

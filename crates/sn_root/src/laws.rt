@@ -7,6 +7,8 @@ pub fn finding_is_one()
 {}
 
 /// What stands between the parts of replacing a root goes on to stand there while calls are logged.
+///
+/// Proved: Calls of the log between the parts keep what the parts need.
 pub fn log_keeps_slots()
     ensures gates { LogKeepsGates }
     ensures closed { LogKeepsClosed }

@@ -20,6 +20,11 @@ use sn_layout::{BLOCK_SIZE, Gate, Geometry, RootBody, SECTOR_SIZE, Slot};
 
 /// Closes the gate of the slot that is to be replaced, where it is open, and syncs. A gate that is closed
 /// is left alone: behind it a whole body may stand that never counted, and a torn write might open it.
+///
+/// Proved, also of `write_body`: The root in the other slot is replaced in three parts, each synced, and whatever a crash
+/// tears, closing and the body leave the old root with its log records.
+/// Proved, also of `write_body`, `open_slot` and `replace`: A closed gate isn't written again, and each part touches the
+/// sectors that it names and no others, with so many writes and syncs.
 pub fn close_slot<D: Device>(blocks: &mut Blocks<D>, slot: Slot, gate: Gate) -> Result<(), Fault>
     requires room { 32 ≤ (D.status (device_of blocks.old)).sectors }
     requires gate { IsTrue D.tells_bytes
@@ -62,6 +67,8 @@ pub fn write_body<D: Device>(
 
 /// Opens the gate before the body of the next root, and syncs. From then on that root counts, if its
 /// generation is the greater.
+///
+/// Proved: Opening leaves the old or the next root with the records of its own epochs, and after `Ok` the next.
 pub fn open_slot<D: Device>(blocks: &mut Blocks<D>, slot: Slot) -> Result<(), Fault>
     requires room { 32 ≤ (D.status (device_of blocks.old)).sectors }
     requires closed { IsTrue D.tells_bytes

@@ -31,6 +31,9 @@ pub struct StoredInode {
 /// The inode that a number has in a root's tree, `None` where no node has it. `file` is the root's inode file, and of
 /// the number only the inode is read. `Damaged` comes only where its record can't be read, and never where the root is
 /// sound. Memory is taken for blocks that aren't kept.
+///
+/// Proved, also of `stored_inode`: The inode of a number is the one that a root has, on any image, and its ACLs are those of
+/// its block.
 pub fn inode_of<D: Device>(
     blocks: &mut Blocks<D>,
     limits: &Limits,

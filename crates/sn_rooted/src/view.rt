@@ -37,6 +37,10 @@ pub fn file_in(root: &RootBody, home: &Home) -> Option<BlockTree>
 
 /// The trees of a root on a device: the live one, and those of its snapshots. Nothing is kept of them, and
 /// each look-up reads what it needs.
+///
+/// Proved, also of `file_in`: The live tree of a root and those of its snapshots are seen by walks and decisions as the
+/// trees that it denotes; a fault comes only where the device counted a failure or is at its end, or where memory was
+/// refused.
 #[derive(Drop)]
 pub struct RootedView<'a, D: Device> {
     pub blocks: &'a mut Blocks<D>,

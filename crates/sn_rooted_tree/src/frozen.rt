@@ -50,6 +50,9 @@ fn names_alone(alloc: Global, listed: Vec<ListedName>) -> Result<Names, AllocErr
     Ok(Names::new(names))
 }
 
+/// Proved: The tree of each snapshot is read on demand too, where the snapshots are sound: which there are and their names
+/// in order, each node, name and default ACL, each byte of a file, the names of a directory, and how many files have no
+/// name, as the root denotes them. Of a name that no snapshot has nothing is found.
 impl<'a, D: Device> HasSnapshots for RootedTree<'a, D> {
     ghost use Rattle.std.specs.Prelude.{IsTrue};
     ghost use Rattle.sn_block.specs.Lending.{device_of};

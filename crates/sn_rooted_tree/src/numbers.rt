@@ -107,6 +107,10 @@ fn none_noted(alloc: Global) -> Result<RootNumbers, AllocError>
 /// Notes which numbers of a root's tree have a node, and which of them are those of files without names. `file` is the
 /// root's inode file, and each of its inodes is read once. No number is kept back. Where the root is sound, `Damaged` never
 /// comes. Memory is taken for the answer, and for blocks that aren't kept.
+///
+/// Proved: Which numbers have a node, and which of these are files without names, is noted and counted by one pass over the
+/// same records: exactly those of the tree that a sound root denotes, with no number kept back, and `Damaged` is never
+/// answered then.
 pub fn numbers_of<D: Device>(
     alloc: Global,
     blocks: &mut Blocks<D>,

@@ -39,6 +39,13 @@ fn kept_name(alloc: Global, directory: u16, name: &[u8]) -> Result<Link, TreeFau
 
 /// The live tree of a root on a device, with the frozen ones of its snapshots beside it. Nothing is kept of them, and
 /// each look-up reads what it needs. Once one has failed, each later one fails so, and reads nothing.
+///
+/// Proved: The tree of a sound root is what lies below an overlay: each node with its owner and both ACLs, each name, each
+/// block of a file, as the root denotes them, read when it is asked for.
+/// Proved: The names of a directory, each with its number, in the order of their bytes, are as the root denotes them.
+/// Proved: A look-up fails only where the device failed or ended, memory was refused, or the device doesn't tell its bytes;
+/// its fault stays, so that each later look-up answers it and reads nothing, and while there is none nothing was counted.
+/// Proved, also of each other function: Nothing is written, and nothing is counted but the failure of a read.
 #[derive(Drop)]
 pub struct RootedTree<'a, D: Device> {
     pub alloc: Global,

@@ -72,6 +72,25 @@ fn answer_all<D: Device, W: Watch>(
 /// failure of the device has stopped the mount, or a restart found none, and else what the last unmount makes
 /// it, which is a whole consistency point: `Clean`, `Memory`, or `Stopped` where the device fails or no root
 /// can follow. Behind each event `watch` is told how many were answered.
+///
+/// Proved: For every list of events, restarts among them, the replies and the end are a whole run of the machine from the
+/// world that the disk is an image of, whose frozen trees are those of the newest root's snapshots.
+/// Proved: Where the disk isn't formatted, neither slot is open, or a root is of a version that isn't known, the run ends
+/// with that fault and no reply, unless memory was refused or the device failed.
+/// Proved: The events are answered one after the other, each as `Server` says, and over any device each has its reply,
+/// unless there was no mount.
+/// Proved: Where the run ends `Clean` the newest root has all of the world, settled.
+/// Proved: A crash in an event leaves what a run leaves that is cut short there or later, after all replies given before:
+/// what was answered is in it, and at most that event beside.
+/// Proved: From the mount's first sync to the first event a crash leaves the world that was found, and only where no event
+/// was answered may nothing have been written.
+/// Proved: The device's counts begin with those of the device that came in and end with those of the one that goes out; the
+/// first mount makes those that `mount` says.
+/// Proved: After the last event the mount is unmounted with a whole consistency point, and a crash at any moment of it
+/// leaves all that was answered.
+/// Proved: The end is `Clean` where that point is made, `Memory` where memory is refused for it, and `Stopped` where the
+/// device fails in it, no root can follow, or the machine is stopped after the last event; without room for the replies
+/// nothing is done.
 pub fn run<D: Device, W: Watch>(alloc: Global, device: D, events: &[Event], watch: &mut W) -> Ran<D>
     ensures runs { IsTrue D.tells_bytes → RunsTo result.end events.now result.replies.items
         (D.disk device) (D.status device) (D.disk result.device) (D.status result.device) }

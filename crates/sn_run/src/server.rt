@@ -77,6 +77,20 @@ impl<D: Device> Server<D> {
     }
 
     /// Answers a call, with ESTOPPED where nothing is mounted.
+    ///
+    /// Proved, also of `Server::step` and `Server::restart`: Each reply is that of a step of the machine, from each state
+    /// that the server means; a restart makes a whole point and then finds the settled world, or the cause why it doesn't
+    /// mount, after which all but a restart is refused, and where the point is refused nothing has changed.
+    /// Proved, also of `Server::step` and `Server::restart`: `EIO`, and the fault M6 of a restart, come only where the
+    /// device failed in that event or is at its end, `ENOSPC` only where the call doesn't fit right after a whole
+    /// consistency point that it made, and no count of the device falls.
+    /// Proved, also of `Server::step` and `Server::restart`: A refused event, and all but a restart in a stopped mount,
+    /// change nothing that is held, but for the device's count of a read that failed.
+    /// Proved, also of `Server::step` and `Server::restart`: A call that is answered moves the log by its record, charges
+    /// its charge, and leaves the point in progress where it is, unless it finishes that or makes a whole one.
+    /// Proved, also of `Server::step` and `Server::restart`: A crash at any moment of an event leaves what a mount finds of
+    /// the state before it or of the one after it, and once it is answered of the one after it; a stopped machine's state is
+    /// two worlds.
     pub fn call(&mut self, session: u32, call: &Call) -> Reply
         requires { IsServer self.old }
         ensures answered { IsTrue D.tells_bytes → Answers (event.Call session call.now) result
@@ -104,6 +118,9 @@ impl<D: Device> Server<D> {
 
     /// Unmounts and mounts, or mounts alone where it has stopped. Where the unmount is refused, nothing has changed, and where
     /// the mount fails, the reply has its cause, and all but a restart is refused from then on.
+    ///
+    /// Proved: A restart that fails, also of a stopped mount, leaves no other world than the one that the disk was an image
+    /// of, from its first sync on.
     pub fn restart(self, alloc: Global) -> (Reply, Server<D>)
         requires { IsServer self }
         ensures answered { IsTrue D.tells_bytes → Answers event.Restart result.0

@@ -26,6 +26,10 @@ fn first_event(alloc: Global, script: &[u8]) -> Result<(Event, &[u8]), SpellingF
 }
 
 /// The events of a script, one for each line.
+///
+/// Proved: A script is read exactly where it is spelled by the grammar and has at most 16,777,216 bytes, and as the events
+/// that it spells.
+/// Proved: A fault names the first bad line.
 pub fn read_script(alloc: Global, script: &[u8]) -> Result<Vec<Event>, ScriptFault>
     // What is read is spelled so, and what is spelled so is read unless memory runs out.
     ensures found { IfOk result (λ events. IsScript events.items script.now × (length script.now ≤ 16777216)) }

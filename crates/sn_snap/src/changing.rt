@@ -11,6 +11,9 @@ use sn_limits::SnapshotName;
 
 /// The same with one more snapshot, at the index of its bit. A root body that held them holds these, where its version
 /// allows one more and has the bit.
+///
+/// Proved, also of `without` and `root_bodies_stay`: A new snapshot is put in the place of its bit, which inserts its name;
+/// taking one away removes its name; a root body that held the snapshots holds these.
 pub fn with(mut snapshots: Snapshots, name: SnapshotName, bit: u8, tree: BlockTree) -> Snapshots
     requires catalogue { IsCatalogue snapshots }
     requires room { length snapshots < SNAPSHOT_ROOM }

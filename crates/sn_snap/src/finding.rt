@@ -10,6 +10,9 @@ use sn_layout::{Snapshot, Snapshots};
 use sn_limits::{Limits, SnapshotName};
 
 /// The snapshot that has the name.
+///
+/// Proved: The snapshots of a root are a finite map from a name to a bit and a tree, and the snapshot of a name is found
+/// exactly where there is one.
 pub fn find<'a>(snapshots: &'a Snapshots, name: &SnapshotName) -> Option<&'a Snapshot>
     ensures entry { option_map entry_of (option_copied result) ≡ map.get (catalogue snapshots.now) name.now }
     ensures name { IfSome result (λ snapshot. snapshot.now.name ≡ name.now) }
@@ -21,6 +24,9 @@ pub fn find<'a>(snapshots: &'a Snapshots, name: &SnapshotName) -> Option<&'a Sna
 
 /// The least bit from 1 up that no snapshot has. `None` comes exactly where there are as many snapshots as the version
 /// allows.
+///
+/// Proved, also of `versions_fit`: The bit for a new snapshot is the least from 1 up that none has, missing exactly where
+/// there are as many as the version allows, and never above the largest bit of the version.
 pub fn free_bit(snapshots: &Snapshots, limits: &Limits) -> Option<u8>
     requires { IsCatalogue snapshots.now }
     ensures full { IsNone result ↔ (limits.now.snapshots ≤ length snapshots.now) }

@@ -2,6 +2,11 @@
 ghost use Rattle.sn_sound.specs.Laws.{CleanHasAVerdict, CleanIsNotFaulty, CoversAreChargedAlike, FreeIsCounted, ImagesHoldOneWorld, SoundDisksHaveNoFault, SoundDisksOpen, SoundDisksOpenToWorlds, SoundImagesHoldAWorld, SoundRootsHaveNoFault, SoundRootsLieInData, SoundnessIsOfTheReach, StandingDisksAreSound, StandingRootsAreSound};
 
 /// What stands makes a disk unsound.
+///
+/// Proved: A fault at a block makes the root, and the whole disk, unsound, so a check that reports only faults that are
+/// there, and is clean only where the disk is sound, is exact.
+/// Proved: A disk that is clean isn't faulty, and not without a verdict but for want of memory or a failure of the device.
+/// Proved: Where the map has what the roots reach, the free blocks are its words that are 0.
 pub fn fault_laws()
     ensures root { SoundRootsHaveNoFault }
     ensures disk { SoundDisksHaveNoFault }
@@ -11,6 +16,10 @@ pub fn fault_laws()
 {}
 
 /// What a sound disk opens to.
+///
+/// Proved: A sound disk opens to a world, and to one alone.
+/// Proved: A sound disk opens to a world that a mount may find: its trees are name trees within the limits of the root's
+/// version, the frozen ones have names of snapshots, and no live file is without a name.
 pub fn opening_laws()
     ensures opens { SoundDisksOpen }
     ensures worlds { SoundDisksOpenToWorlds }
@@ -19,6 +28,12 @@ pub fn opening_laws()
 {}
 
 /// What is so of the root that a mounted file system stands on.
+///
+/// Proved: Whether a root is sound depends on the blocks that it reaches.
+/// Proved: Where a mounted file system's root stands (`RootStands`), it is sound, with snapshots and map, in whatever a
+/// crash leaves.
+/// Proved: Where the log on top of that root stands too (`LogStands`), whatever a crash leaves is a sound disk.
+/// Proved: What a sound root and its snapshots reach lies in the data area.
 pub fn standing_laws()
     ensures data { SoundRootsLieInData }
     ensures reach { SoundnessIsOfTheReach }
@@ -27,6 +42,8 @@ pub fn standing_laws()
 {}
 
 /// What a call is charged for is told alike by the live tree and by the one that replay makes.
+///
+/// Proved: A change is charged alike on the live tree and on the one that replay makes.
 pub fn charge_laws()
     ensures covers { CoversAreChargedAlike }
 {}

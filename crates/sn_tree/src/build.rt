@@ -53,6 +53,8 @@ impl Build {
 
     /// Takes a block that is free, for these bytes, and answers its number. Where that fails nothing
     /// changes. `Full` comes only where each free block is taken.
+    ///
+    /// Proved, also of `added`: Each new block was free and is taken once.
     pub fn put(&mut self, bytes: Box<Block>) -> Result<u32, PlanFault>
         ensures fresh { IfOk result (IsFresh self.old) }
         ensures ok { IfOk result (λ number. self.new
@@ -70,6 +72,8 @@ impl Build {
 
     /// Notes that the new tree doesn't reach the block behind a pointer of the old one. Behind 0 there
     /// is none.
+    ///
+    /// Proved: A block that the new tree doesn't reach is noted once for each pointer.
     pub fn release(&mut self, pointer: u32) -> Result<(), AllocError>
         ensures ok { OnOk result (self.new ≡ grown self.old [] (block_reach pointer)) }
         ensures err { OnErr result (self.new ≡ self.old) }

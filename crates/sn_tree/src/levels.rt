@@ -117,6 +117,8 @@ pub(crate) fn raised<D: Device>(
 /// place: `depth` is 0 for pointers to data blocks, and one more for each level of indirect blocks. It takes no block,
 /// so `Full` comes only where more were added than are free. `Damaged` comes only where a block that they reach isn't
 /// on the device. After an error the build can only be given up.
+///
+/// Proved: All that pointers reach is released without taking a block.
 pub fn release_pointers<D: Device>(
     build: &mut Build,
     blocks: &mut Blocks<D>,

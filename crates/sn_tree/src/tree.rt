@@ -35,6 +35,9 @@ pub struct Dirty {
 impl Dirty {
     /// Whether the indices of the dirty blocks rise, and each begins before the new size. A plan takes no
     /// others, since one past the end would have no place in the tree.
+    ///
+    /// Proved, also of `Dirty::keeps_within`: The tests are exact whether dirty blocks are ones that a plan takes, rising
+    /// and none past the new end, and whether what stays begins before it.
     pub fn is_in_order(&self) -> bool
         ensures { IsTrue result ↔ AreInOrder self.now.size self.now.blocks.items }
     {
@@ -67,6 +70,18 @@ impl Dirty {
 /// below are left. After an error the build can only be given up. `Full` comes only where fewer blocks are
 /// left than a path for each dirty block and one more, and `Damaged` only where a block that the old tree
 /// reaches isn't on the device.
+///
+/// Proved: A tree with another size and other data blocks is planned in memory, while the old one is only read and nothing
+/// is written; it may have more levels of indirect blocks than the old one, or fewer.
+/// Proved: In every store with the new blocks that agrees with the old one in what the old tree reaches, each data block is
+/// the changed one if there is one, the old one if it is to stay, and else zeros.
+/// Proved: Only what stays of a hole, or is cut off, is a hole.
+/// Proved, also of `plan_laws`: Where what is wanted ends at the new size, so does the tree, with holes for pointers past it
+/// on every level and zeros for bytes past it.
+/// Proved: What the new tree reaches with what is released is what the old one reached with what was added, each block as
+/// often.
+/// Proved: New blocks are at most a path for each changed block and one path more; `Full` comes only where fewer are left,
+/// and `Damaged` only where the old tree reaches a block that isn't on the device, with that block.
 pub fn plan_tree<D: Device>(
     build: &mut Build,
     blocks: &mut Blocks<D>,

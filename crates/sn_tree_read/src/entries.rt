@@ -62,6 +62,11 @@ fn pointer_below<D: Device>(
 /// The pointer with number `i` of those that stand so many levels below the sixteen of a tree: on the
 /// last level it names data block `i`. 0 is a hole, also where the tree has no such block. `Damaged`
 /// comes exactly where a block above it isn't on the device.
+///
+/// Proved, also of `fetch_data` and `read`: A pointer on its path, a data block or a hole in its place, and bytes of a file
+/// are what the tree means, on any image; `Damaged` comes exactly where a block that is needed isn't on the device, with
+/// that block.
+/// Proved, also of `fetch_data` and `read`: Nothing is written, over any device.
 pub fn entry<D: Device>(
     blocks: &mut Blocks<D>,
     tree: &BlockTree,

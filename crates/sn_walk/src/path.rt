@@ -34,6 +34,8 @@ impl<'a> Model for Path<'a> {
 
 impl<'a> Path<'a> {
     /// Reads a path. The word's length is looked at first, and the length of a name last.
+    ///
+    /// Proved: A word is a path, or is refused, exactly by the grammar.
     pub fn parse(word: &'a [u8]) -> Result<Path<'a>, PathFault>
         ensures { MatchResult result (λ p. parsed word.now ≡ Ok p) (λ e. parsed word.now ≡ Err e) }
     {

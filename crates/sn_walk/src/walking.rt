@@ -219,6 +219,12 @@ fn pass<T: TreeView>(
 ///
 /// The first test that fails, in the order of the places, is the refusal: a caller that may not
 /// search a directory isn't told which names it has (POSIX.1-2017, Pathname Resolution).
+///
+/// Proved: Over every view of the live tree and the frozen ones, a walk is the chain of links or its first refusal, with its
+/// place, by the owners and ACLs of the tree that each directory is in.
+/// Proved: A missing name below a directory without search isn't told; only the live root has the directory of snapshots.
+/// Proved: A walk makes the look-ups of its path, in their order, as far as it goes, and no other.
+/// Proved: A fault of the view is handed on with its cause, and what the view keeps is kept.
 pub fn walk<T: TreeView>(
     view: &mut T,
     cred: &Cred,

@@ -4,6 +4,8 @@ ghost use Rattle.sn_words.specs.Fields.{parts};
 use arrayvec::ArrayVec;
 
 /// What stands before the first byte that is a separator, and what stands after it.
+///
+/// Proved, also of `parts`: A text is split at a byte into its parts, or has more than there is room for.
 pub fn cut(text: &[u8], separator: u8) -> Option<(&[u8], &[u8])>
     ensures found { IfSome result (λ cut. text.now ≡ cut.0.now ++ separator ∷ cut.1.now) }
     ensures first { IfSome result (λ cut. All (λ b. (b == separator) ≡ false) cut.0.now) }

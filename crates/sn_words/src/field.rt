@@ -32,6 +32,9 @@ pub fn long_number(word: &[u8]) -> Result<u64, SpellingFault>
 }
 
 /// A decimal number of 32 bits, without leading zeros.
+///
+/// Proved, also of `long_number`, `octal`, `want`, `acl_kind`, `word`, `groups`, `id`, `flags`, `file_mode` and `content`:
+/// Each kind of word is read exactly where it is spelled, and as the value that it spells.
 pub fn number(word: &[u8]) -> Result<u32, SpellingFault>
     ensures { IsRead (λ n. n) result (number_below (2 ^ 32) word.now) }
 {
