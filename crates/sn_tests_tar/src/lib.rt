@@ -1,11 +1,12 @@
-//! Cases of archives: heads that are written and read, what needs a pax record, and pax records.
+//! Cases of archives: heads that are written and read, what needs a pax record, pax records, and texts of ACLs.
 //!
-//! The tables of the cases are in the data of `sn_tests_messages`: their head lines say where the answers come from. `heads` and
-//! `records` have their words.
+//! The tables of the cases are in the data of `sn_tests_messages`: their head lines say where the answers come from. `heads`,
+//! `records` and `acls` have their words.
 //!
 //! No clause promises what comes out, since it is compared: `sn_tests_messages` runs it.
 #![tactic(auto)]
 
+mod acls;
 mod heads;
 mod records;
 
@@ -16,7 +17,8 @@ use std::alloc::Global;
 /// Compares the answers of all cases with their tables. An error is a case, or a table, that can't be read, or a want of memory.
 pub fn run(report: &mut Report<'_>) -> Result<()> {
     heads::run(report)?;
-    records::run(report)
+    records::run(report)?;
+    acls::run(report)
 }
 
 /// The bytes that a word spells in hexadecimal, or `-` for none.
