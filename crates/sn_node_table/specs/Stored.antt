@@ -4,7 +4,7 @@ use Rattle.std.specs.Ordering.{nat_cmp}
 use Rattle.std.specs.Cmp.Lexicographic.{slice_cmp}
 use Rattle.std.specs.Vec.{vec_items}
 use Rattle.std.specs.FinMap as map
-use Rattle.sn_nodes.specs.Maps.{seen_as, seen_by}
+use Rattle.sn_maps.specs.Maps.{seen_as, seen_by}
 use Rattle.sn_node_table.specs.Nodes.{Below, Node}
 use Rattle.sn_node_table.specs.declared.current.Current.{Current}
 use Rattle.sn_node_table.specs.declared.names.Names.{Names}

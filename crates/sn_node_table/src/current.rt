@@ -1,7 +1,7 @@
 //! Which id stands for an object.
 ghost use Rattle.std.specs.Prelude.{◌≡◌, IfOk, OnOk, OnErr};
 ghost use Rattle.std.specs.FinMap as map;
-ghost use Rattle.sn_nodes.specs.Maps.{restored, updated};
+ghost use Rattle.sn_maps.specs.Maps.{restored, updated};
 
 use std::alloc::{AllocError, Global};
 use std::collections::BTreeMap;

@@ -2,7 +2,7 @@
 ghost use Rattle.std.specs.Prelude.{◌≡◌, IfOk, OnOk, OnErr};
 ghost use Rattle.std.specs.Option.{option_and_then, option_copied, option_map};
 ghost use Rattle.std.specs.FinMap as map;
-ghost use Rattle.sn_nodes.specs.Maps.{updated};
+ghost use Rattle.sn_maps.specs.Maps.{updated};
 ghost use Rattle.sn_node_table.specs.Tables.{unhooked};
 ghost use Rattle.sn_node_table.specs.Nodes.{below_of, first_link, with_handles, with_link, with_lookups, with_name, without_first_link, without_last_link, without_link, without_name};
 

@@ -1,4 +1,3 @@
-pub mod MapLemmas
 pub mod RecountLemmas
 pub mod NamesLemmas
 pub mod ListingLemmas

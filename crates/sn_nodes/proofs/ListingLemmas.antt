@@ -20,7 +20,7 @@ use Rattle.std.proofs.lemmas.Map.Lookups.{exact_unsigned}
 use Rattle.sn_model.specs.declared.link.Link.{Link}
 use Rattle.sn_model.specs.Tree.{link_cmp, link_to}
 use Rattle.sn_model.proofs.LinkLemmas.{exact_links, links_total}
-use Rattle.sn_nodes.specs.Maps.{seen_as}
+use Rattle.sn_maps.specs.Maps.{seen_as}
 use Rattle.sn_nodes.specs.Names.{Named, all_links, links_from, names_at}
 use Rattle.sn_nodes.proofs.NamesLemmas.{apart, both}
 

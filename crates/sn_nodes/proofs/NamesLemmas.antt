@@ -18,10 +18,10 @@ use Rattle.sn_model.specs.declared.link.Link.{Link}
 use Rattle.sn_model.specs.Tree.{link_cmp, link_to}
 use Rattle.sn_model.proofs.LinkLemmas.{exact_links, links_total}
 use Rattle.sn_nodes.specs.declared.names.Names.{Names}
-use Rattle.sn_nodes.specs.Maps.{seen_by}
+use Rattle.sn_maps.specs.Maps.{seen_by}
 use Rattle.sn_nodes.specs.Names.{Named, all_links, links_from, names_at}
 use Rattle.sn_nodes.specs.Stored.{names_of}
-use Rattle.sn_nodes.proofs.MapLemmas.{get-seen_by, insert-seen_by, updated-seen_by, same-updated}
+use Rattle.sn_maps.proofs.MapLemmas.{get-seen_by, insert-seen_by, updated-seen_by, same-updated}
 
 -- links in one directory are told apart by their names, and from those in another by the directory
 here : (q : Link) (d : ℕ) (n : List ℕ) → eq_by_cmp nat_cmp q.directory d ≡ true → eq_by_cmp link_cmp q (link_to d n) ≡ eq_by_cmp (slice_cmp nat_cmp) q.name n

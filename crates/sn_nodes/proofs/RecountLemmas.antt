@@ -6,11 +6,11 @@ use Rattle.std.specs.Cmp.{nat_cmp_total, unsigned_tied}
 use Rattle.std.specs.FinMap as fin
 use Rattle.std.proofs.lemmas.Bool.{eqb-true, eqb-false}
 use Rattle.std.proofs.lemmas.Map.Lookups.{exact_unsigned}
-use Rattle.sn_nodes.specs.Maps.{updated}
+use Rattle.sn_maps.specs.Maps.{updated}
 use Rattle.sn_nodes.specs.declared.nodes.Counts.{Counts}
 use Rattle.sn_nodes.specs.declared.nodes.StoredNode.{StoredNode}
 use Rattle.sn_nodes.specs.Stored.{counts_of, with_counts, recount, Recounts, more_at, fewer_at}
-use Rattle.sn_nodes.proofs.MapLemmas.{get-updated}
+use Rattle.sn_maps.proofs.MapLemmas.{get-updated}
 
 abbrev Stored : Type 0
 Stored = fin.FinMap nat_cmp StoredNode

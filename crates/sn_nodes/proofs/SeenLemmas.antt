@@ -7,7 +7,7 @@ use Rattle.std.specs.FinMap as map
 use Rattle.sn_nodes.specs.declared.nodes.StoredNode.{StoredNode}
 use Rattle.sn_nodes.specs.declared.nodes.Nodes.{Nodes}
 use Rattle.sn_nodes.specs.Stored.{node_of, nodes_of, stored_of}
-use Rattle.sn_nodes.proofs.MapLemmas.{get-seen_by, get-seen_plain}
+use Rattle.sn_maps.proofs.MapLemmas.{get-seen_by, get-seen_plain}
 
 -- the nodes as the model has them are those that are stored
 pub seen : (n : Nodes) (k : ℕ) → map.get (nodes_of n) k ≡ option_map node_of (map.get (stored_of n) k)

@@ -21,9 +21,9 @@ use Rattle.sn_model.proofs.CountLemmas.{once, count_none}
 use Rattle.sn_model.proofs.EntryLemmas.{share, total-insert, total-remove}
 use Rattle.sn_model.proofs.MapLemmas.{same_or_apart, get_other, get_was}
 use Rattle.sn_nodes.specs.declared.nodes.StoredNode.{StoredNode}
-use Rattle.sn_nodes.specs.Maps.{filtered, updated, updated_at}
+use Rattle.sn_maps.specs.Maps.{filtered, updated, updated_at}
 use Rattle.sn_nodes.specs.Tally.{IsTallied, IsTalliedIn, bare_at, bare_in, bare_once, is_kept}
-use Rattle.sn_nodes.proofs.MapLemmas.{get-seen_plain, updated-seen_by}
+use Rattle.sn_maps.proofs.MapLemmas.{get-seen_plain, updated-seen_by}
 
 abbrev Stored : Type 0
 Stored = map.FinMap nat_cmp StoredNode

@@ -1,4 +1,3 @@
-pub mod Maps
 pub mod Names
 pub mod Stored
 pub mod Tally

@@ -6,7 +6,7 @@ use Rattle.std.specs.Cmp.Lexicographic.{slice_cmp}
 use Rattle.std.specs.Vec.{vec_items}
 use Rattle.std.specs.FinMap as map
 use Rattle.sn_model.specs.Tree.{Node, link_cmp}
-use Rattle.sn_nodes.specs.Maps.{seen_as, seen_by}
+use Rattle.sn_maps.specs.Maps.{seen_as, seen_by}
 use Rattle.sn_nodes.specs.Names.{Named, all_links}
 use Rattle.sn_nodes.specs.declared.nodes.Counts.{Counts}
 use Rattle.sn_nodes.specs.declared.nodes.StoredOwnership.{StoredOwnership}

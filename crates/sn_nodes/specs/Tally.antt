@@ -3,7 +3,7 @@ use Rattle.std.specs.Prelude.{◌≡◌, ℕ, ◌<◌, ◌^◌, ◌==◌, Bool, 
 use Rattle.std.specs.Ordering.{nat_cmp}
 use Rattle.std.specs.FinMap as map
 use Rattle.sn_walk.specs.Views.{is_directory}
-use Rattle.sn_nodes.specs.Maps.{seen_by}
+use Rattle.sn_maps.specs.Maps.{seen_by}
 use Rattle.sn_nodes.specs.declared.nodes.StoredNode.{StoredNode}
 
 -- what a settling keeps: directories, and files with a name

@@ -123,7 +123,7 @@ pub struct Nodes {
 }
 
 impl Nodes {
-    ghost use Rattle.sn_nodes.specs.Maps.{filtered, restored, updated};
+    ghost use Rattle.sn_maps.specs.Maps.{filtered, restored, updated};
     ghost use Rattle.sn_nodes.specs.Stored.{node_of, nodes_of, stored_of, with_counts, with_ownership, owned_by, bytes_by, node_bytes_by, counts_of, Recounts, more_at, fewer_at, under};
     ghost use Rattle.sn_nodes.specs.Tally.{bare_in, is_kept};
 

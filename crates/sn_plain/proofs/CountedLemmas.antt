@@ -14,12 +14,12 @@ use Rattle.sn_model.proofs.LinkLemmas.{exact_links, links_total}
 use Rattle.sn_model.proofs.MapLemmas.{same_or_apart, get_inserted, get_other, get_left, get_was}
 use Rattle.sn_model.proofs.CountLemmas.{count_inserted, count_removed, count_none}
 use Rattle.sn_model.proofs.NameLemmas.{is_unnamed}
-use Rattle.sn_nodes.specs.Maps.{updated}
+use Rattle.sn_maps.specs.Maps.{updated}
 use Rattle.sn_nodes.specs.declared.nodes.Counts.{Counts}
 use Rattle.sn_nodes.specs.declared.nodes.StoredNode.{StoredNode}
 use Rattle.sn_nodes.specs.Stored.{Recounts, recount, more_at, fewer_at, under}
 use Rattle.sn_plain.specs.Stored.{IsCounted}
-use Rattle.sn_nodes.proofs.MapLemmas.{get-updated_each, get-updated_other}
+use Rattle.sn_maps.proofs.MapLemmas.{get-updated_each, get-updated_other}
 
 abbrev pub Stored : Type 0
 Stored = map.FinMap nat_cmp StoredNode

@@ -23,13 +23,13 @@ use Rattle.sn_model.proofs.MoveLemmas.{is_kind}
 use Rattle.sn_model.proofs.PartLemmas.{directory_is, replaced_is, Replaced, removed_of, unlinked_is, Unlinked}
 use Rattle.sn_nodes.specs.declared.nodes.Nodes.{Nodes}
 use Rattle.sn_nodes.specs.declared.nodes.StoredNode.{StoredNode}
-use Rattle.sn_nodes.specs.Maps.{updated}
+use Rattle.sn_maps.specs.Maps.{updated}
 use Rattle.sn_plain.specs.Moves.{has_room_left, names_left}
 use Rattle.sn_nodes.specs.Stored.{counts_of, nodes_of, stored_of, node_of, fewer_at, more_at, recount, under, Recounts}
 use Rattle.sn_plain.specs.Stored.{Clears, HasDirectory, IsCounted, IsMovable, Moves}
 use Rattle.sn_plain.proofs.CountedLemmas.{Stored, after_loss, was_counted, counted_link, counted_loss, counted_tree, counted_under, counted_unlink}
 use Rattle.sn_plain.proofs.MakingLemmas.{directory_removed, file_removed, is_directory_kind, links_kept, names_kept, no_links_left, no_names_left, number_low, only_name, stored_there}
-use Rattle.sn_nodes.proofs.MapLemmas.{get-updated_each}
+use Rattle.sn_maps.proofs.MapLemmas.{get-updated_each}
 use Rattle.sn_nodes.proofs.SeenLemmas.{seen}
 use Rattle.sn_nodes.proofs.RecountLemmas.{turned}
 

@@ -12,7 +12,7 @@ use Rattle.sn_walk.specs.Views.{is_directory}
 use Rattle.sn_model.specs.Tree.{Node, Tree, names_in, names_for}
 use Rattle.sn_model.specs.Settling.{is_nameless, settled}
 use Rattle.sn_model.proofs.SettlingLemmas.{get_without}
-use Rattle.sn_nodes.specs.Maps.{filtered}
+use Rattle.sn_maps.specs.Maps.{filtered}
 use Rattle.sn_nodes.specs.declared.nodes.StoredNode.{StoredNode}
 use Rattle.sn_nodes.specs.Stored.{node_of}
 use Rattle.sn_nodes.specs.Tally.{is_kept}

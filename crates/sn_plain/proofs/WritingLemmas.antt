@@ -7,7 +7,7 @@ use Rattle.sn_model.specs.Tree.{Node, Tree}
 use Rattle.sn_model.specs.Chains.{◌>>=◌, only_if}
 use Rattle.sn_model.specs.Changes.{cut, file_at, overwritten, resized, with_bytes, written}
 use Rattle.sn_model.proofs.ByteLemmas.{all_bytes}
-use Rattle.sn_nodes.specs.Maps.{updated}
+use Rattle.sn_maps.specs.Maps.{updated}
 use Rattle.sn_nodes.specs.Stored.{bytes_by}
 use Rattle.sn_plain.specs.Stored.{IsCounted}
 use Rattle.sn_plain.proofs.CountedLemmas.{Stored, counted_alike, counted_tree}

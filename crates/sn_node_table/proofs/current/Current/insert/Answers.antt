@@ -3,9 +3,9 @@ use Rattle.std.specs.Cmp.{nat_cmp_total}
 use Rattle.std.specs.Ordering.{nat_cmp}
 use Rattle.std.proofs.lemmas.Map.Lookups.{exact_unsigned}
 use Rattle.std.proofs.lemmas.Result.{err_from_is_err_and}
-use Rattle.sn_nodes.specs.Maps.{seen_by}
+use Rattle.sn_maps.specs.Maps.{seen_by}
 use Rattle.sn_node_table.specs.Stored.{current_of}
-use Rattle.sn_nodes.proofs.MapLemmas.{get-seen_plain, insert-seen_by}
+use Rattle.sn_maps.proofs.MapLemmas.{get-seen_plain, insert-seen_by}
 use Rattle.sn_node_table.proofs.current.Current.insert.Goals as goal
 
 pub returns-in_err-old-clause-err : goal.returns-in_err-old-clause-err

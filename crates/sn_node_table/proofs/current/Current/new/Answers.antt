@@ -1,6 +1,6 @@
 use Rattle.std.proofs.Common.{ℕ, ap}
 use Rattle.std.specs.Ordering.{nat_cmp}
-use Rattle.sn_nodes.specs.Maps.{seen_by}
+use Rattle.sn_maps.specs.Maps.{seen_by}
 use Rattle.sn_node_table.specs.Stored.{current_of}
 use Rattle.sn_node_table.proofs.current.Current.new.Goals as goal
 

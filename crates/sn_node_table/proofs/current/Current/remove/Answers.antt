@@ -3,7 +3,7 @@ use Rattle.std.specs.Cmp.{nat_cmp_total}
 use Rattle.std.specs.Ordering.{nat_cmp}
 use Rattle.std.proofs.lemmas.Map.Lookups.{exact_unsigned}
 use Rattle.sn_node_table.specs.Stored.{current_of}
-use Rattle.sn_nodes.proofs.MapLemmas.{remove-seen_by}
+use Rattle.sn_maps.proofs.MapLemmas.{remove-seen_by}
 use Rattle.sn_node_table.proofs.current.Current.remove.Goals as goal
 
 pub returns : goal.returns

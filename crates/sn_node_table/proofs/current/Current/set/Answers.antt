@@ -4,7 +4,7 @@ use Rattle.std.specs.Cmp.{nat_cmp_total}
 use Rattle.std.specs.Ordering.{nat_cmp}
 use Rattle.std.proofs.lemmas.Map.Lookups.{exact_unsigned}
 use Rattle.sn_node_table.specs.Stored.{current_of}
-use Rattle.sn_nodes.proofs.MapLemmas.{updated-seen_by, none-seen_by}
+use Rattle.sn_maps.proofs.MapLemmas.{updated-seen_by, none-seen_by}
 use Rattle.sn_node_table.proofs.current.Current.set.Goals as goal
 
 pub returns-in-Some : goal.returns-in-Some

@@ -5,9 +5,9 @@ use Rattle.std.specs.Cmp.Lexicographic.{slice_cmp, nat_list_cmp_total}
 use Rattle.std.specs.Vec.{vec_items}
 use Rattle.std.proofs.lemmas.Map.Lookups.{exact_bytes}
 use Rattle.std.proofs.lemmas.Result.{err_from_is_err_and}
-use Rattle.sn_nodes.specs.Maps.{seen_as}
+use Rattle.sn_maps.specs.Maps.{seen_as}
 use Rattle.sn_node_table.specs.Stored.{names_of}
-use Rattle.sn_nodes.proofs.MapLemmas.{get-seen_as, insert-seen_as, option_map_same, updates-seen_as}
+use Rattle.sn_maps.proofs.MapLemmas.{get-seen_as, insert-seen_as, option_map_same, updates-seen_as}
 use Rattle.sn_node_table.proofs.names.Names.insert.Goals as goal
 
 pub returns-in_err-old-clause-err : goal.returns-in_err-old-clause-err

@@ -4,7 +4,7 @@ use Rattle.std.specs.Cmp.Lexicographic.{slice_cmp, nat_list_cmp_total}
 use Rattle.std.specs.Vec.{vec_items}
 use Rattle.std.proofs.lemmas.Map.Lookups.{exact_bytes}
 use Rattle.sn_node_table.specs.Stored.{names_of}
-use Rattle.sn_nodes.proofs.MapLemmas.{remove-seen_as, updates-seen_as}
+use Rattle.sn_maps.proofs.MapLemmas.{remove-seen_as, updates-seen_as}
 use Rattle.sn_node_table.proofs.names.Names.remove.Goals as goal
 
 pub returns : goal.returns

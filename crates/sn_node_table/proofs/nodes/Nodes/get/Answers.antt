@@ -3,7 +3,7 @@ use Rattle.std.specs.Cmp.{nat_cmp_total}
 use Rattle.std.specs.Option.{option_map}
 use Rattle.std.specs.Ordering.{nat_cmp}
 use Rattle.sn_node_table.specs.Stored.{nodes_of, node_of}
-use Rattle.sn_nodes.proofs.MapLemmas.{get-seen_by}
+use Rattle.sn_maps.proofs.MapLemmas.{get-seen_by}
 use Rattle.sn_node_table.proofs.nodes.Nodes.get.Goals as goal
 
 pub returns : goal.returns

@@ -10,7 +10,7 @@ use Rattle.std.proofs.lemmas.Result.{IfErr-weaker, IfOk-weaker}
 use Rattle.sn_node_table.specs.declared.node.StoredNode.{StoredNode}
 use Rattle.sn_node_table.specs.Nodes.{Node, below_of, with_name}
 use Rattle.sn_node_table.specs.Stored.{nodes_of, node_of}
-use Rattle.sn_nodes.proofs.MapLemmas.{updated-seen_by, none-seen_by, same-updated, get-seen_by}
+use Rattle.sn_maps.proofs.MapLemmas.{updated-seen_by, none-seen_by, same-updated, get-seen_by}
 use Rattle.sn_node_table.proofs.nodes.Nodes.put_name.Goals as goal
 
 pub returns-in-Some-clause-ok : goal.returns-in-Some-clause-ok

@@ -4,7 +4,7 @@ use Rattle.std.specs.Option.{option_map}
 use Rattle.std.specs.Ordering.{nat_cmp}
 use Rattle.std.proofs.lemmas.Map.Lookups.{exact_unsigned}
 use Rattle.sn_node_table.specs.Stored.{nodes_of, node_of}
-use Rattle.sn_nodes.proofs.MapLemmas.{get-seen_by, remove-seen_by}
+use Rattle.sn_maps.proofs.MapLemmas.{get-seen_by, remove-seen_by}
 use Rattle.sn_node_table.proofs.nodes.Nodes.remove.Goals as goal
 
 pub returns-clause-node : goal.returns-clause-node

@@ -7,7 +7,7 @@ use Rattle.std.proofs.lemmas.Map.Lookups.{exact_unsigned}
 use Rattle.sn_node_table.specs.declared.node.StoredNode.{StoredNode}
 use Rattle.sn_node_table.specs.Nodes.{Node, first_link, without_first_link}
 use Rattle.sn_node_table.specs.Stored.{nodes_of, node_of}
-use Rattle.sn_nodes.proofs.MapLemmas.{get-seen_by, updated-seen_by, none-seen_by}
+use Rattle.sn_maps.proofs.MapLemmas.{get-seen_by, updated-seen_by, none-seen_by}
 use Rattle.sn_node_table.proofs.nodes.Nodes.take_first_link.Goals as goal
 
 pub returns-in-Some-clause-rest : goal.returns-in-Some-clause-rest

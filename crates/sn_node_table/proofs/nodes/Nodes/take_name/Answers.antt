@@ -6,7 +6,7 @@ use Rattle.std.proofs.lemmas.Map.Lookups.{exact_unsigned}
 use Rattle.sn_node_table.specs.declared.node.StoredNode.{StoredNode}
 use Rattle.sn_node_table.specs.Nodes.{without_name}
 use Rattle.sn_node_table.specs.Stored.{nodes_of, node_of}
-use Rattle.sn_nodes.proofs.MapLemmas.{updated-seen_by, none-seen_by}
+use Rattle.sn_maps.proofs.MapLemmas.{updated-seen_by, none-seen_by}
 use Rattle.sn_node_table.proofs.nodes.Nodes.take_name.Goals as goal
 
 pub returns-in-Some : goal.returns-in-Some

@@ -3,7 +3,7 @@ use Rattle.std.specs.Ordering.{nat_cmp}
 use Rattle.std.specs.Cmp.{nat_cmp_total}
 use Rattle.std.specs.FinMap as map
 use Rattle.std.proofs.lemmas.Map.Lookups.{exact_unsigned}
-use Rattle.sn_nodes.proofs.MapLemmas.{remove-insert}
+use Rattle.sn_maps.proofs.MapLemmas.{remove-insert}
 use Rattle.sn_node_table.specs.Stored.{nodes_of}
 use Rattle.sn_node_table.specs.Tables.{Nodes}
 use Rattle.sn_node_table.specs.Told.{table_of}

@@ -1,5 +1,5 @@
 use Rattle.std.proofs.Common.{ap, ◌∙◌}
-use Rattle.sn_nodes.specs.Maps.{updated}
+use Rattle.sn_maps.specs.Maps.{updated}
 use Rattle.sn_node_table.specs.Stored.{nodes_of}
 use Rattle.sn_node_table.specs.Nodes.{without_last_link}
 use Rattle.sn_node_table.specs.Tables.{Nodes}

@@ -2,8 +2,8 @@ use Rattle.std.proofs.Common.{ℕ, subst, ap, sym, ◌∙◌}
 use Rattle.std.specs.Cmp.{nat_cmp_total}
 use Rattle.std.specs.FinMap as map
 use Rattle.std.proofs.lemmas.Map.Lookups.{exact_unsigned}
-use Rattle.sn_nodes.specs.Maps.{restored}
-use Rattle.sn_nodes.proofs.MapLemmas.{remove-insert, restored-insert}
+use Rattle.sn_maps.specs.Maps.{restored}
+use Rattle.sn_maps.proofs.MapLemmas.{remove-insert, restored-insert}
 use Rattle.sn_node_table.specs.Stored.{nodes_of}
 use Rattle.sn_node_table.specs.Nodes.{new_node}
 use Rattle.sn_node_table.specs.Tables.{Table, IsFresh}

@@ -4,7 +4,7 @@ use Rattle.std.specs.Ordering.{nat_cmp}
 use Rattle.std.proofs.lemmas.Map.Lookups.{exact_unsigned}
 use Rattle.sn_nodes.specs.Names.{all_links}
 use Rattle.sn_nodes.specs.Stored.{directories_of, links_of, names_of}
-use Rattle.sn_nodes.proofs.MapLemmas.{remove-seen_by}
+use Rattle.sn_maps.proofs.MapLemmas.{remove-seen_by}
 use Rattle.sn_nodes.proofs.NamesLemmas.{all_links-forget, names_there}
 use Rattle.sn_nodes.proofs.links.Links.forget.Goals as goal
 

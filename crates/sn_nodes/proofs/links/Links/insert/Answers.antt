@@ -6,10 +6,10 @@ use Rattle.std.specs.Option.{option_map}
 use Rattle.std.specs.Ordering.{nat_cmp}
 use Rattle.std.proofs.lemmas.Result.{IfErr-weaker, IfOk-weaker}
 use Rattle.sn_nodes.specs.declared.names.Names.{Names}
-use Rattle.sn_nodes.specs.Maps.{seen_by}
+use Rattle.sn_maps.specs.Maps.{seen_by}
 use Rattle.sn_nodes.specs.Names.{all_links}
 use Rattle.sn_nodes.specs.Stored.{directories_of, links_of, names_of}
-use Rattle.sn_nodes.proofs.MapLemmas.{get-seen_by}
+use Rattle.sn_maps.proofs.MapLemmas.{get-seen_by}
 use Rattle.sn_nodes.proofs.NamesLemmas.{keep_names, names_there, put_name}
 use Rattle.sn_nodes.proofs.links.Links.insert.Goals as goal
 

@@ -3,7 +3,7 @@ use Rattle.std.specs.FinMap as map
 use Rattle.std.specs.Ordering.{nat_cmp}
 use Rattle.std.proofs.lemmas.Result.{err_from_is_err_and}
 use Rattle.sn_nodes.specs.declared.names.Names.{Names}
-use Rattle.sn_nodes.specs.Maps.{seen_by}
+use Rattle.sn_maps.specs.Maps.{seen_by}
 use Rattle.sn_nodes.specs.Names.{Named, all_links, names_at}
 use Rattle.sn_nodes.specs.Stored.{directories_of, links_of, names_of}
 use Rattle.sn_nodes.proofs.NamesLemmas.{put_name}

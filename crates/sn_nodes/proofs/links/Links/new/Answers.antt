@@ -1,7 +1,7 @@
 use Rattle.std.proofs.Common.{ℕ, List, ap, ◌∙◌}
 use Rattle.std.specs.Ordering.{nat_cmp}
 use Rattle.sn_nodes.specs.declared.names.Names.{Names}
-use Rattle.sn_nodes.specs.Maps.{seen_by}
+use Rattle.sn_maps.specs.Maps.{seen_by}
 use Rattle.sn_nodes.specs.Names.{all_links}
 use Rattle.sn_nodes.specs.Stored.{directories_of, links_of, names_of}
 use Rattle.sn_nodes.proofs.NamesLemmas.{all_links-empty}

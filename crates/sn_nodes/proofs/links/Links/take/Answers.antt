@@ -6,10 +6,10 @@ use Rattle.std.specs.Cmp.Lexicographic.{slice_cmp}
 use Rattle.sn_model.specs.Tree.{link_to}
 use Rattle.sn_model.proofs.LinkLemmas.{exact_links, links_total}
 use Rattle.sn_nodes.specs.declared.names.Names.{Names}
-use Rattle.sn_nodes.specs.Maps.{seen_by}
+use Rattle.sn_maps.specs.Maps.{seen_by}
 use Rattle.sn_nodes.specs.Names.{all_links}
 use Rattle.sn_nodes.specs.Stored.{directories_of, links_of, names_of}
-use Rattle.sn_nodes.proofs.MapLemmas.{remove-absent}
+use Rattle.sn_maps.proofs.MapLemmas.{remove-absent}
 use Rattle.sn_nodes.proofs.NamesLemmas.{get_name, names_there, take_name}
 use Rattle.sn_nodes.proofs.links.Links.take.Goals as goal
 

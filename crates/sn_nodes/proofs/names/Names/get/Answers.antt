@@ -3,7 +3,7 @@ use Rattle.std.specs.Ordering.{nat_cmp}
 use Rattle.std.specs.Cmp.Lexicographic.{slice_cmp, nat_list_cmp_total}
 use Rattle.std.specs.Vec.{vec_items}
 use Rattle.sn_nodes.specs.Stored.{names_of}
-use Rattle.sn_nodes.proofs.MapLemmas.{get-seen_as, option_map_same}
+use Rattle.sn_maps.proofs.MapLemmas.{get-seen_as, option_map_same}
 use Rattle.sn_nodes.proofs.names.Names.get.Goals as goal
 
 pub returns : goal.returns

@@ -3,7 +3,7 @@ use Rattle.std.specs.Cmp.{nat_cmp_total}
 use Rattle.std.specs.Ordering.{nat_cmp}
 use Rattle.std.specs.Option.{option_map}
 use Rattle.sn_nodes.specs.Stored.{nodes_of, stored_of, node_of}
-use Rattle.sn_nodes.proofs.MapLemmas.{get-seen_by, get-seen_plain}
+use Rattle.sn_maps.proofs.MapLemmas.{get-seen_by, get-seen_plain}
 use Rattle.sn_nodes.proofs.nodes.Nodes.get.Goals as goal
 
 pub returns-clause-nodes : goal.returns-clause-nodes

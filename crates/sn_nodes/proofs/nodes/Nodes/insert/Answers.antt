@@ -5,8 +5,8 @@ use Rattle.std.proofs.lemmas.Map.Lookups.{exact_unsigned}
 use Rattle.std.proofs.lemmas.Result.{err_from_is_err_and}
 use Rattle.sn_nodes.specs.declared.nodes.StoredNode.{StoredNode}
 use Rattle.sn_nodes.specs.Stored.{nodes_of, stored_of, node_of}
-use Rattle.sn_nodes.specs.Maps.{seen_by}
-use Rattle.sn_nodes.proofs.MapLemmas.{insert-seen_by, get-seen_plain}
+use Rattle.sn_maps.specs.Maps.{seen_by}
+use Rattle.sn_maps.proofs.MapLemmas.{insert-seen_by, get-seen_plain}
 use Rattle.sn_nodes.specs.Tally.{IsTalliedIn, bare_at}
 use Rattle.sn_nodes.proofs.TallyLemmas.{counted_at, few, once_at_most, tallied_inserted}
 use Rattle.sn_nodes.proofs.nodes.Nodes.insert.Goals as goal

@@ -1,7 +1,7 @@
 use Rattle.std.proofs.Common.{ap}
 use Rattle.std.specs.Ordering.{nat_cmp}
 use Rattle.sn_nodes.specs.declared.nodes.StoredNode.{StoredNode}
-use Rattle.sn_nodes.specs.Maps.{seen_by}
+use Rattle.sn_maps.specs.Maps.{seen_by}
 use Rattle.sn_nodes.specs.Stored.{nodes_of, stored_of, node_of}
 use Rattle.sn_nodes.proofs.TallyLemmas.{tallied_none}
 use Rattle.sn_nodes.proofs.nodes.Nodes.new.Goals as goal

@@ -5,7 +5,7 @@ use Rattle.std.proofs.lemmas.Map.Lookups.{exact_unsigned}
 use Rattle.sn_nodes.specs.declared.nodes.StoredNode.{StoredNode}
 use Rattle.sn_nodes.specs.Stored.{nodes_of, stored_of, node_of}
 use Rattle.sn_nodes.specs.Tally.{bare_at}
-use Rattle.sn_nodes.proofs.MapLemmas.{get-seen_plain, remove-seen_by}
+use Rattle.sn_maps.proofs.MapLemmas.{get-seen_plain, remove-seen_by}
 use Rattle.sn_nodes.proofs.TallyLemmas.{counted_at, tallied_removed}
 use Rattle.sn_nodes.proofs.nodes.Nodes.remove.Goals as goal
 

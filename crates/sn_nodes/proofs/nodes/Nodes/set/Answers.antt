@@ -6,7 +6,7 @@ use Rattle.std.proofs.lemmas.Map.Lookups.{exact_unsigned}
 use Rattle.sn_model.specs.Tree.{Node}
 use Rattle.sn_nodes.specs.declared.nodes.StoredNode.{StoredNode}
 use Rattle.sn_nodes.specs.Stored.{nodes_of, stored_of, node_of}
-use Rattle.sn_nodes.proofs.MapLemmas.{updated-seen_by, none-seen_by}
+use Rattle.sn_maps.proofs.MapLemmas.{updated-seen_by, none-seen_by}
 use Rattle.sn_nodes.specs.Tally.{IsTalliedIn}
 use Rattle.sn_nodes.proofs.TallyLemmas.{counted_found, few, once_at_most, tallied_written}
 use Rattle.sn_nodes.proofs.nodes.Nodes.set.Goals as goal

@@ -5,7 +5,7 @@ use Rattle.std.specs.Ordering.{nat_cmp}
 use Rattle.std.proofs.lemmas.Map.Lookups.{exact_unsigned}
 use Rattle.sn_nodes.specs.declared.nodes.StoredNode.{StoredNode}
 use Rattle.sn_nodes.specs.Stored.{nodes_of, stored_of, node_of, with_ownership, owned_by}
-use Rattle.sn_nodes.proofs.MapLemmas.{updated-seen_by, none-seen_by}
+use Rattle.sn_maps.proofs.MapLemmas.{updated-seen_by, none-seen_by}
 use Rattle.sn_nodes.specs.Tally.{IsTalliedIn}
 use Rattle.sn_nodes.proofs.TallyLemmas.{tallied_alike}
 use Rattle.sn_nodes.proofs.nodes.Nodes.set_ownership.Goals as goal

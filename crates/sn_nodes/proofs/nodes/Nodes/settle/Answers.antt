@@ -7,10 +7,10 @@ use Rattle.std.proofs.lemmas.Map.Entries.{option_filter, lookup-filter-values}
 use Rattle.std.proofs.lemmas.Map.Keys.{IsDistinct-from_sorted}
 use Rattle.std.proofs.lemmas.Map.Made.{filter_same_pairs}
 use Rattle.sn_nodes.specs.declared.nodes.StoredNode.{StoredNode}
-use Rattle.sn_nodes.specs.Maps.{filtered}
+use Rattle.sn_maps.specs.Maps.{filtered}
 use Rattle.sn_nodes.specs.Stored.{stored_of}
 use Rattle.sn_nodes.specs.Tally.{is_kept}
-use Rattle.sn_nodes.proofs.MapLemmas.{get-seen_plain}
+use Rattle.sn_maps.proofs.MapLemmas.{get-seen_plain}
 use Rattle.sn_nodes.proofs.TallyLemmas.{tallied_settled}
 use Rattle.sn_nodes.proofs.nodes.Nodes.settle.Goals as goal
 

@@ -1,5 +1,5 @@
 use Rattle.std.proofs.Common.{ℕ, ap, ◌∙◌}
-use Rattle.sn_nodes.specs.Maps.{updated}
+use Rattle.sn_maps.specs.Maps.{updated}
 use Rattle.sn_nodes.specs.Stored.{stored_of, with_counts}
 use Rattle.sn_nodes.proofs.RecountLemmas.{set_fewer}
 use Rattle.sn_nodes.proofs.nodes.Nodes.uncount_link.Goals as goal

@@ -8,7 +8,7 @@ use Rattle.sn_model.specs.Changes.{overwritten}
 use Rattle.sn_model.specs.Tree.{Node}
 use Rattle.sn_nodes.specs.declared.nodes.StoredNode.{StoredNode}
 use Rattle.sn_nodes.specs.Stored.{nodes_of, stored_of, node_of, bytes_by, node_bytes_by}
-use Rattle.sn_nodes.proofs.MapLemmas.{updated-seen_by, none-seen_by, same-updated}
+use Rattle.sn_maps.proofs.MapLemmas.{updated-seen_by, none-seen_by, same-updated}
 use Rattle.sn_nodes.specs.Tally.{IsTalliedIn}
 use Rattle.sn_nodes.proofs.TallyLemmas.{tallied_alike}
 use Rattle.sn_nodes.proofs.nodes.Nodes.write.Goals as goal

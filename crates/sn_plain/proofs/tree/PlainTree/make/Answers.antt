@@ -7,13 +7,13 @@ use Rattle.std.proofs.lemmas.Map.Lookups.{exact_unsigned}
 use Rattle.sn_model.specs.Tree.{Node, Tree}
 use Rattle.sn_model.specs.Changes.{put_link}
 use Rattle.sn_model.proofs.PartLemmas.{made_is}
-use Rattle.sn_nodes.specs.Maps.{restored}
+use Rattle.sn_maps.specs.Maps.{restored}
 use Rattle.sn_plain.specs.Plain.{tree_of}
 use Rattle.sn_nodes.specs.Stored.{Recounts, counts_of, more_at, node_of, nodes_of, stored_of}
 use Rattle.sn_plain.specs.Stored.{IsCounted, tree_with}
 use Rattle.sn_plain.proofs.CountedLemmas.{Stored, after_use, counted_tree}
 use Rattle.sn_plain.proofs.MakingLemmas.{some_of, names_made, links_made, counted_made}
-use Rattle.sn_nodes.proofs.MapLemmas.{restored-insert}
+use Rattle.sn_maps.proofs.MapLemmas.{restored-insert}
 use Rattle.sn_nodes.proofs.SeenLemmas.{seen}
 use Rattle.sn_plain.proofs.tree.PlainTree.make.Goals as goal
 

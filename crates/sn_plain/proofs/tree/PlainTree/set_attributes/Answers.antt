@@ -3,7 +3,7 @@ use Rattle.std.specs.FinMap as map
 use Rattle.sn_model.specs.Tree.{Tree}
 use Rattle.sn_model.proofs.PartLemmas.{owned_is}
 use Rattle.sn_nodes.specs.declared.nodes.StoredOwnership.{StoredOwnership}
-use Rattle.sn_nodes.specs.Maps.{updated, updated_at}
+use Rattle.sn_maps.specs.Maps.{updated, updated_at}
 use Rattle.sn_plain.specs.Plain.{tree_of}
 use Rattle.sn_nodes.specs.Stored.{nodes_of, stored_of, owned_by, with_ownership}
 use Rattle.sn_plain.specs.Stored.{IsCounted, tree_with}
