@@ -41,6 +41,8 @@ pub struct Plan {
 pub struct Round {
     /// That of its first event.
     pub first: usize,
+    /// That of its first event behind the restart.
+    pub restarted: usize,
     /// That of its first question, behind the last event.
     pub questions: usize,
     /// That behind its last question.
@@ -61,14 +63,14 @@ impl Plan {
 
     /// The places of a round, from 0 up.
     pub fn round(&self, number: u32) -> Round {
-        let events = (self.events as usize)
-            .saturating_mul(2)
-            .saturating_add(RESTART_LINES);
+        let half = self.events as usize;
+        let events = half.saturating_mul(2).saturating_add(RESTART_LINES);
         let before = (number as usize).saturating_mul(events.saturating_add(QUESTIONS));
         let first = self.front().saturating_add(before);
         let questions = first.saturating_add(events);
         Round {
             first,
+            restarted: questions.saturating_sub(half),
             questions,
             end: questions.saturating_add(QUESTIONS),
         }

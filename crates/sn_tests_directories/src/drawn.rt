@@ -1,15 +1,23 @@
-//! Drawn lists, with snapshots that are made and let go between their rounds.
+//! Drawn lists, with snapshots that are made, brought back and let go between their rounds.
 //!
 //! Behind each round the live tree is asked some questions, and becomes a snapshot. Between the events of the next round the
 //! snapshot is asked the same, and answers as the live tree did. Then it's let go, so that its blocks are used again.
+//!
+//! The events behind the restart of a round are asked for twice. A snapshot that was made before them is brought back in between, so that
+//! they are answered the same again.
 
-use crate::drawing::Plan;
+use crate::drawing::{Plan, Round};
 use crate::lists::List;
 use crate::names::Lengths;
 use anyhow::{Context, Result, ensure};
 use sn_testing_mounts::Disk;
 use sn_testing_tables::{Case, Report};
 use std::alloc::Global;
+
+/// A snapshot is made, and brought back once nobody has a live file open.
+const BEFORE: &str = "0 snap-create back";
+
+const BACK: &str = "0 logout\n0 login 0 0 -\n0 snap-restore back\n0 snap-delete back";
 
 /// Compares what is answered to the drawn list of each case. A reply that isn't wanted is an error.
 pub fn run(report: &mut Report<'_>) -> Result<()> {
@@ -71,7 +79,7 @@ fn asked(disk: &mut Disk, subject: &Subject<'_>) -> Result<usize> {
 }
 
 /// Asks for a round, and behind each of its events a question of the snapshot of the round before, where there is one. Gives how
-/// many these were.
+/// many replies there were beside those of the list.
 fn ask_round(disk: &mut Disk, subject: &Subject<'_>, number: u32) -> Result<usize> {
     let round = subject.plan.round(number);
     let mut count = 0_usize;
@@ -79,11 +87,28 @@ fn ask_round(disk: &mut Disk, subject: &Subject<'_>, number: u32) -> Result<usiz
         count = ask_between(disk, subject, number, before)?;
         done(disk, subject.alloc, "0 snap-delete s", before)?;
     } else {
-        subject.list.ask(disk, round.first, round.questions)?;
+        ask_twice(disk, subject, round.first, round)?;
     }
     subject.list.ask(disk, round.questions, round.end)?;
     done(disk, subject.alloc, "0 snap-create s", number)?;
-    Ok(count)
+    Ok(count.saturating_add(subject.plan.events as usize))
+}
+
+/// Asks for the events of a round from a place on, and for those behind its restart once more, on what they were asked on first.
+fn ask_twice(disk: &mut Disk, subject: &Subject<'_>, from: usize, round: Round) -> Result<()> {
+    subject.list.ask(disk, from, round.restarted)?;
+    all_done(disk, BEFORE)?;
+    subject.list.ask(disk, round.restarted, round.questions)?;
+    all_done(disk, BACK)?;
+    subject.list.ask(disk, round.restarted, round.questions)
+}
+
+fn all_done(disk: &mut Disk, lines: &str) -> Result<()> {
+    for line in lines.lines() {
+        let is_done = disk.is_told(line, "ok\n")?;
+        ensure!(is_done, "a call that is refused: {line}");
+    }
+    Ok(())
 }
 
 /// A call of a snapshot, which has the number of its round.
@@ -104,7 +129,7 @@ fn ask_between(disk: &mut Disk, subject: &Subject<'_>, number: u32, before: u32)
         ask_snapshot(disk, subject, before, question, line)?;
         at = at.saturating_add(1);
     }
-    subject.list.ask(disk, at, round.questions)?;
+    ask_twice(disk, subject, at, round)?;
     Ok(old.end.saturating_sub(old.questions))
 }
 
