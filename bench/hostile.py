@@ -5,7 +5,7 @@
     bench/hostile.py device [--rows N..]                   makes the whole of the sweeps of which the gate makes a part
     bench/hostile.py bodies [NAME..]                       makes that part with each of the wrong bodies in bench/wrong_sweeps
 
-Run by hand. The rows are the eight in crates/sn_tests_restarts/data/hostile, and for `device` also the six in version_1 beside it, which
+Run by hand. The rows are the eleven in crates/sn_tests_restarts/data/hostile, and for `device` also the six in version_1 beside it, which
 begin on disks of version 1. `memory` wants gcc, since the refusals come from a small
 library that stands before the C library's malloc, and builds the program where it isn't up to date, or takes the one of PATH. Each
 row is run on a new image in a file, and by `stop-at` on a device in memory that never stops; and so with each allocation refused
@@ -42,7 +42,10 @@ from wrong_bodies import RT  # noqa: E402
 
 TOP = Path(__file__).resolve().parent.parent
 TESTS = TOP / "crates/sn_tests_restarts"
-NAMES = ("inherited", "two_names", "sizes", "no_name", "frozen", "refused", "stepped", "frozen_in_steps")
+NAMES = (
+    "inherited", "two_names", "sizes", "no_name", "frozen", "refused", "stepped", "frozen_in_steps", "restored", "restored_nameless",
+    "restored_in_steps",
+)
 # Those that begin on disks of version 1, behind the others in the test program: the device alone refuses them.
 OLD_NAMES = ("fresh", "twenty", "snapshots", "halves", "held", "large")
 SECONDS = 120

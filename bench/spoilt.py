@@ -54,7 +54,7 @@ CALLS = {
     "unlink": (WORD,), "rename": (WORD, WORD), "readdir": (WORD,), "chmod": (WORD, MODE), "chown": (WORD, "K", "K"), "stat": (WORD,),
     "access": (WORD, r"[r-][w-][x-]"), "getacl": (WORD, r"[ad]"), "setacl": (WORD, r"[ad]", WORD), "close": ("S",),
     "read": ("S", "L"), "write": ("S", r"-|(?:[0-9a-f]{2})+"), "seek": ("S", "L"), "ftruncate": ("S", "L"), "sync": (),
-    "snap-create": (WORD,), "snap-delete": (WORD,), "snap-list": (),
+    "snap-create": (WORD,), "snap-delete": (WORD,), "snap-restore": (WORD,), "snap-list": (),
 }
 
 
@@ -141,6 +141,7 @@ step
 0 sync
 0 snap-create s
 0 snap-list
+0 snap-restore s
 0 snap-delete s
 restart
 63 logout

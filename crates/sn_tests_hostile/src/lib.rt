@@ -29,7 +29,7 @@ use std::ops::Range;
 pub use sweeps::{Extent, Sweeps};
 
 /// The files of the rows.
-const ROWS: [&str; 8] = [
+const ROWS: [&str; 11] = [
     "hostile/inherited.row",
     "hostile/two_names.row",
     "hostile/sizes.row",
@@ -38,6 +38,9 @@ const ROWS: [&str; 8] = [
     "hostile/refused.row",
     "hostile/stepped.row",
     "hostile/frozen_in_steps.row",
+    "hostile/restored.row",
+    "hostile/restored_nameless.row",
+    "hostile/restored_in_steps.row",
 ];
 
 /// Prints what isn't as it has to be, and how many cases there were. An error is a file that can't be read, a row that isn't

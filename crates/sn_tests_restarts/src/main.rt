@@ -7,7 +7,7 @@
 //!
 //! ```text
 //! rt run -- .
-//! rt run -- . hostile 0 8
+//! rt run -- . hostile 0 11
 //! rt run -- . versions 0 6
 //! ```
 #![tactic(auto)]
