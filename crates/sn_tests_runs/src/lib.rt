@@ -3,7 +3,8 @@
 //! The files of the cases are in the data of `sn_tests_restarts`. `runs.txt` is one run on a new disk, an event a line with its
 //! reply (`events`). `frozen` has runs between which a snapshot is put on the disk (`frozen.txt`). `refused` makes a run with
 //! each call of the device refused in turn, and looks at what it answers from then on; `torn` cuts runs off behind each of
-//! their writes by crashes of many kinds, and looks at what they leave (`torn.txt`, and `points.txt` of consistency points).
+//! their writes by crashes of many kinds, and looks at what they leave (`torn.txt`, `points.txt` of consistency points, and
+//! `restored.txt` of snapshots that are brought back).
 //!
 //! No clause promises what comes out, since it is compared: `sn_tests_restarts` runs it.
 #![tactic(auto)]
@@ -23,5 +24,6 @@ pub fn run(report: &mut Report<'_>) -> Result<()> {
     report.script("frozen.txt", frozen::replies)?;
     refused::run(report)?;
     report.script("torn.txt", torn::torn)?;
-    report.script("points.txt", torn::torn)
+    report.script("points.txt", torn::torn)?;
+    report.script("restored.txt", torn::torn)
 }
