@@ -24,6 +24,8 @@ pub enum Edit {
     Freeze(u8),
     /// The one with this bit goes.
     Thaw(u8),
+    /// The one with this bit is what the new tree is built over.
+    Restore(u8),
 }
 
 /// The bytes of a disk, the inode file of its root, and the words of its map.
@@ -82,6 +84,7 @@ fn edit_of(edit: Edit) -> Result<SnapshotEdit> {
         Edit::None => Ok(SnapshotEdit::None),
         Edit::Freeze(number) => Ok(SnapshotEdit::Freeze(snapshot_bit(number)?)),
         Edit::Thaw(number) => Ok(SnapshotEdit::Thaw(snapshot_bit(number)?)),
+        Edit::Restore(number) => Ok(SnapshotEdit::Restore(snapshot_bit(number)?)),
     }
 }
 
@@ -139,6 +142,16 @@ impl Disk {
     /// The first block of the data area.
     pub fn first(&self) -> u32 {
         self.geometry.start(Area::Data)
+    }
+
+    /// The inode file over which the next tree is built.
+    pub fn file(&self) -> BlockTree {
+        self.file
+    }
+
+    /// The next tree is built over another inode file.
+    pub fn build_over(&mut self, file: BlockTree) {
+        self.file = file;
     }
 
     /// How many blocks are free.

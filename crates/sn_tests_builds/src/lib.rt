@@ -6,7 +6,7 @@
 //! docs/FORMAT.md, without the codecs. What is wanted of each build:
 //! - the disk has the tree that was drawn, each file counts its names, and bit 0 of the map is set for exactly the
 //!   blocks that are reached, none of them twice; the bit of a snapshot that is made becomes what bit 0 is, that of one
-//!   that goes is cleared, and the other bits stay;
+//!   that goes is cleared, and the other bits stay, as all do of one that is brought back, over whose tree the new one is built;
 //! - the new blocks rise, were free, and are no more than the overlay needs;
 //! - on a disk with just so many free blocks as it took, with as many as the overlay needs, and with one less than
 //!   that, it is built again of as many; with one less than it took it is full;

@@ -7,6 +7,7 @@ use crate::tallies::Tallies;
 use anyhow::Result;
 use rand_pcg::Pcg32;
 use sn_cp_build::Built;
+use sn_layout::BlockTree;
 use sn_testing_payloads::is_once_in;
 use sn_testing_tables::Report;
 use sn_testing_trees::{Tree, draw_changes};
@@ -23,6 +24,15 @@ const READS: u64 = 6;
 struct Course {
     alloc: Global,
     disk: Disk,
+    tree: Tree,
+    /// The last tree that was to become a snapshot, if it was built.
+    frozen: Option<Frozen>,
+}
+
+/// The tree of a snapshot.
+#[derive(Drop)]
+struct Frozen {
+    file: BlockTree,
     tree: Tree,
 }
 
@@ -43,16 +53,17 @@ fn run_seed(alloc: Global, seed: u32, builds: u32, tallies: &mut Tallies) -> Res
         alloc,
         disk: disk_for(alloc, seed)?,
         tree: Tree::new(alloc)?,
+        frozen: None,
     };
     for turn in 0..builds {
-        course.disk.edit = edit_at(seed, turn);
+        course.begin(edit_at(seed, turn));
         course.step(&mut random, tallies)?;
         course.keep_some(&mut random);
     }
     Ok(())
 }
 
-/// Two snapshots are made in a course, and the first goes again. Bit 1 is that of blocks that are kept by hand.
+/// Two snapshots are made in a course, the first goes again, and the second is brought back. Bit 1 is that of blocks that are kept by hand.
 fn edit_at(seed: u32, turn: u32) -> Edit {
     let place = (seed % 30) as u8;
     let (first, second) = (31 - place, 2 + place);
@@ -60,6 +71,7 @@ fn edit_at(seed: u32, turn: u32) -> Edit {
         1 => Edit::Freeze(first),
         3 => Edit::Freeze(second),
         4 => Edit::Thaw(first),
+        5 => Edit::Restore(second),
         _ => Edit::None,
     }
 }
@@ -75,6 +87,26 @@ fn disk_for(alloc: Global, seed: u32) -> Result<Disk> {
 }
 
 impl Course {
+    /// Says what the next build does to snapshots. A snapshot that wasn't made isn't brought back.
+    fn begin(&mut self, edit: Edit) {
+        self.disk.edit = edit;
+        match edit {
+            Edit::Freeze(_) => self.frozen = None,
+            Edit::Restore(_) => self.bring_back(),
+            Edit::None | Edit::Thaw(_) => {}
+        }
+    }
+
+    fn bring_back(&mut self) {
+        match self.frozen.take() {
+            Some(Frozen { file, tree }) => {
+                self.disk.build_over(file);
+                self.tree = tree;
+            }
+            None => self.disk.edit = Edit::None,
+        }
+    }
+
     /// Draws a tree, and builds it.
     fn step(&mut self, random: &mut Pcg32, tallies: &mut Tallies) -> Result<()> {
         let wanted = self.drawn(random)?;
@@ -117,6 +149,15 @@ impl Course {
         self.look_at_reads(layer, tallies)?;
         self.write(built, wanted, tallies)?;
         self.tree = wanted.built(self.alloc)?;
+        self.keep_frozen(wanted)
+    }
+
+    fn keep_frozen(&mut self, wanted: &Tree) -> Result<()> {
+        if let Edit::Freeze(_) = self.disk.edit {
+            let tree = wanted.built(self.alloc)?;
+            let file = self.disk.file();
+            self.frozen = Some(Frozen { file, tree });
+        }
         Ok(())
     }
 
@@ -137,6 +178,7 @@ impl Course {
             Edit::None => tallies.maps.count(is_right),
             Edit::Freeze(_) => tallies.frozen.count(is_right),
             Edit::Thaw(_) => tallies.thawed.count(is_right),
+            Edit::Restore(_) => tallies.restored.count(is_right),
         }
         Ok(())
     }

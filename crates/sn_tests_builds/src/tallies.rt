@@ -13,6 +13,8 @@ pub struct Tallies {
     pub frozen: Tally,
     /// Maps in which one went.
     pub thawed: Tally,
+    /// Maps of a tree that was built over that of a snapshot.
+    pub restored: Tally,
     pub blocks: Tally,
     pub enough: Tally,
     pub too_few: Tally,
@@ -30,6 +32,7 @@ impl Tallies {
             maps: Tally::new(),
             frozen: Tally::new(),
             thawed: Tally::new(),
+            restored: Tally::new(),
             blocks: Tally::new(),
             enough: Tally::new(),
             too_few: Tally::new(),
@@ -45,6 +48,7 @@ impl Tallies {
         report.add("maps", self.maps)?;
         report.add("maps with a new snapshot", self.frozen)?;
         report.add("maps with one snapshot less", self.thawed)?;
+        report.add("maps with a snapshot that is brought back", self.restored)?;
         report.add("new blocks", self.blocks)?;
         report.add("disks with enough free blocks", self.enough)?;
         report.add("disks with one too few", self.too_few)?;
