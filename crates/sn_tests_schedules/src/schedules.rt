@@ -10,7 +10,7 @@ use anyhow::{Context, Result, ensure};
 use rand_core::Rng;
 use rand_pcg::Pcg32;
 use sn_device::Fill;
-use sn_model::Event;
+use sn_model::{Call, Event};
 use sn_testing_mounts::{Disk, FILLS, event_of};
 use sn_testing_tables::{Report, Tally};
 use std::alloc::Global;
@@ -51,10 +51,12 @@ const CALLS: &str = "0 mkdir /a 0755\n\
     0 snap-create s\n\
     0 snap-create t\n\
     0 snap-delete s\n\
-    0 sync";
+    0 sync\n\
+    0 snap-restore s\n\
+    0 snap-restore t";
 
 /// How many these are.
-const CALL_COUNT: u32 = 27;
+const CALL_COUNT: u32 = 29;
 
 /// What is asked of the live tree behind a crash: names, attributes, lists of entries, and bytes, each by a session of its own.
 const OF_LIVE: &str = "0 login 0 0 -\n\
@@ -426,16 +428,50 @@ fn frozen_fronts(schedule: &Schedule) -> u32 {
     count
 }
 
+/// How many snapshots a schedule brings back.
+fn restores(schedule: &Schedule) -> u32 {
+    let mut count = 0_u32;
+    for (event, behind) in schedule.events.iter().zip(schedule.behind.iter().skip(1)) {
+        let is_restore = matches!(
+            event,
+            Event::Call {
+                call: Call::SnapRestore { .. },
+                ..
+            }
+        );
+        if is_restore && behind.told.as_str() == "ok\n" {
+            count = count.saturating_add(1);
+        }
+    }
+    count
+}
+
+/// How often schedules come to what is rare.
+#[derive(Clone, Copy)]
+struct Seen {
+    /// Fronts that tell bytes which only a snapshot has.
+    frozen: u32,
+    /// Snapshots that are brought back.
+    restores: u32,
+}
+
+impl Seen {
+    fn add(&mut self, schedule: &Schedule) {
+        self.frozen = self.frozen.saturating_add(frozen_fronts(schedule));
+        self.restores = self.restores.saturating_add(restores(schedule));
+    }
+}
+
 /// Cuts a schedule short behind some numbers of writes that are drawn.
 fn cut_at_some(
     report: &Report<'_>,
     tally: &mut Tally,
     image: &[u8],
     number: u32,
-    frozen: &mut u32,
+    seen: &mut Seen,
 ) -> Result<()> {
     let schedule = schedule_of(report.alloc(), image, number)?;
-    *frozen = frozen.saturating_add(frozen_fronts(&schedule));
+    seen.add(&schedule);
     cut_some(report, tally, image, &schedule)
 }
 
@@ -538,19 +574,27 @@ fn images_of(alloc: Global) -> Result<Images> {
 /// Compares what the schedules of the gate leave with what they may. A want of memory is an error.
 pub fn run(report: &mut Report<'_>) -> Result<()> {
     let images = images_of(report.alloc())?;
-    let mut frozen = 0;
-    let tally = some(report, &images, &mut frozen)?;
+    let mut seen = Seen {
+        frozen: 0,
+        restores: 0,
+    };
+    let tally = some(report, &images, &mut seen)?;
     report.add("schedules of calls and steps, cut short", tally)?;
+    tell(report, seen)
+}
+
+fn tell(report: &Report<'_>, seen: Seen) -> Result<()> {
+    let Seen { frozen, restores } = seen;
     let text = format!(in report.alloc();
-        "fronts that tell bytes which only a snapshot has: {frozen}\n"
+        "fronts that tell bytes which only a snapshot has: {frozen}\nsnapshots that are brought back: {restores}\n"
     )?;
     report.print(text.as_str())
 }
 
-fn some(report: &Report<'_>, images: &Images, frozen: &mut u32) -> Result<Tally> {
+fn some(report: &Report<'_>, images: &Images, seen: &mut Seen) -> Result<Tally> {
     let mut tally = Tally::new();
     for number in 0..SCHEDULES {
-        cut_at_some(report, &mut tally, images.of(number), number, frozen)?;
+        cut_at_some(report, &mut tally, images.of(number), number, seen)?;
     }
     Ok(tally)
 }
