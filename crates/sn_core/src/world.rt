@@ -9,9 +9,9 @@ ghost use Rattle.sn_core.specs.Served.{MakesChange, Serves, memory_for};
 ghost use Rattle.sn_numbers.specs.Live.{live_of};
 ghost use Rattle.sn_number_table.specs.Numbers.{kept_after, since_after};
 
-use crate::choosing::Chosen;
 use crate::fault::WorldError;
 use crate::view::PlainView;
+use sn_caller::Chosen;
 use sn_desc::Sessions;
 use sn_limits::Limits;
 use sn_model::{AskedPoint, Call, Change, Errno, Event, Outcome, Progress, Refusal, Reply};
