@@ -28,6 +28,7 @@ use Rattle.sn_model.proofs.TreeLemmas.{tree_kept}
 use Rattle.sn_caller.proofs.NumberLemmas.{kept_by, same_numbers}
 use Rattle.sn_caller.proofs.RestartLemmas.{restart_numbers}
 use Rattle.sn_caller.specs.declared.chosen.Chosen.{Chosen}
+use Rattle.sn_caller.proofs.StepLemmas.{IsServed, MadeBy}
 use Rattle.sn_core.specs.declared.world.PlainWorld.{PlainWorld}
 use Rattle.sn_core.specs.Plain.{kept_of, room_of, world_of}
 use Rattle.sn_core.specs.PlainRuns.{Numbered, PlainStep, PlainRun}

@@ -1,5 +1,5 @@
 -- The parts of serving a call, and a call that was served: its reply, or why it isn't done, and the world after it.
-use Rattle.std.specs.Prelude.{◌≡◌, ℕ, None, Result, Ok, Err, IsOk}
+use Rattle.std.specs.Prelude.{◌≡◌, ℕ, None, Some, Result, Ok, Err, IsOk}
 use Rattle.sn_model.specs.declared.call.Call.{Call}
 use Rattle.sn_model.specs.declared.call.Event.TheVariants as event
 use Rattle.sn_model.specs.declared.reply.Reply.{Reply}
