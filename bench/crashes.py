@@ -107,8 +107,8 @@ class Followed:
     def __init__(self):
         self.worlds, self.has_stopped = [World()], False
 
-    def follow(self, line, reply, next_reply):
-        """Takes one line with its reply, and the reply behind that."""
+    def follow(self, line, reply, next_line, next_reply):
+        """Takes one line with its reply, and the line and the reply that follow."""
         if self.has_stopped:
             self.follow_stopped(line, reply)
         elif reply in REFUSED:
@@ -117,7 +117,8 @@ class Followed:
             self.stop(line == "restart", line)
         elif reply == "err EIO" and next_reply in (None, STOPPED):
             self.stop(True, line)
-        elif reply == "err EIO" and next_reply.startswith("fault "):
+        elif reply == "err EIO" and (next_line == "restart" or next_reply.startswith("fault ")):
+            # A restart that mounts the disk hides whether the mount had stopped.
             self.stop(True, line)
         elif reply != "err EIO":
             self.answer(line, reply)
@@ -152,7 +153,8 @@ def worlds_behind(lines, replies):
     """The worlds, one or two, that a crash behind these replies may leave."""
     followed = Followed()
     for at, (line, reply) in enumerate(zip(lines, replies)):
-        followed.follow(line, reply, replies[at + 1] if at + 1 < len(replies) else None)
+        following = (lines[at + 1], replies[at + 1]) if at + 1 < len(replies) else (None, None)
+        followed.follow(line, reply, *following)
     for world in followed.worlds:
         world.crash()
     return followed.worlds
