@@ -117,7 +117,8 @@ def is_owner(kind, owner):
 def is_of(path, crate, function):
     """Whether a path that the check tells is that of a function."""
     module, owner, name = function
-    inside = path.startswith(f"{crate}::{module}::" if module != "lib" else f"{crate}::")
+    # A type's functions are told with the module of the type, whatever module they are written in.
+    inside = path.startswith(f"{crate}::{module}::" if module != "lib" and owner is None else f"{crate}::")
     if not inside or name not in (None, path.split("::")[-1]):
         return False
     return owner is None or is_owner(path.split("::")[-2], owner)
@@ -179,10 +180,10 @@ class Copy:
         """The files of answers to the goals of the functions that an edit changes."""
         found = set()
         for module, owner, name in edit.functions(self.source(edit)):
-            folder = self.folder / "proofs" / ("" if module == "lib" else module.replace("::", "/"))
+            folder = self.folder / "proofs" / ("" if module == "lib" or owner else module.replace("::", "/"))
             for path in folder.rglob("Answers.antt"):
                 *kind, last = path.relative_to(folder).parts[:-1]
-                is_its = is_owner(kind[0], owner) if owner and kind else not owner and not kind
+                is_its = is_owner(kind[-1], owner) if owner and kind else not owner and not kind
                 if is_its and last.lstrip("+") == name:
                     found.add(path.relative_to(self.folder))
         return found
