@@ -7,7 +7,7 @@
 //! `specs/Numbering` which number a new node gets from one event to the next, and which are kept back.
 //!
 //! The way through: `turning` has [`turn`], and `chosen` a change with its number. `sn_live_world` does this over a tree that
-//! is read, and `sn_core` over one in memory, which tests compare with.
+//! is read, and `sn_plain_world` over one in memory, which tests compare with.
 #![tactic(auto)]
 
 mod chosen;

@@ -1,30 +1,44 @@
-//! A run without a device, over a tree in memory: what a call comes to, the change that it makes, and what becomes of its
-//! session. Nobody but tests makes one: a mounted file system has its tree on the device (`sn_live_world`).
+//! The file system, for a program that calls it: format, mount, calls, consistency points, unmount, whole runs, and the check.
 //!
-//! [`run_plain`] answers a list of events, and its contract is the machine of `sn_model`: the replies
-//! are a run of it from the empty world. Below it, `world` has the tree of `sn_plain` and the sessions of
-//! `sn_desc`, and serves one call: `deciding` has what it comes to, by `sn_core_calls` over the sessions and
-//! the tree as `view` shows it; `choosing` fills in a new node's number; the tree makes the change; and
-//! `calling` sets what becomes of the session and its descriptors (`turn` of `sn_caller`), drops a file that nobody has and
-//! no name stands for, and tells which went. There are no snapshots: a call that would make one finds no
-//! memory for it. `specs/Plain` says which world this stands for,
-//! `specs/Numbering` of `sn_caller` which number a new node gets from one event to the next.
+//! The model is the machine of `sn_model`, over a [`Device`]. Nothing is defined here: each name is that of the crate where it is
+//! proved, so that a program has one crate to call. `mkfs` is of `sn_mkfs`, `mount` and [`Fs`] are of `sn_fs`, [`run`] is of
+//! `sn_run`, `check` of `sn_check`, what is called and answered of `sn_model`, and devices in memory of `sn_device`. A file as a
+//! device is in `sn_filedev`, and lines of scripts in `sn_script`.
 //!
-//! What the sources leave open is decided in `docs/DECISIONS.md`, under "The tree in memory".
+//! The way through: [`mkfs`] makes an image, [`mount`] gives an [`Fs`], which answers calls and makes steps of a consistency point,
+//! and hands the device back when it is unmounted. [`run`] does all of that for a list of events. So a disk in memory is made,
+//! mounted, used and unmounted:
 //!
 //! ```text
-//! let (replies, end) = run_plain(alloc, &events);
+//! let login = Call::Login { uid: 0, gid: 0, groups: Groups::new(alloc, &[])? };
+//! let mkdir = Call::Mkdir { path: Word::new(alloc, b"/d")?, mode: 0o755 };
+//! let stat = Call::Stat { path: Word::new(alloc, b"/d")? };
+//! let device = MemDevice::new(alloc, 8 * 256)?;
+//! let Ok(device) = mkfs(alloc, device, 256) else {
+//!     bail!("not formatted");
+//! };
+//! let Ok(mut fs) = mount(alloc, device) else {
+//!     bail!("not mounted");
+//! };
+//! let replies = [
+//!     fs.call(0, &login),
+//!     fs.call(0, &mkdir),
+//!     fs.call(0, &stat),
+//!     fs.step(),
+//! ];
+//! let Ok(device) = fs.unmount() else {
+//!     bail!("not unmounted");
+//! };
 //! ```
+//!
+//! Which public call has which name, where the sources have another, is decided in `docs/DECISIONS.md`, under "The surface".
 #![tactic(auto)]
 
-mod calling;
-mod choosing;
-mod deciding;
-mod fault;
-mod plain;
-mod view;
-mod world;
-
-pub use fault::WorldError;
-pub use plain::run_plain;
-pub use world::PlainWorld;
+pub use sn_check::{Verdict, check};
+pub use sn_device::{Device, Fault, Fill, MemDevice};
+pub use sn_fs::{Fs, StillMounted, Unmounted, mount};
+pub use sn_mkfs::{MkfsFault, Unformatted, mkfs};
+pub use sn_model::{
+    Call, Damage, End, Errno, Event, Groups, MountFault, OpenFlags, Progress, Refusal, Reply, Word,
+};
+pub use sn_run::{Ran, Unwatched, Watch, run};

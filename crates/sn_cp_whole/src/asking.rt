@@ -11,7 +11,7 @@ use sn_cp_build::{SnapshotBit, SnapshotEdit};
 use sn_layout::{BlockTree, RootBody};
 use sn_limits::SnapshotName;
 use sn_model::AskedPoint;
-use sn_snap::{find, free_bit, with, without};
+use sn_snap::{add, find, free_bit, remove};
 
 /// The least free bit, where no snapshot has the name and the version allows one more.
 fn new_bit(root: &RootBody, name: &SnapshotName) -> Option<SnapshotBit>
@@ -105,7 +105,7 @@ fn with_one_more(root: RootBody, name: &SnapshotName, bit: u8) -> RootBody
     ensures body { IsRootBody result }
 {
     let tree = root.inode_file;
-    let snapshots = with(root.snapshots, name.copy(), bit, tree);
+    let snapshots = add(root.snapshots, name.copy(), bit, tree);
     RootBody { snapshots, ..root }
 }
 
@@ -115,7 +115,7 @@ fn with_one_less(root: RootBody, name: &SnapshotName) -> RootBody
     ensures is { result ≡ record root { snapshots = others_than name.now root.snapshots } }
     ensures body { IsRootBody result }
 {
-    let snapshots = without(root.snapshots, name);
+    let snapshots = remove(root.snapshots, name);
     RootBody { snapshots, ..root }
 }
 

@@ -18,7 +18,7 @@ use Rattle.sn_overlay.specs.Merges.{merge}
 use Rattle.sn_overlay.specs.Overlays.{layer_of}
 use Rattle.sn_overlay.specs.Seen.{LiesOver}
 use Rattle.sn_overlay_change.specs.ChangeLayers.{layer_of_change}
-use Rattle.sn_logged.specs.Laid.{CanBeLaid, IsLaid}
+use Rattle.sn_logged.specs.Laid.{CanBeLaid}
 use Rattle.sn_logged.specs.Moves.{moves_of}
 use Rattle.sn_logged.specs.declared.moving.NameMoves.{NameMoves}
 use Rattle.sn_overlay.specs.declared.overlay.Overlay.{Overlay}
@@ -49,11 +49,6 @@ module _ (limits : Limits) (older : Layer) (below : Tree) (rows next : List Coun
     where
       allowed : apply limits_written change (through older below) ≡ Some can.after
       allowed = applies_written limits version change (through older below) can.after can.applied
-
--- What was prepared over a layer was laid over one that shows the same.
-pub laid_of : (limits : Limits) (older between : Layer) (below : Tree) (change : Change) (p : PreparedChange) (charge : ℕ) → charge ≡ p.charge → (after : Tree) → between ≡ older → CanBeLaid limits p (through older below) change
-    → apply limits change (through between below) ≡ Some after → IsLaid limits (Some charge) (through older below) change after
-laid_of limits older between below change p charge charged after same can applied = (ap (λ (l : Layer). apply limits change (through l below)) (sym same) ∙ applied, charged ∙ can.charged)
 
 -- what was prepared over a tree that shows what was shown before
 module _ (limits : Limits) (now live : Tree) (same : now ≡ live) (change : Change) where

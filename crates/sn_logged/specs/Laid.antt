@@ -35,8 +35,3 @@ pub record CanBeLaid (limits : Limits) (p : PreparedChange) (live : Tree) (chang
 abbrev pub IsPrepared : Limits → Option PreparedChange → Tree → Change → Type 0
 IsPrepared limits None live change = apply limits change live ≡ None
 IsPrepared limits (Some p) live change = CanBeLaid limits p live change
-
--- The change was applied to a tree, and is charged so much; or it can't be applied, and the tree is as it was.
-abbrev pub IsLaid : Limits → Option ℕ → Tree → Change → Tree → Type 0
-IsLaid limits None live change after = (apply limits change live ≡ None) × (after ≡ live)
-IsLaid limits (Some charge) live change after = (apply limits change live ≡ Some after) × (charge ≡ charge_for limits live change)

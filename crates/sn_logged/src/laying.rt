@@ -1,9 +1,9 @@
 //! A change laid over what is seen.
-ghost use Rattle.std.specs.Prelude.{◌≡◌, ℕ, ◌≤◌, ◌^◌, Some, IsTrue, IfOk, IfSome, OnOk};
+ghost use Rattle.std.specs.Prelude.{◌≡◌, ℕ, ◌≤◌, ◌^◌, Some, IsTrue, IfOk, IfSome};
 ghost use Rattle.sn_directories.specs.Told.{IsShown};
 ghost use Rattle.sn_limits.specs.Versions.{limits_of};
 ghost use Rattle.sn_limits.specs.declared.limits.Limits.{Limits as TheLimits};
-ghost use Rattle.sn_logged.specs.Laid.{CanBeLaid, HasRoomFor, IsLaid, IsPrepared, charge_of};
+ghost use Rattle.sn_logged.specs.Laid.{CanBeLaid, HasRoomFor, IsPrepared, charge_of};
 ghost use Rattle.sn_model.specs.Changes.{apply};
 ghost use Rattle.sn_model.specs.Tree.{Tree};
 ghost use Rattle.sn_model.specs.declared.change.Change.{Change as TheChange};
@@ -87,8 +87,13 @@ pub fn prepare_change<B: KeepsNames>(
 /// the change makes of it, and the table tells its directories. It takes no memory, and leaves room for as many drops as
 /// there was beside the change. What the overlay makes different is then what it did, and what the change does beside.
 ///
+/// Proved, also of `prepare_change`: A change is laid over a tree that is read exactly where it can be applied, and what is
+/// seen and what it is charged are then the model's, by the given limits, of any version that is read; otherwise overlay and
+/// table are as they were.
 /// Proved: What the overlay makes different after a change is what it did before, merged with exactly the layer of the
 /// change.
+/// Proved: Overlay and table are ready for the next change: the overlay lies over the tree, what is seen is a name tree, and
+/// the table has its directories.
 pub fn commit_change(prepared: PreparedChange, overlay: &mut Overlay, directories: &mut Directories)
     requires { HasRoomFor overlay.old prepared 0 }
     ensures shown { (limits : TheLimits) (below : Tree) (change : TheChange) → limits_of limits.version ≡ Some limits → IsShown (layer_of overlay.old) below directories.old → CanBeLaid limits prepared (through (layer_of overlay.old) below) change
@@ -103,40 +108,4 @@ pub fn commit_change(prepared: PreparedChange, overlay: &mut Overlay, directorie
     merges_show_both();
     overlay.merge(prepared.newer);
     note_moves(directories, prepared.moves);
-}
-
-/// Lays a change over what is seen of a tree below, where it can be applied under the limits, and answers what it is
-/// charged. `None` where it can't be applied; then all is as it was. A fault is one of the tree below, or of memory.
-///
-/// Proved: A change is laid over a tree that is read exactly where it can be applied, and what is seen and what it is
-/// charged are then the model's, by the given limits, of any version that is read; otherwise overlay and table are as they
-/// were.
-/// Proved: Overlay and table are ready for the next change: the overlay lies over the tree, what is seen is a name tree, and
-/// the table has its directories.
-pub fn lay_change<B: KeepsNames>(
-    alloc: Global,
-    limits: &Limits,
-    below: &mut B,
-    overlay: &mut Overlay,
-    directories: &mut Directories,
-    change: &Change<'_>,
-) -> Result<Option<u128>, LayerFault<B::Fault>>
-    requires holds { B.holds below.old }
-    requires version { limits_of limits.now.version ≡ Some limits.now }
-    requires shown { IsTrue B.is_told → IsShown (layer_of overlay.old) (B.shows below.old) directories.old }
-    ensures kept { B.holds below.new }
-    ensures follows { B.follows below.old below.new }
-    ensures same { IsTrue B.is_told → B.shows below.new ≡ B.shows below.old }
-    ensures shown { IsTrue B.is_told → OnOk result (IsShown (layer_of overlay.new) (B.shows below.old) directories.new) }
-    ensures laid { IsTrue B.is_told → IfOk result (λ charge. IsLaid limits.now charge (through (layer_of overlay.old) (B.shows below.old)) change.now (through (layer_of overlay.new) (B.shows below.old))) }
-    ensures few { IfOk result (λ charge. IfSome charge (λ n. n ≤ 2 ^ 64)) }
-    ensures cause { IfBelow result (λ f. B.causes below.old below.new f) }
-{
-    let Some(prepared) = prepare_change(alloc, limits, below, overlay, directories, change, 0)?
-    else {
-        return Ok(None);
-    };
-    let charge = prepared.charge();
-    commit_change(prepared, overlay, directories);
-    Ok(Some(charge))
 }

@@ -14,13 +14,13 @@
 //!    what a change that was laid over a tree comes to.
 //! 2. `charging` reads what a change is charged, `moving` what it does to names, and notes it in the table.
 //! 3. [`prepare_change`] reads and grows all that a change asks for, and nothing that is seen changes; [`commit_change`] lays
-//!    it over, takes no memory and can't fail. Between the two a caller records the change. [`lay_change`] is both.
+//!    it over, takes no memory and can't fail. Between the two a caller records the change.
 //!
 //! What the sources leave open is decided in `docs/DECISIONS.md`, under "What changed since a root".
 //!
 //! ```text
-//! match lay_change(alloc, &limits, &mut root, &mut changed, &mut directories, &change)? {
-//!     Some(charge) => charges += charge,
+//! match prepare_change(alloc, &limits, &mut root, &overlay, &directories, &change, 0)? {
+//!     Some(prepared) => commit_change(prepared, &mut overlay, &mut directories),
 //!     None => return Err(Fault::CannotApply),
 //! }
 //! ```
@@ -31,5 +31,5 @@ mod laying;
 mod moving;
 mod preparing;
 
-pub use laying::{commit_change, lay_change, prepare_change};
+pub use laying::{commit_change, prepare_change};
 pub use preparing::PreparedChange;

@@ -1,6 +1,6 @@
--- The trees of a root, and what look-ups in them do to a device.
-use Rattle.std.proofs.Common.{◌≡◌, ◌⊎◌, inl, inr, ℕ, suc, ◌+◌, ◌<◌, Bool, true, false, cond, IsTrue, if◌then◌else◌, List, [], ◌∷◌, map, Option, Some, None, Result, Ok, Err, is_some, refl, sym, ap, subst, ◌∙◌, arith}
-use Rattle.std.specs.Prelude.{All, IfErr, MatchBool}
+-- The trees of a root.
+use Rattle.std.proofs.Common.{◌≡◌, ℕ, suc, Bool, true, false, cond, List, [], ◌∷◌, map, Option, Some, None, is_some, refl, sym, ap, subst, ◌∙◌, arith}
+use Rattle.std.specs.Prelude.{All}
 use Rattle.std.specs.Cmp.{nat_cmp_total}
 use Rattle.std.specs.Cmp.Lexicographic.{slice_cmp, lists_total, texts_ties}
 use Rattle.std.specs.FinMap as fin
@@ -8,42 +8,15 @@ use Rattle.std.specs.FinMap.Entries.{find}
 use Rattle.std.specs.Option.{option_map}
 use Rattle.std.specs.Ordering.{nat_cmp}
 use Rattle.std.specs.Str.{bytes_eq}
-use Rattle.sn_block.specs.declared.fault.ReadFault.TheVariants.{Device, Memory}
-use Rattle.sn_device.specs.Status.{has_ended, one_failure}
-use Rattle.sn_device.specs.declared.status.Status.{Status}
 use Rattle.sn_layout.specs.declared.root.RootBody.{RootBody}
 use Rattle.sn_layout.specs.declared.snapshot.Snapshot.{Snapshot}
 use Rattle.sn_layout.specs.declared.tree.BlockTree.{BlockTree}
 use Rattle.sn_model.specs.World.{tree_in}
 use Rattle.sn_ondisk.specs.Trees.{Store}
 use Rattle.sn_image.specs.Image.{image}
-use Rattle.sn_tree_read.specs.Counts.{CountsTree}
-use Rattle.sn_tree_read.specs.declared.fault.TreeFault.{TreeFault}
-use Rattle.sn_tree_read.specs.declared.fault.TreeFault.TheVariants.{Read, Damaged}
 use Rattle.sn_walk.specs.declared.object.Home.{Home}
 use Rattle.sn_walk.specs.declared.object.Home.TheVariants.{Live, Frozen}
 use Rattle.sn_rooted.specs.Roots.{AreSound, IsSoundRoot, file_in, frozen_entry, snapshot_named, trees_at}
-use Rattle.sn_rooted.specs.Views.{IsCause, ReadsOn}
-
--- ---- a device that is read
-
-reads_none : (status : Status) → ReadsOn status status
-reads_none status = record { counts = refl; failures = omega arith }
-
-same_reads : (old new : Status) → new ≡ old → ReadsOn old new
-same_reads old new e = subst (ReadsOn old) (sym e) (reads_none old)
-
-pub caused : {T : Type 0} (tells : Bool) (result : Result T TreeFault) (old new : Status) → CountsTree result old new → (IsTrue tells → (block : Option ℕ) → result ≡ Err (Damaged block) → ⊥) → IfErr result (λ fault. IsCause tells old new fault)
-caused tells (Ok x) old new counts never = tt
-caused tells (Err (Read Memory)) old new counts never = tt
-caused tells (Err (Damaged block)) old new counts never = λ told. never told block refl
-caused tells (Err (Read Device)) old new counts never = told (has_ended old) refl (counts.device refl)
-  where
-    told : (b : Bool) → has_ended old ≡ b → MatchBool b (new ≡ old) (new ≡ one_failure old) → (old.failures < new.failures) ⊎ IsTrue (has_ended new)
-    told true e same = inr (ap has_ended same ∙ e)
-    told false e more = inl (let one : new.failures ≡ old.failures + 1 = ap (λ (x : Status). x.failures) more in omega (arith, one))
-
--- ---- the trees of a root
 
 entry_named : (s : Store) (name : List ℕ) (snapshots : List Snapshot) → find (slice_cmp nat_cmp) name (map (frozen_entry s) snapshots) ≡ option_map (λ (x : Snapshot). image s x.tree) (snapshot_named name snapshots)
 entry_named s name [] = refl

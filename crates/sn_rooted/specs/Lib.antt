@@ -1,5 +1,3 @@
 pub mod Nodes
 pub mod Roots
 pub mod Unread
-pub mod ViewLaws
-pub mod Views

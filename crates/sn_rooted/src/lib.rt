@@ -14,28 +14,25 @@
 //! that aren't kept.
 //!
 //! The way through: `inodes` reads the inode of a number with its ACLs, `nodes` what is known of a node,
-//! `directories` names, `files` bytes, all of the tree of one inode file, which `file_in` finds in a root.
-//! `view` shows walks and decisions all trees of a root, the live one and those of its snapshots.
-//! `specs/Roots` says which trees these are and when they are sound, `specs/Unread` what can't be read of one,
-//! `specs/Views` what look-ups do to the device and what the cause of a fault is.
+//! `directories` names, `files` bytes, all of the tree of one inode file, which `file_in` of `homes` finds in a root.
+//! `specs/Roots` says which trees these are and when they are sound, `specs/Unread` what can't be read of one. Walks see them
+//! by the view of `sn_rooted_tree`.
 //!
 //! What the sources leave open is decided in `docs/DECISIONS.md`, under "Reading a root on demand".
 //!
 //! ```text
 //! let attributes = attributes(blocks, &root.limits, &root.inode_file, number)?;
-//! let mut view = RootedView { blocks, root: &root };
-//! let walked = walk(&mut view, &cred, &path)?;
 //! ```
 #![tactic(auto)]
 
 mod directories;
 mod files;
+mod homes;
 mod inodes;
 mod nodes;
-mod view;
 
 pub use directories::{link, names};
 pub use files::read;
+pub use homes::file_in;
 pub use inodes::{StoredInode, inode_of, stored_inode};
 pub use nodes::{attributes, default_acl, is_nameless};
-pub use view::{RootedView, file_in};

@@ -12,9 +12,9 @@ use sn_limits::SnapshotName;
 /// The same with one more snapshot, at the index of its bit. A root body that held them holds these, where its version
 /// allows one more and has the bit.
 ///
-/// Proved, also of `without` and `root_bodies_stay`: A new snapshot is put in the place of its bit, which inserts its name;
+/// Proved, also of `remove` and `root_bodies_stay`: A new snapshot is put in the place of its bit, which inserts its name;
 /// taking one away removes its name; a root body that held the snapshots holds these.
-pub fn with(mut snapshots: Snapshots, name: SnapshotName, bit: u8, tree: BlockTree) -> Snapshots
+pub fn add(mut snapshots: Snapshots, name: SnapshotName, bit: u8, tree: BlockTree) -> Snapshots
     requires catalogue { IsCatalogue snapshots }
     requires room { length snapshots < SNAPSHOT_ROOM }
     requires from_one { 1 ≤ bit }
@@ -33,7 +33,7 @@ pub fn with(mut snapshots: Snapshots, name: SnapshotName, bit: u8, tree: BlockTr
 }
 
 /// The same without the snapshot that has the name, if one has it. A root body that held them holds these.
-pub fn without(mut snapshots: Snapshots, name: &SnapshotName) -> Snapshots
+pub fn remove(mut snapshots: Snapshots, name: &SnapshotName) -> Snapshots
     requires { IsCatalogue snapshots }
     ensures list { result ≡ others_than name.now snapshots }
     ensures entries { catalogue result ≡ map.remove (catalogue snapshots) name.now }

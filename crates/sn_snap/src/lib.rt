@@ -3,17 +3,17 @@
 //!
 //! A root body holds its snapshots by rising bit, with different names, and no more of them than its version allows.
 //! The model is the finite map `catalogue` of `specs/Catalogue.antt`, from the names to the bits and the trees: `find`
-//! looks a name up, `with` inserts one and `without` removes it, and a root body stays one with what they give
+//! looks a name up, `add` inserts one and `remove` removes it, and a root body stays one with what they give
 //! (`laws.rt`). A new snapshot gets the least bit that no other has. No call takes memory.
 //!
-//! The way through: `finding` (`find`, `free_bit`), `changing` (`with`, `without`), `listing` (`names`) and `laws`.
+//! The way through: `finding` (`find`, `free_bit`), `changing` (`add`, `remove`), `listing` (`list`) and `laws`.
 //!
 //! What the sources leave open is decided in `docs/DECISIONS.md`, under "Snapshots".
 //!
 //! ```text
 //! if find(&root.snapshots, &name).is_none() {
 //!     let bit = free_bit(&root.snapshots, &root.limits)?;
-//!     root.snapshots = with(root.snapshots, name, bit, root.inode_file);
+//!     root.snapshots = add(root.snapshots, name, bit, root.inode_file);
 //! }
 //! ```
 #![tactic(auto)]
@@ -23,9 +23,9 @@ mod finding;
 mod laws;
 mod listing;
 
-pub use changing::{with, without};
+pub use changing::{add, remove};
 pub use finding::{find, free_bit};
 pub use laws::{
     changes_leave_the_others, root_bodies_hold_catalogues, root_bodies_stay, versions_fit,
 };
-pub use listing::names;
+pub use listing::list;

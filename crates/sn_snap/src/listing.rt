@@ -14,7 +14,7 @@ use sn_limits::SnapshotName;
 /// The names of the snapshots, sorted by their bytes, each once.
 ///
 /// Proved: The names are all of them, sorted by their bytes, each once.
-pub fn names(snapshots: &Snapshots) -> ArrayVec<SnapshotName, SNAPSHOT_ROOM>
+pub fn list(snapshots: &Snapshots) -> ArrayVec<SnapshotName, SNAPSHOT_ROOM>
     ensures { result.items ≡ map.keys (catalogue snapshots.now) }
 {
     let mut names = ArrayVec::new();

@@ -1,7 +1,7 @@
 //! The file system over maps in memory.
 
 use anyhow::{Result, ensure};
-use sn_core::run_plain;
+use sn_plain_world::run_plain;
 use sn_model::{End, Errno, Event, Refusal, Reply};
 use sn_replies::print_replies;
 use sn_script::read_script;

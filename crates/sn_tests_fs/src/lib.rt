@@ -1,12 +1,13 @@
 //! Cases of the file system over a device: calls, and what of them a crash leaves.
 //!
 //! The tables of the cases are in the data of `sn_tests_program`: their head lines say where the answers come from.
-//! `scripts` has those of calls and `lives` that of crashes, `sizes` devices of several sizes, a log that fills and a
-//! disk that is full, and `hostile` mounts logs of any bytes.
+//! `first` has the program on the first page of `sn_core`, `scripts` the tables of calls and `lives` that of crashes, `sizes`
+//! devices of several sizes, a log that fills and a disk that is full, and `hostile` mounts logs of any bytes.
 //!
 //! No clause promises what comes out, since it is compared: `sn_tests_program` runs it.
 #![tactic(auto)]
 
+mod first;
 mod hostile;
 mod lives;
 mod scripts;
@@ -17,6 +18,7 @@ use sn_testing_tables::Report;
 
 /// Compares what all cases come to with what is wanted. An error is a case, or a table, that can't be read, or a want of memory.
 pub fn run(report: &mut Report<'_>) -> Result<()> {
+    first::run(report)?;
     scripts::run(report)?;
     lives::run(report)?;
     sizes::run(report)?;

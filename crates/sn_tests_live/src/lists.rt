@@ -1,7 +1,7 @@
 //! Lists of events, what the tree in memory answers to them, and how a disk does.
 
 use anyhow::{Result, ensure};
-use sn_core::run_plain;
+use sn_plain_world::run_plain;
 use sn_device::Fill;
 use sn_model::{End, Event, Reply};
 use sn_replies::print_replies;

@@ -1,7 +1,0 @@
-use Rattle.std.proofs.Common.{sym, ap}
-use Rattle.sn_walk.specs.Views.{ViewedTree}
-use Rattle.sn_core.proofs.ViewLemmas.{none_frozen}
-use Rattle.sn_core.proofs.view.PlainViewTreeView.default_acl.Goals as goal
-
-pub returns-in-Frozen-clause-found : goal.returns-in-Frozen-clause-found
-returns-in-Frozen-clause-found c told = sym (ap (λ (t : ViewedTree). t.default_acl c.args.number) (none_frozen _ _ _ c.in-Frozen.is))
