@@ -89,7 +89,7 @@ module _ (world : World) (session room : ℕ) (count : length world.sessions ≡
   can_turn_filled change (Closes fd) n fits has = tt
   can_turn_filled change (Moves fd offset) n fits has = tt
 
--- ---- files that are left to nobody
+-- ---- files that are abandoned
 
 -- what may be dropped is a node's number
 pub abandoned_numbers : (world : World) → IsTree limits_written world.live → AreNumbers world
@@ -125,7 +125,7 @@ module _ (tree : Tree) (n : ℕ) (nameless : is_nameless tree n (map.get tree.no
       let nodes = map.same_map nat_cmp_total exact_unsigned _ _ left_nodes in
       subst (IsTree limits_written) (λ i. record tree { nodes = nodes i }) (dropping_tree limits_written tree others whole)
 
--- what nobody has and no name stands for has no name
+-- what is abandoned has no name
 pub is_left_nameless : (world : World) (n : ℕ) → is_abandoned world n ≡ true → is_nameless world.live n (map.get world.live.nodes n) ≡ true
 is_left_nameless world n e = and_left _ (not (is_held world n)) e
 
@@ -154,7 +154,7 @@ one_more world number only =
     s.1 (sym (some_same number n (only n s.0)))))
     ∙ dropped_once world number
 
--- a close tells the file that its descriptor was the last of
+-- a close reports the file of which its descriptor was the last
 pub close_tells : (table new : Descriptors) (session fd : ℕ) (told : Option ℕ) → new ≡ closed table session fd → told ≡ released_if (closed table session fd) (map.get table (session, fd)) → (n : ℕ) → is_held_in table n ≡ true → is_held_in new n ≡ false → told ≡ Some n
 close_tells table new session fd told e is n held left =
     is ∙ told_last table (session, fd) n (held, ap (λ (t : Descriptors). is_held_in t n) (sym e) ∙ left)

@@ -89,7 +89,7 @@ same_stay old new same n h = ap (λ (t : Tree). is_some (map.get t.nodes n)) sam
 pub done_stay : (change : Change) (old new : Tree) → IsOfOld change → apply limits_written change old ≡ Some new → FilesStay old new
 done_stay change old new of_old e n h = there new n (file_stays old new n (change_stays limits_written change old new of_old e n) h)
 
--- what was held and has gone by the end was there after the change
+-- what was held and is gone by the end was there after the change
 pub closed_same : (old new : World) (tree : Tree) (n : ℕ) → IsWorld limits_written old → FilesStay old.live tree → has_closed (with_live old tree) new n ≡ has_closed old new n
 closed_same old new tree n whole stay = told (is_held old n) refl
   where
@@ -192,7 +192,7 @@ module _ (start mid : World) (number : ℕ) where
       ∙ ap (λ (b : Bool). b && is_none (map.get (map.remove mid.live.nodes number) number)) some
       ∙ ap is_none (get_removed nat_cmp_total mid.live.nodes number)
 
-  -- the number of one more that went is kept back
+  -- the number of one more that was dropped is kept back
   pub kept_more : (first kept after : ℕ → Bool) → (is_abandoned mid number ≡ true → is_abandoned start number ≡ true)
       → ((n : ℕ) → kept n ≡ (has_gone start mid n || first n)) → ((n : ℕ) → after n ≡ ((is_abandoned mid number && n == number) || kept n))
       → (n : ℕ) → after n ≡ (has_gone start (dropped_if mid number) n || first n)
@@ -206,7 +206,7 @@ module _ (start mid : World) (number : ℕ) where
       told false was f = f ∙ by n
       told true was f = split (same_or_apart nat_cmp_total exact_unsigned n number) (was refl) f
 
-  -- what has gone went before, or now
+  -- what is gone was dropped before, or now
   pub gone_by : (n : ℕ) → has_gone start (dropped_if mid number) n ≡ true → (has_gone start mid n ≡ true) ⊎ (n ≡ number)
   gone_by n = told (is_abandoned mid number)
     where
@@ -223,7 +223,7 @@ stays_there o None e = absurd (true≢false (sym e))
 stays_there None (Some x) e = refl
 stays_there (Some y) (Some x) e = refl
 
--- What went once a caller has turned are the files that lost their last descriptor.
+-- What is dropped once a caller has turned are the files that lost their last descriptor.
 module _ (old turned mid : World) (numbers seen : List ℕ) (same : seen ≡ numbers) (live : turned.live ≡ old.live) (tells : TellsReleased old turned numbers) (held : WereHeld old numbers)
     (gone : (n : ℕ) → has_gone turned mid n ≡ true → Contains seen n) (left : (n : ℕ) → is_abandoned mid n ≡ true → (is_abandoned turned n ≡ true) × (Contains seen n → ⊥)) where
   from_old : (n : ℕ) → has_gone turned mid n ≡ has_gone old mid n

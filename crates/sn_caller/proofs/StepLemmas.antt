@@ -1,4 +1,4 @@
--- What a call comes to once its tests have passed.
+-- The outcome of a call once its tests have passed.
 use Rattle.std.proofs.Common.{◌≡◌, ℕ, Bool, true, false, not, ◌&&◌, ◌||◌, List, [], ◌∷◌, ◌++◌, Option, Some, None, Result, Ok, is_none, is_some, refl, sym, ap, subst, ◌∙◌, inl, lit≤}
 use Rattle.std.specs.FinMap as map
 use Rattle.std.specs.Prelude.{IsOk}
@@ -106,7 +106,7 @@ module _ (old : World) (kept : ℕ → Bool) (session : ℕ) (c : Call) (o : Out
   called : (number : ℕ) → chosen.caller ≡ filled number o.caller → after ≡ dropped (with_caller (with_live old tree) session (filled number o.caller))
   called number e = ap (λ (k : Caller). dropped (with_caller (with_live old tree) session k)) e
 
-  -- the world that the call comes to
+  -- the world that the call leaves
   abbrev End : Type 0
   End = Comes limits_written old session o (pointed o.point after)
 
@@ -128,7 +128,7 @@ module _ (old : World) (kept : ℕ → Bool) (session : ℕ) (c : Call) (o : Out
       comes 0 (subst (λ (x : Pending). IsNumberFor limits_written old.live 0 x) (sym e) tt) (ap (λ (x : Pending). changed limits_written 0 x old.live) e ∙ applied)
       (ap (λ (x : Chosen). x.caller) is ∙ sym (unfilled old session 0 (Does change) o.caller fits (λ h. h)))
 
-  -- where no snapshot is made or goes
+  -- where no snapshot is made or deleted
   pub chosen_becomes : pointed o.point after ≡ after → Becomes limits_written old session (decision limits_written old session c) o.told after
   chosen_becomes stays = becomes_told old after session c o decided (subst (Comes limits_written old session o) stays (by_change o.change refl is (d.fits numbers whole)))
 
@@ -191,7 +191,7 @@ module _ (old : World) (kept : ℕ → Bool) (session : ℕ) (c : Call) (o : Out
     pub chosen_served : pointed o.point after ≡ after → IsServed old kept session c o.told after last
     chosen_served stays = (chosen_becomes stays, by_kind o.change is d.of_old)
 
-  -- only what the change took a name of may be left to nobody
+  -- only what the change took a name of may be abandoned
   lost_by : (change : Pending) → Chooses old.live kept change o.caller chosen → DoesToOld change → OnlyLost (with_live old tree) chosen.lost
   lost_by Nothing is of_old =
       let same : tree ≡ old.live = subst (λ (x : Option Change). MadeBy x old.live tree) (ap (λ (x : Chosen). x.change) is) done in

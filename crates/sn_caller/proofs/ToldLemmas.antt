@@ -1,4 +1,4 @@
--- Files that go, as they are told.
+-- Files that go, as they are reported.
 use Rattle.std.proofs.Common.{◌≡◌, ℕ, ◌+◌, ◌≤◌, Bool, true, false, ◌||◌, cond, List, [], ◌∷◌, ◌++◌, Option, Some, None, length, get_or, Contains, is_some, refl, sym, ap, subst, ◌∙◌, arith, length-append}
 use Rattle.std.specs.Prelude.{All}
 use Rattle.std.specs.FinMap as map
@@ -91,7 +91,7 @@ module _ (old turned mid : World) (numbers seen : List ℕ) (same : seen ≡ num
       ∙ ap (λ (b : Bool). b || before n) (closed_lost lost n)
       ∙ sym (ap (λ (w : World). has_closed old w n || before n) is)
 
-  -- what is left to nobody was there
+  -- what is abandoned was there
   was_there : (n : ℕ) → is_abandoned mid n ≡ true → is_some (map.get old.live.nodes n) ≡ true
   was_there n e = subst (λ t. is_some (map.get t.nodes n) ≡ true) live (abandoned_there turned n (left n e).0)
 
@@ -102,7 +102,7 @@ module _ (old turned mid : World) (numbers seen : List ℕ) (same : seen ≡ num
     abbrev IsTold : DroppedFile → Type 0
     IsTold file = file.by_close ≡ is_held old file.number
 
-    -- one that went with its last descriptor had one
+    -- one that was dropped with its last descriptor had one
     pub caller_closed : All (λ (file : DroppedFile). file.by_close ≡ true) files → All IsTold (told_lost mid lost files)
     caller_closed closed = lost_all mid lost files IsTold each (λ n e. sym (unheld old turned mid numbers seen same live tells held gone left n e))
       where

@@ -7,7 +7,7 @@ use Rattle.sn_model.specs.Outcomes.{is_opening}
 use Rattle.sn_model.specs.Settling.{is_abandoned, is_held}
 use Rattle.sn_model.specs.World.{World}
 
--- so many more files can be opened: some, where one is to be
+-- this many more files can be opened: some, where one is to be
 abbrev pub HasRoom : Caller → ℕ → Type 0
 HasRoom caller room = is_opening caller ≡ true → 0 < room
 

@@ -1,4 +1,4 @@
--- What a call comes to, where a new node has its number.
+-- The outcome of a call, where a new node has its number.
 use Rattle.std.specs.Prelude.{◌≡◌, ◌≢◌, ℕ, Bool, None, Some}
 use Rattle.sn_limits.specs.Versions.{limits_written}
 use Rattle.sn_model.specs.declared.change.Change.TheVariants.{Make}

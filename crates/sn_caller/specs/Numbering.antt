@@ -24,11 +24,11 @@ gives_kept change kept = false
 abbrev pub TakesNext : World → (ℕ → Bool) → World → Type 0
 TakesNext old kept new = (number : ℕ) → GivesOut old new number → next_number limits_written old.live kept ≡ Some number
 
--- a number whose node has gone
+-- a number whose node is gone
 abbrev pub has_gone : World → World → ℕ → Bool
 has_gone old new number = is_some (map.get old.live.nodes number) && is_none (map.get new.live.nodes number)
 
--- a live file that was open has gone: with its last descriptor, by a close or a logout
+-- a live file that was open was dropped with its last descriptor, by a close or a logout
 abbrev pub has_closed : World → World → ℕ → Bool
 has_closed old new number = is_held old number && has_gone old new number
 

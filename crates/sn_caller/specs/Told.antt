@@ -1,10 +1,10 @@
--- Files without names that a caller leaves to nobody, as they are told.
+-- Files without names that a caller abandons, as they are reported.
 use Rattle.std.specs.Prelude.{ℕ, Bool, false, List, [], ◌∷◌, ◌++◌, Option, None, Some, if◌then◌else◌}
 use Rattle.sn_changed.specs.declared.dropped.DroppedFile.{DroppedFile}
 use Rattle.sn_model.specs.Settling.{dropped_if, is_abandoned}
 use Rattle.sn_model.specs.World.{World}
 
--- one that goes is told behind the others
+-- one that is dropped is reported after the others
 abbrev pub told_if : World → ℕ → Bool → List DroppedFile → List DroppedFile
 told_if world number by_close files = if is_abandoned world number then files ++ (record { number = number; by_close = by_close }) ∷ [] else files
 

@@ -1,7 +1,7 @@
-//! What a call comes to, with the number of a new node.
+//! The outcome of a call, with the number of a new node.
 use sn_model::{Caller, Change};
 
-/// What a call comes to, with the number of a new node.
+/// The outcome of a call, with the number of a new node.
 #[derive(Drop)]
 pub struct Chosen<'a> {
     /// The change that is to be made, if one is.

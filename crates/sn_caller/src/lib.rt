@@ -1,7 +1,7 @@
 //! What becomes of whoever makes a call: its session and its descriptors, and which files and numbers go with it.
 //!
 //! The model is that of `sn_model`: a call has an outcome, which says what is to be changed of the live tree and what
-//! becomes of the caller. [`turn`] sets the latter, over the sessions of `sn_desc`, and tells the live files that no
+//! becomes of the caller. [`turn`] sets the latter, over the sessions of `sn_desc`, and returns the live files that no
 //! descriptor has any more. The rest are definitions and laws, for any tree: `specs/Choosing` fills in a new node's number,
 //! `specs/Called` says what has to be so before a caller turns, `specs/Told` which files without names go with it, and
 //! `specs/Numbering` which number a new node gets from one event to the next, and which are kept back.

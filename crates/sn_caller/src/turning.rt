@@ -29,7 +29,7 @@ fn open(sessions: &mut Sessions, session: u32, file: OpenFile)
     }
 }
 
-/// Closes a descriptor, and tells the live file that no descriptor has any more.
+/// Closes a descriptor, and returns the live file that no descriptor has any more.
 fn close(sessions: &mut Sessions, session: u32, fd: u32) -> Released
     ensures world { (world : World) → in_world (in_use_of sessions.new) world ≡ with_caller (in_world (in_use_of sessions.old) world) session (Caller.Closes fd) }
     ensures released { (world : World) → TellsReleased (in_world (in_use_of sessions.old) world) (in_world (in_use_of sessions.new) world) result.items }
@@ -43,7 +43,7 @@ fn close(sessions: &mut Sessions, session: u32, fd: u32) -> Released
     released
 }
 
-/// Sets what becomes of a caller's session and its descriptors, and tells the live files that no descriptor
+/// Sets what becomes of a caller's session and its descriptors, and returns the live files that no descriptor
 /// has any more. What is opened goes under the session's next descriptor; where that isn't the one that was
 /// decided, or there is no such session, the clauses say only how many descriptors there are then.
 ///

@@ -87,7 +87,7 @@ Spares tree Nothing caller = Unit {0}
 Spares tree (Makes directory name kind o) caller = ClosesNone caller
 Spares tree (Does c) caller = GivesNoFirstName tree c × ClosesNone caller
 
--- what takes memory is no login, the only call whose numbers are told
+-- what takes memory is no login, the only call that says its numbers
 taking_is_call : (c : Call) → TakesMemory c → IsCall c
 taking_is_call (call.Login uid gid groups) h = absurd h
 taking_is_call _ h = tt

@@ -27,7 +27,7 @@ use Rattle.sn_changed.specs.Changed.{HasChanged}
 use Rattle.sn_changed.specs.Dropped.{AreNameless, LeadsOn, TellsGone, is_gone, numbers_of, with_drops, without_each}
 use Rattle.sn_changed.proofs.ChangedLemmas.{drops_merge}
 
--- ---- one more that went
+-- ---- one more that was dropped
 
 stays_none : (o p : Option Node) → is_some p ≡ true → (is_some o && is_none p) ≡ true → ⊥
 stays_none None p some e = true≢false (sym e)
@@ -84,7 +84,7 @@ module _ (old mid : Tree) (files : List DroppedFile) (file : DroppedFile) (tells
     once = subst (AllPairs ◌≢◌) (sym numbers) (all_pairs_push ◌≢◌ (numbers_of files) file.number tells.once is_new);
   }
 
--- ---- the tree without those that went
+-- ---- the tree without those that were dropped
 
 links_left : (files : List DroppedFile) (tree : Tree) → (without_each tree files).links ≡ tree.links
 links_left [] tree = refl
@@ -112,7 +112,7 @@ each_gone [] tree n c = absurd (omega (arith, c.1))
 each_gone (file ∷ files) tree n (zero, within, is) = none_left files (take_node tree file.number) n (ap (fin.get (take_node tree file.number).nodes) (sym is) ∙ get_removed nat_cmp_total tree.nodes file.number)
 each_gone (file ∷ files) tree n (suc k, within, is) = each_gone files (take_node tree file.number) n (k, omega (arith, within), is)
 
--- what went had no name, and nobody had it; the others stay
+-- what was dropped had no name, and nobody had it; the others stay
 went : (bare held : Bool) (o : Option Node) → (is_some o && is_none (cond (not bare || held) o None)) ≡ true → (bare ≡ true) × (cond (not bare || held) o None ≡ None)
 went true false o e = (refl, refl)
 went true true o e = absurd (none_gone o e)
@@ -177,7 +177,7 @@ leads_on layer files limits root live charged held figures h is tells =
     subst (λ (t : Tree). HasChanged limits (with_drops layer files) root t charged) (without_is live held files tells)
     (each_merges files limits layer root live charged figures h is (told_nameless live held files tells) tells.once)
 
--- behind a caller
+-- after a caller
 pub callers_drop : (limits : Limits) (layer new : Layer) (root : Tree) (charged : ℕ) (world : World) (session : ℕ) (caller : Caller) (files : List DroppedFile) → AreCharged limits → IsHierarchy world.live → HasChanged limits layer root world.live charged
     → TellsGone world.live (dropped (with_caller world session caller)).live files → LeadsOn layer files new → HasChanged limits new root (dropped (with_caller world session caller)).live charged
 callers_drop limits layer new root charged world session caller files figures h is tells leads =

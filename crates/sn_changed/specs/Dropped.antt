@@ -1,4 +1,4 @@
--- Files without names that go from the live tree, and what that makes of what changed.
+-- Files without names that are dropped from the live tree, and what that makes of what changed.
 use Rattle.std.specs.Prelude.{◌≡◌, ◌≢◌, ◌↔◌, ℕ, Bool, true, ◌&&◌, List, map, fold, AllPairs, Contains, is_none, is_some}
 use Rattle.std.specs.FinMap as fin
 use Rattle.sn_limits.specs.declared.limits.Limits.{Limits}
@@ -16,11 +16,11 @@ use Rattle.sn_changed.specs.Changed.{HasChanged}
 abbrev pub numbers_of : List DroppedFile → List ℕ
 numbers_of files = map (λ file. file.number) files
 
--- a number whose node has gone
+-- a number whose node is gone
 abbrev pub is_gone : Tree → Tree → ℕ → Bool
 is_gone old new number = is_some (fin.get old.nodes number) && is_none (fin.get new.nodes number)
 
--- They are those that went, each once.
+-- They are those that were dropped, each once.
 pub record TellsGone (old new : Tree) (files : List DroppedFile) : Type 0 where
   pub each : (number : ℕ) → Contains (numbers_of files) number ↔ (is_gone old new number ≡ true)
   pub once : AllPairs ◌≢◌ (numbers_of files)
@@ -36,7 +36,7 @@ without_each tree files = fold (λ left file. take_node left file.number) tree f
 abbrev pub with_drops : Layer → List DroppedFile → Layer
 with_drops layer files = fold (λ older file. merge older (gone file.number file.by_close)) layer files
 
--- What changed is merged with the drops of the files that went, whichever files were held: then it is what changed up to the tree without them.
+-- What changed is merged with the drops of these files, whichever files were held: then it is what changed up to the tree without them.
 abbrev pub LeadsOn : Layer → List DroppedFile → Layer → Type 0
 LeadsOn old files new = (limits : Limits) (root live : Tree) (charged : ℕ) (held : ℕ → Bool) → AreCharged limits → IsHierarchy live → HasChanged limits old root live charged → TellsGone live (without_nameless held live) files
     → HasChanged limits new root (without_nameless held live) charged

@@ -24,12 +24,12 @@ use Rattle.sn_changed.specs.Dropped.{AreNameless, LeadsOn, TellsGone, numbers_of
 abbrev pub NothingChanged : Type 0
 NothingChanged = (limits : Limits) (root : Tree) → HasChanged limits no_changes root root 0
 
--- A change that is made of the live tree is merged, and charged.
+-- A change that is applied to the live tree is merged, and charged.
 abbrev pub ChangesMerge : Type 0
 ChangesMerge = (limits : Limits) (layer : Layer) (root live after : Tree) (charged : ℕ) (change : Change) → AreCharged limits → IsHierarchy live → HasChanged limits layer root live charged → apply limits change live ≡ Some after
     → HasChanged limits (merge layer (layer_of_change live change)) root after (charged + charge_for limits live change)
 
--- A live file without names that goes is merged, and paid by its own charge.
+-- A live file without names that is dropped is merged, and paid by its own charge.
 abbrev pub DropsMerge : Type 0
 DropsMerge = (limits : Limits) (layer : Layer) (root live : Tree) (charged number : ℕ) (by_close : Bool) → AreCharged limits → IsHierarchy live → HasChanged limits layer root live charged → is_nameless live number (map.get live.nodes number) ≡ true
     → HasChanged limits (merge layer (gone number by_close)) root (take_node live number) charged
@@ -39,16 +39,16 @@ abbrev pub BuildsFit : Type 0
 BuildsFit = (limits : Limits) (layer : Layer) (root live : Tree) (charged free : ℕ) → HasChanged limits layer root live charged → charged + limits.inode_charge * nameless_in root ≤ free
     → need limits layer + limits.inode_charge * nameless_in live ≤ free
 
--- Files without names that go, each once, are merged, and paid by their own charges.
+-- Files without names that are dropped, each once, are merged, and paid by their own charges.
 abbrev pub EachMerges : Type 0
 EachMerges = (files : List DroppedFile) (limits : Limits) (layer : Layer) (root live : Tree) (charged : ℕ) → AreCharged limits → IsHierarchy live → HasChanged limits layer root live charged → AreNameless live files → AllPairs ◌≢◌ (numbers_of files)
     → HasChanged limits (with_drops layer files) root (without_each live files) charged
 
--- The tree without those that went is the one that they went to, whichever files were held.
+-- The tree without those that were dropped is the one that the drops led to, whichever files were held.
 abbrev pub WithoutEachIs : Type 0
 WithoutEachIs = (live : Tree) (held : ℕ → Bool) (files : List DroppedFile) → TellsGone live (without_nameless held live) files → without_each live files ≡ without_nameless held live
 
--- Behind a caller, those that went lead on to the live tree that is left.
+-- After a caller, those that were dropped lead on to the live tree that is left.
 abbrev pub CallersDrop : Type 0
 CallersDrop = (limits : Limits) (layer new : Layer) (root : Tree) (charged : ℕ) (world : World) (session : ℕ) (caller : Caller) (files : List DroppedFile) → AreCharged limits → IsHierarchy world.live → HasChanged limits layer root world.live charged
     → TellsGone world.live (dropped (with_caller world session caller)).live files → LeadsOn layer files new → HasChanged limits new root (dropped (with_caller world session caller)).live charged

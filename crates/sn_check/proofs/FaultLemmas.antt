@@ -19,7 +19,7 @@ read_tells : (f : ReadFault) (P : Damage → ℕ → Type 0) → IsDamageOf P (r
 read_tells read.Device P = tt
 read_tells read.Memory P = tt
 
--- what is told stays so
+-- what is reported stays so
 pub check_tells : (f : CheckFault) (P : Damage → ℕ → Type 0) → Tells f P → IsDamageOf P (fault_of_check f)
 check_tells (of_check.Damaged damage block) P tells = tells
 check_tells (of_check.Read f) P tells = read_tells f P

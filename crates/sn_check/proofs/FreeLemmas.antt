@@ -1,4 +1,4 @@
--- What a map that was compared with its copy tells to be free.
+-- What is free by a map that was compared with its copy.
 use Rattle.std.proofs.Common.{◌≡◌, ℕ, ◌≤◌, List, drop, length, slice_index, count_by, sym, subst, ◌∙◌}
 use Rattle.sn_device.specs.Sectors.{Contents}
 use Rattle.sn_layout.specs.declared.geometry.Area.TheVariants.{Data}
@@ -12,7 +12,7 @@ use Rattle.sn_sound.specs.Maps.{IsSetOfRoots, IsSoundRoot, free_blocks, rooted_i
 use Rattle.sn_sound.proofs.FreeLemmas.{free_counted, words_counted}
 use Rattle.sn_check_map.specs.Words.{HasWords}
 
--- words that are those of the copy tell the roots too
+-- words that are those of the copy describe the roots too
 words_tell : (n : ℕ) (c : Contents) (slot : Slot) (root : RootBody) (words : List ℕ) → IsSoundRoot n (store_of c) root (map_word n c slot) → HasWords n c slot words → IsSoundRoot n (store_of c) root (slice_index words)
 words_tell n c slot root words sound has = record { roots = sound.roots; map = λ block within. subst (IsSetOfRoots (store_of c) (rooted_in root) block) (has block within) (sound.map block within) }
 

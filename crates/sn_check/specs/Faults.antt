@@ -11,7 +11,7 @@ abbrev pub fault_of_check : CheckFault → MountFault
 fault_of_check (of_check.Damaged damage block) = Damaged damage block
 fault_of_check (of_check.Read fault) = read_fault fault
 
--- A damage that is told is so of its block. Else memory was refused, or the device failed.
+-- A damage that is reported holds of its block. Else memory was refused, or the device failed.
 abbrev pub IsDamageOf : (Damage → ℕ → Type 0) → MountFault → Type 0
 IsDamageOf P (Damaged damage block) = P damage block
 IsDamageOf P NotFormatted = ⊥

@@ -16,7 +16,8 @@ use Rattle.sn_sound.specs.Charges.{charges_from}
 use Rattle.sn_sound.specs.Logs.{AreReplayed, IsLogFault, half_block}
 use Rattle.sn_examine.specs.Ages.{TellsRecovery}
 
--- On top of the root are logged changes of its epoch and then of the next one, all that there are, which make a tree of its image; they are charged so much, so many files of the image have no name, and so it is told whether something is to recover.
+-- On top of the root are logged changes of its epoch and then of the next one, all that there are, which make a tree of its image; they are
+-- charged this much, this many files of the image have no name, and whether something is to recover follows from that.
 pub record HasLogged (n : ℕ) (c : Contents) (root : RootBody) (charges dropped : ℕ) (recovers : Bool) : Type 0 where
   pub older : List Change
   pub newer : List Change
@@ -32,7 +33,7 @@ pub record HasLogged (n : ℕ) (c : Contents) (root : RootBody) (charges dropped
 abbrev pub IsOfLog : ℕ → Contents → RootBody → ℕ → Damage → ℕ → Type 0
 IsOfLog n c root free damage block = (damage ≡ Log) × IsLogFault n c root free block
 
--- more is charged than is free, which is a damage of the log, told of the half of the root's epoch
+-- more is charged than is free, which is a damage of the log, reported with the half of the root's epoch
 abbrev pub IsOver : MountFault → ℕ → RootBody → ℕ → ℕ → ℕ → Type 0
 IsOver (fault.Damaged damage block) n root free charges dropped = (damage ≡ Log) × (is_covered root.limits (mounted free charges dropped) ≡ false) × (block ≡ half_block n root.epoch)
 IsOver cause n root free charges dropped = ⊥

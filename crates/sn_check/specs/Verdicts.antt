@@ -8,7 +8,7 @@ use Rattle.sn_sound.specs.Verdicts.{HasNoVerdict, IsClean, IsFaulty}
 use Rattle.sn_check.specs.declared.verdict.Verdict.{Verdict}
 use Rattle.sn_check.specs.declared.verdict.Verdict.TheVariants.{Clean, Fault}
 
--- The disk is sound, with so many free blocks; or it has the fault, and none of an earlier group.
+-- The disk is sound, with this many free blocks; or it has the fault, and none of an earlier group.
 abbrev pub IsRight : ℕ → Contents → Verdict → Type 0
 IsRight sectors c (Clean free) = IsClean sectors c free
 IsRight sectors c (Fault damage block) = IsFaulty sectors c damage block

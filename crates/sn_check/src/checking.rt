@@ -49,10 +49,10 @@ pub fn test_disk<D: Device>(alloc: Global, blocks: &mut Blocks<D>) -> Result<u32
 
 /// Checks a whole disk: its superblock and the newest of its roots, all that this root and those of its snapshots reach,
 /// the map of their blocks, their names and links, and the log on top of the newest one. A disk that is sound is `Clean`,
-/// and so is no other; else a fault is told that stands at its block, of the first group that has one. There is no
-/// verdict, and `NotFormatted`, `NoRoot` and `Version` come in this order, where there is no root to check; `Memory`
-/// where memory is refused, and `Device` where the device fails. Nothing is written. A device that gives other bytes at a
-/// second read makes a misspelt root body of it.
+/// and no other is; else a fault is reported, at its block, of the first group that has one. There is no verdict, and
+/// `NotFormatted`, `NoRoot` and `Version` come in this order, where there is no root to check; `Memory` where memory is
+/// refused, and `Device` where the device fails. Nothing is written. Other bytes at a second read are reported as a
+/// misspelt root body.
 ///
 /// Proved: A disk is `Clean` only where it is sound, its newest root and those of its snapshots with the map of their
 /// blocks, and the log on top of the newest one; the number with it is that of the data blocks that no root reaches.
@@ -61,7 +61,7 @@ pub fn test_disk<D: Device>(alloc: Global, blocks: &mut Blocks<D>) -> Result<u32
 /// the log (C7), each over all roots.
 /// Proved: The verdict is exact, since no disk is two of these (`fault_laws` of sn_sound).
 /// Proved: M1, M3 and M2 come each exactly where superblock, gates and versions say so, and in this order; else there is a
-/// verdict, but for want of memory or a failure of the device.
+/// verdict, but for lack of memory or a failure of the device.
 /// Proved: Reads give the same as before, nothing is written, and a failure is reported only where the device failed or
 /// ended, over any device.
 pub fn check<D: Device>(alloc: Global, blocks: &mut Blocks<D>) -> Result<Verdict, MountFault>

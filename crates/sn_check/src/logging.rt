@@ -20,7 +20,7 @@ use sn_model::{Damage, MountFault};
 use sn_room::Room;
 use std::alloc::Global;
 
-/// What the log on top of a root comes to.
+/// What the log on top of a root amounts to.
 #[derive(Clone, Copy)]
 pub(crate) struct Logged {
     /// What its records are charged.
@@ -31,9 +31,9 @@ pub(crate) struct Logged {
     pub(crate) recovers: bool,
 }
 
-/// Tries the records of a sound root's epoch and of the next one on its tree, as it stands on the disk. `body` is the block
-/// of the root body. Damaged is a record that is misspelt or can't be applied, told of the block of its gate; and a tree
-/// that was checked and is misspelt now, since the device gives other bytes than before, told of `body`.
+/// Tries the records of a sound root's epoch and of the next one on its tree, as it is on the disk. `body` is the block of
+/// the root body. Damaged is a record that is misspelt or can't be applied, reported at the block of its gate; and a tree
+/// that was checked and is misspelt now, since the device gives other bytes than before, reported at `body`.
 fn replay_log<D: Device>(
     alloc: Global,
     blocks: &mut Blocks<D>,
@@ -72,7 +72,7 @@ fn replay_log<D: Device>(
     })
 }
 
-/// Damaged where what is logged is charged more than is free, which is told of the half of the root's epoch.
+/// Damaged where what is logged is charged more than is free, which is reported at the half of the root's epoch.
 fn test_charges(
     geometry: Geometry,
     root: &RootBody,

@@ -17,7 +17,7 @@ use sn_log::{Buffer, Position};
 use sn_model::MountFault;
 use std::alloc::Global;
 
-// Where the log goes on: behind the records of the newer epoch, or of the older one where the newer has none.
+// Where the log goes on: after the records of the newer epoch, or of the older one where the newer has none.
 fn last_of(older: Position, newer: Position) -> Position
     ensures last { ((newer.count ≡ 0) × (result ≡ older)) ⊎ (result ≡ newer) }
     ensures none { result.count ≡ 0 → (older.count ≡ 0) × (newer.count ≡ 0) }
@@ -26,9 +26,9 @@ fn last_of(older: Position, newer: Position) -> Position
 }
 
 /// Tries the records of the root's epoch and then those of the next one on the root's tree, by the limits of the root.
-/// Answers where the log goes on, behind the last of them, what they are charged together, and the live tree behind them,
+/// Answers where the log goes on, after the last of them, what they are charged together, and the live tree after them,
 /// `None` where there is no record: then it is the root's tree. What changed of that is what they changed. Damaged is a
-/// record that is misspelt or can't be applied, told of the block of its gate.
+/// record that is misspelt or can't be applied, reported at the block of its gate.
 ///
 /// Proved: The records of the root's epoch and of the next one are tried on the root's tree as it is on disk, by the limits
 /// of the root's version: where they end, what they make of it and their charges are those that the log has; or one is

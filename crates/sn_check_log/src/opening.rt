@@ -18,8 +18,8 @@ use sn_model::MountFault;
 use std::alloc::Global;
 
 /// The live tree of a sound root on which nothing is logged: what is shown is the root's tree. Two passes go over it, one over
-/// its directories and one over its inodes. A tree that was checked and is misspelt now is told of the block that can't be
-/// read; `Memory` comes where memory is refused, and `Device` where the device fails.
+/// its directories and one over its inodes. A tree that was checked and is misspelt now is reported at the block that can't be
+/// read; `Memory` is returned where memory is refused, and `Device` where the device fails.
 ///
 /// Proved: The live tree of a root on which nothing is logged shows the root's tree, and nothing has changed of it.
 pub fn live_over<D: Device>(

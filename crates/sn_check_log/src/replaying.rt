@@ -21,14 +21,14 @@ use sn_model::{Damage, MountFault};
 use sn_overlay::versions_are_charged;
 use std::alloc::Global;
 
-/// What trying records comes to.
+/// What trying records results in.
 #[derive(Drop)]
 pub struct Tried {
     /// Where the records end.
     pub at: Position,
     /// What they are charged.
     pub charges: u128,
-    /// The live tree behind them, `None` where no record was tried.
+    /// The live tree after them, `None` where no record was tried.
     pub live: Option<LiveTree>,
 }
 

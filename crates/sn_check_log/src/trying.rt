@@ -27,7 +27,7 @@ use std::alloc::Global;
 pub struct CheckedRoot<'a> {
     pub root: &'a RootBody,
     /// The block of the root body. A tree that was checked and is misspelt now, as of a device that gives other bytes than
-    /// before, is told of the block that can't be read, and of this one where there is none.
+    /// before, is reported at the block that can't be read, and at this one where there is none.
     pub body: u32,
     pub geometry: Geometry,
 }

@@ -1,4 +1,4 @@
--- A test that fails is why what it stands before fails; how many snapshots are listed; and whether a file of a tree is open, as sessions tell it.
+-- A test that fails is why what follows it fails; how many snapshots are listed; and whether a file of a tree is open, as sessions show it.
 use Rattle.std.proofs.Common.{◌≡◌, ◌↔◌, ℕ, Bool, true, false, if◌then◌else◌, IsTrue, List, Option, Some, None, Result, Ok, Err, length, refl, sym, ap, ◌∙◌}
 use Rattle.std.specs.Prelude.{IsSomeAnd}
 use Rattle.std.specs.FinMap as map
@@ -84,7 +84,7 @@ open_is table home false is = told (has_open_at table home) refl
     told true e = sym (is.1 (open_by table home e))
     told false e = refl
 
--- what sessions tell is what the model tests
+-- what sessions report is what the model tests
 abbrev pub busy_if : Bool → Result (Unit {0}) Refusal
 busy_if b = if b then Err (plain Ebusy) else Ok tt
 

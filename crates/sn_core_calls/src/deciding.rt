@@ -1,4 +1,4 @@
-//! What each call comes to.
+//! The outcome of each call.
 ghost use Rattle.std.specs.Prelude.{◌≡◌, ◌<◌, ◌^◌, ℕ, IsTrue, IfOk};
 ghost use Rattle.sn_limits.specs.Versions.{limits_written};
 ghost use Rattle.sn_model.specs.Calls.{new_session};
@@ -35,7 +35,7 @@ use sn_desc::Sessions;
 use sn_model::{AskedPoint, Call, Caller, Groups, Outcome, Pending, Refusal, Reply, Session};
 use std::alloc::Global;
 
-/// What a login comes to.
+/// The outcome of a login.
 fn login(uid: u32, gid: u32, groups: &Groups) -> Outcome<'static>
     ensures outcome { result ≡ opens (new_session uid gid groups.now) }
     ensures uid { uid < 2 ^ 32 }
@@ -57,7 +57,7 @@ fn login(uid: u32, gid: u32, groups: &Groups) -> Outcome<'static>
     }
 }
 
-/// What a call comes to that asks nothing of the view.
+/// The outcome of a call that asks nothing of the view.
 fn unviewed<'a, F>(answer: Result<Outcome<'a>, Refusal>) -> Result<Outcome<'a>, CallError<F>>
     ensures decided { (world : World) → (session : ℕ) → (call : TheCall) → Answers (λ o. o) answer.entry (decision limits_written world session call) → Decides world session call result }
     ensures cause { IfView result (λ f. ⊥) }
@@ -77,7 +77,7 @@ fn decide_umask(sessions: &Sessions, session: u32, mask: u16) -> Result<Outcome<
     Ok(umask(caller, mask))
 }
 
-/// What a call of sessions comes to, which asks nothing of the trees.
+/// The outcome of a call of sessions, which asks nothing of the trees.
 fn decide_of_session<'a>(
     sessions: &Sessions,
     session: u32,
@@ -102,7 +102,7 @@ fn decide_of_session<'a>(
     }
 }
 
-/// What a call of a node comes to that a path names.
+/// The outcome of a call of a node that a path names.
 fn decide_of_node<'a, V: FileView>(
     alloc: Global,
     view: &mut V,
@@ -133,7 +133,7 @@ fn decide_of_node<'a, V: FileView>(
     }
 }
 
-/// What a call comes to that lists names or exchanges them.
+/// The outcome of a call that lists names or replaces them.
 fn decide_of_names<'a, V: FileView>(
     alloc: Global,
     view: &mut V,
@@ -160,7 +160,7 @@ fn decide_of_names<'a, V: FileView>(
     }
 }
 
-/// What a call comes to that opens a file, reads or writes it.
+/// The outcome of a call that opens a file, reads or writes it.
 fn decide_of_file<'a, V: FileView>(
     alloc: Global,
     view: &mut V,
@@ -187,7 +187,7 @@ fn decide_of_file<'a, V: FileView>(
     }
 }
 
-/// What a call of snapshots comes to.
+/// The outcome of a call of snapshots.
 fn decide_of_snapshot<'a, V: FileView>(
     alloc: Global,
     view: &mut V,
@@ -213,7 +213,7 @@ fn decide_of_snapshot<'a, V: FileView>(
     }
 }
 
-/// What a call comes to over each world that the view shows, or why it has no outcome.
+/// The outcome of a call over each world that the view shows, or why it has none.
 fn decide_shown<'a, V: FileView>(
     alloc: Global,
     view: &mut V,
@@ -238,8 +238,8 @@ fn decide_shown<'a, V: FileView>(
     }
 }
 
-/// What a call comes to, its first refusal, or why it has neither: `Memory` where what it tells found none, `View`
-/// where the view found a fault. Both come only once its session and arguments have passed. Nothing changes.
+/// The outcome of a call, its first refusal, or why it has neither: `Memory` where its answer found none, `View` where
+/// the view found a fault. Both come only once its session and arguments have passed. Nothing changes.
 ///
 /// Proved: The outcome of a call, or its first refusal, is exactly the model's in each world that the sessions and a view
 /// show, whatever that view reads; where memory for the answer or the view fails, session and arguments had passed, and a

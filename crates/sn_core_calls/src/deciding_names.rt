@@ -1,4 +1,4 @@
-//! What the calls on names and listings come to.
+//! The outcomes of the calls on names and listings.
 ghost use Rattle.std.specs.Prelude.{◌≡◌, IsTrue};
 ghost use Rattle.sn_model.specs.declared.call.Call.TheVariants as call;
 ghost use Rattle.sn_desc.specs.Sessions.{in_use_of};

@@ -1,4 +1,4 @@
-//! What the calls come to that ask for a whole consistency point, and that which lists the snapshots.
+//! The outcomes of the calls that ask for a whole consistency point, and of that which lists the snapshots.
 ghost use Rattle.std.specs.Prelude.{◌≡◌, IsTrue};
 ghost use Rattle.sn_limits.specs.Versions.{limits_written};
 ghost use Rattle.sn_walk.specs.Gives.{Answers, Gives, IfFault};
@@ -23,7 +23,7 @@ use sn_model::{
 use sn_walk::{Failure, Home, Object};
 use std::alloc::Global;
 
-/// What a call comes to that asks for a whole consistency point, and changes nothing else.
+/// The outcome of a call that asks for a whole consistency point, and changes nothing else.
 fn points(asked: AskedPoint) -> Outcome<'static>
     ensures { result ≡ points asked }
 {
@@ -88,7 +88,7 @@ fn present<V: FileView>(view: &mut V, name: &SnapshotName) -> Result<(), Failure
     }
 }
 
-/// Whether there may be one more beside so many snapshots.
+/// Whether there may be one more besides so many snapshots.
 fn room_beside(limits: &Limits, count: usize) -> Result<(), Refusal>
     ensures { result ≡ calls.room_for_snapshot limits.now count }
 {

@@ -1,4 +1,4 @@
--- What was decided over a view, as what a call comes to over a world that it shows.
+-- What was decided over a view, as the outcome of a call over a world that it shows.
 use Rattle.std.proofs.Common.{◌≡◌, ℕ, List, Result, Ok, Err, IfOk}
 use Rattle.sn_walk.specs.declared.fault.Failure.{Failure}
 use Rattle.sn_walk.specs.declared.fault.Failure.TheVariants as failure
@@ -61,7 +61,7 @@ pub view_looked_up : {F : Type 0} (e : FileFault F) (P : F → Type 0) → OfLoo
 view_looked_up fault.Memory P h = tt
 view_looked_up (fault.View f) P h = h
 
--- the same of a look-up behind others, whose causes are causes
+-- the same of a look-up after others, whose causes are causes
 pub view_later : {F : Type 0} (e : FileFault F) (P Q : F → Type 0) → ((f : F) → P f → Q f) → OfLookUp e P → OfView (error_of e) Q
 view_later fault.Memory P Q so h = tt
 view_later (fault.View f) P Q so h = so f h

@@ -1,4 +1,4 @@
--- What a call comes to, or why it has no outcome.
+-- The outcome of a call, or why it has none.
 use Rattle.std.specs.Prelude.{◌≡◌, ℕ, List, Result, Ok, Err, IsOk}
 use Rattle.sn_walk.specs.declared.object.Home.{Home}
 use Rattle.sn_walk.specs.Views.{ViewedTrees}
@@ -19,13 +19,13 @@ use Rattle.sn_core_files.specs.Shown.{Shows}
 abbrev pub MayLack : World → ℕ → Call → Type 0
 MayLack world session c = TakesMemory c × IsOk (ready world session c)
 
--- why a call has no outcome: it is refused, or it lacks memory or what the view didn't tell
+-- why a call has no outcome: it is refused, or it lacks memory or what the view failed to give
 abbrev pub HasNone : {F : Type 0} → CallError F → World → ℕ → Call → Type 0
 HasNone (Refused r) world session c = decision limits_written world session c ≡ Err r
 HasNone Memory world session c = MayLack world session c
 HasNone (View f) world session c = MayLack world session c
 
--- what a call comes to
+-- the outcome of a call
 abbrev pub Decides : {F : Type 0} → World → ℕ → Call → Result Outcome (CallError F) → Type 0
 Decides world session c (Ok o) = decision limits_written world session c ≡ Ok o
 Decides world session c (Err e) = HasNone e world session c

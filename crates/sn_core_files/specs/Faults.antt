@@ -1,4 +1,4 @@
--- Why a call has no outcome, from why a decision or a look-up has none, and what is so of a fault of the view.
+-- Why a call has no outcome, from why a decision or a look-up has none, and what holds of a fault of the view.
 use Rattle.std.specs.Prelude.{Result, Ok, Err}
 use Rattle.sn_walk.specs.declared.fault.Failure.{Failure}
 use Rattle.sn_walk.specs.declared.fault.Failure.TheVariants as failure
@@ -22,7 +22,7 @@ abbrev pub error_of : {F : Type 0} → FileFault F → CallError F
 error_of fault.Memory = Memory
 error_of (fault.View f) = View f
 
--- what is so of the view's own fault, where a look-up found one
+-- what holds of the view's own fault, where a look-up found one
 abbrev pub OfLookUp : {F : Type 0} → FileFault F → (F → Type 0) → Type 0
 OfLookUp fault.Memory P = Unit {0}
 OfLookUp (fault.View f) P = P f

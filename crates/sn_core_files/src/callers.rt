@@ -11,7 +11,7 @@ use sn_desc::Sessions;
 use sn_model::{Outcome, Refusal, Session};
 use sn_walk::Failure;
 
-/// What was decided, as what a call comes to.
+/// What was decided, as the outcome of a call.
 pub fn decided<'a, F>(
     outcome: Result<Outcome<'a>, Failure<Refusal, F>>,
 ) -> Result<Outcome<'a>, CallError<F>>

@@ -1,4 +1,4 @@
-//! What the calls on files come to: beside the tests of the session and of the arguments those of the
+//! The outcomes of the calls on files: besides the tests of the session and of the arguments those of the
 //! descriptor, and what `sn_core_decide` decides over names.
 ghost use Rattle.std.specs.Prelude.{◌≡◌, ◌<◌, ◌≤◌, ◌+◌, IsTrue, length, take, drop, IfOk, IfErr};
 ghost use Rattle.sn_limits.specs.Versions.{limits_written};
@@ -39,7 +39,7 @@ fn end_of(offset: u64, count: u64) -> Result<u64, Refusal>
     }
 }
 
-/// What a write of some bytes comes to.
+/// The outcome of a write of some bytes.
 #[tactic(auto, unfolding(sn_model::specs::FileCalls::write_some))]
 fn write_some<'a>(
     fd: u32,
@@ -66,7 +66,7 @@ fn write_some<'a>(
     })
 }
 
-/// What logout comes to: all descriptors of the session are closed, and its number is free.
+/// The outcome of logout: all descriptors of the session are closed, and its number is free.
 pub fn decide_logout(sessions: &Sessions, session: u32) -> Result<Outcome<'static>, Refusal>
     ensures { (world : World) → Answers (λ o. o) result (decision limits_written (in_world (in_use_of sessions.now) world) session call.Logout) }
 {
@@ -74,8 +74,8 @@ pub fn decide_logout(sessions: &Sessions, session: u32) -> Result<Outcome<'stati
     Ok(asks(Caller::LogsOut, Reply::Done))
 }
 
-/// What unlink comes to: the name goes, and the file once nobody has it open (POSIX.1-2017 `unlink`). It asks for write
-/// and search in the directory, and by a sticky one for an owner.
+/// The outcome of unlink: the name goes, and the file once nobody has it open (POSIX.1-2017
+/// `unlink`). It needs write and search in the directory, and in a sticky one ownership.
 pub fn decide_unlink<'a, V: FileView>(
     view: &mut V,
     sessions: &Sessions,
@@ -94,8 +94,8 @@ pub fn decide_unlink<'a, V: FileView>(
     decided(decide::unlink(&Limits::WRITTEN, view, caller, &path))
 }
 
-/// What open comes to: a descriptor for a file that is there, or for one that is made (POSIX.1-2017 `open`). The rights
-/// that the flags name are asked for here, once for all reads and writes through it. EMFILE comes behind the tests of the
+/// The outcome of open: a descriptor for a file that is there, or for one that is made (POSIX.1-2017 `open`). The rights
+/// that the flags name are asked for here, once for all reads and writes through it. EMFILE comes after the tests of the
 /// arguments, and before a name is looked up.
 ///
 /// Proved, also of `decide_close`, `decide_read`, `decide_write`, `decide_seek`, `decide_ftruncate`, `decide_unlink` and
@@ -124,8 +124,8 @@ pub fn decide_open<'a, V: FileView>(
     decided(decide::open(&Limits::WRITTEN, view, caller, fd, &path, flags, mode))
 }
 
-/// What close comes to: the descriptor goes, and with the last one of a file without names the file (POSIX.1-2017 `close`).
-/// EBADF comes where the session has no such descriptor.
+/// The outcome of close: the descriptor goes, and with the last one of a file without names the
+/// file (POSIX.1-2017 `close`). EBADF is returned where the session has no such descriptor.
 #[tactic(auto, unfolding(sn_model::specs::FileCalls::close_outcome))]
 pub fn decide_close(sessions: &Sessions, session: u32, fd: u32) -> Result<Outcome<'static>, Refusal>
     ensures { (world : World) → Answers (λ o. o) result (decision limits_written (in_world (in_use_of sessions.now) world) session (call.Close fd)) }
@@ -135,7 +135,7 @@ pub fn decide_close(sessions: &Sessions, session: u32, fd: u32) -> Result<Outcom
     Ok(asks(Caller::Closes { fd }, Reply::Done))
 }
 
-/// What a read from an open file comes to.
+/// The outcome of a read from an open file.
 fn reads<V: FileView>(
     alloc: Global,
     view: &mut V,
@@ -159,9 +159,9 @@ fn reads<V: FileView>(
     ))
 }
 
-/// What read comes to: so many bytes from the descriptor's offset on, or as many as there are before the end of the file,
-/// which it moves past (POSIX.1-2017 `read`). The file's own rights aren't asked for again. EBADF comes where the session
-/// has no such descriptor, or has it not for reading.
+/// The outcome of read: so many bytes from the descriptor's offset on, or as many as there are before the end of the file,
+/// which it moves past (POSIX.1-2017 `read`). The file's own rights aren't asked for again. EBADF is returned where the
+/// session has no such descriptor, or it isn't open for reading.
 #[tactic(auto, unfolding(sn_model::specs::FileCalls::read_outcome))]
 pub fn decide_read<V: FileView>(
     alloc: Global,
@@ -200,9 +200,9 @@ fn write_offset<V: FileView>(view: &mut V, file: &OpenFile) -> Result<u64, V::Fa
     }
 }
 
-/// What write comes to: the bytes stand from the descriptor's offset on, or behind the end of a file that is appended to,
-/// and the offset moves past them (POSIX.1-2017 `write`). No bytes change nothing. EBADF comes where the session has no such
-/// descriptor, or has it not for writing; EFBIG where they would end behind the largest file, and then none is written.
+/// The outcome of write: the bytes are put at the descriptor's offset, or at the end of a file that is appended to, and the
+/// offset moves past them (POSIX.1-2017 `write`). A write of no bytes changes nothing. EBADF is returned where the session has no
+/// such descriptor, or it isn't open for writing; EFBIG where they would end past the largest file, and then none is written.
 #[tactic(auto, unfolding(sn_model::specs::FileCalls::write_outcome))]
 pub fn decide_write<'a, V: FileView>(
     view: &mut V,
@@ -231,8 +231,9 @@ pub fn decide_write<'a, V: FileView>(
     Ok(write_some(fd, file.number, offset, bytes)?)
 }
 
-/// What seek comes to: the descriptor's offset, counted from the beginning of the file, which may lie behind its end
-/// (POSIX.1-2017 `lseek`). EBADF comes where the session has no such descriptor, EINVAL behind the largest file.
+/// The outcome of seek: the descriptor's offset, counted from the beginning of the file, which may
+/// lie past its end (POSIX.1-2017 `lseek`). EBADF is returned where the session has no such
+/// descriptor, EINVAL past the largest file.
 #[tactic(auto, unfolding(sn_model::specs::FileCalls::seek_outcome))]
 pub fn decide_seek(
     sessions: &Sessions,
@@ -250,8 +251,9 @@ pub fn decide_seek(
     Ok(asks(Caller::Moves { fd, offset }, Reply::Number(offset)))
 }
 
-/// What ftruncate comes to: the file has this size, with zeros where it gets longer (POSIX.1-2017 `ftruncate`). EBADF comes
-/// where the session has no such descriptor, or has it not for writing; EFBIG where the size is above the largest file's.
+/// The outcome of ftruncate: the file has this size, with zeros where it gets longer (POSIX.1-2017 `ftruncate`). EBADF is
+/// returned where the session has no such descriptor, or it isn't open for writing; EFBIG where the size is above the largest
+/// file's.
 #[tactic(auto, unfolding(sn_model::specs::FileCalls::ftruncate_outcome))]
 pub fn decide_ftruncate(
     sessions: &Sessions,

@@ -29,7 +29,7 @@ impl<F> From<AllocError> for FileFault<F> {
 pub enum CallError<F> {
     /// A test refuses it.
     Refused(Refusal),
-    /// Memory for what it tells was refused.
+    /// Memory for its answer was refused.
     Memory,
     /// The view found a fault of its own, so that a test wasn't made or an answer not read.
     View(F),

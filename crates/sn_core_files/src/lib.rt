@@ -1,15 +1,15 @@
-//! What the calls on files come to, over the sessions and any view of the trees, whose look-ups may fail.
+//! The outcomes of the calls on files, over the sessions and any view of the trees, whose look-ups may fail.
 //!
-//! A call's tests are made in their order, as `sn_model` lists them: those of the session and of the arguments, that of
-//! the descriptor, and over what the view shows those of `sn_core_decide`. The answer is the call's outcome, its first
-//! refusal, or why there is neither ([`CallError`]): memory for what it tells was refused, or the view found a fault.
-//! Both come only once session and arguments have passed. Nothing is changed. `sn_core_calls` has the other calls, and
-//! one function over all of them.
+//! A call's tests are run in their order, as `sn_model` lists them: those of the session and of the arguments, that of the
+//! descriptor, and over what the view shows those of `sn_core_decide`. The answer is the call's outcome, its first
+//! refusal, or why there is neither ([`CallError`]): memory for its answer was refused, or the view found a fault. Both
+//! come only once session and arguments have passed. Nothing is changed. `sn_core_calls` has the other calls, and one
+//! function over all of them.
 //!
-//! [`FileView`] is what calls ask of the trees beside what decisions ask. The way through:
+//! [`FileView`] is what calls ask of the trees besides what decisions ask. The way through:
 //!
 //! 1. `specs/Shown`: when sessions and a view show a world.
-//! 2. `specs/Decided`: what a call comes to there, or why it has no outcome; `specs/Faults` has the causes.
+//! 2. `specs/Decided`: the outcome of a call there, or why it has none; `specs/Faults` has the causes.
 //! 3. `view` and `fault`: the look-ups, and why they or a call have no answer.
 //! 4. `callers`: who calls; `deciding_files`: each call.
 //!

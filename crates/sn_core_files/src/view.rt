@@ -5,10 +5,10 @@ use sn_model::Names;
 use sn_walk::{Home, Object};
 use std::alloc::Global;
 
-/// What calls ask of the trees beside what decisions ask: the bytes of files, the names that a directory is
+/// What calls ask of the trees besides what decisions ask: the bytes of files, the names that a directory is
 /// listed with, and how many files of a snapshot have none.
 ///
-/// Proved: What calls ask of a tree beside what decisions ask: how many bytes a file has, those from an offset on, the names
+/// Proved: What calls ask of a tree besides what decisions ask: how many bytes a file has, those from an offset on, the names
 /// that a directory is listed with, and how many files of a snapshot have no name.
 pub trait FileView: MoveView {
     ghost use Rattle.std.specs.Prelude.{◌≡◌, ℕ, ◌+◌, ◌<◌, ◌^◌, IsTrue, IfOk, IfErr, List, length, take, drop};

@@ -1,4 +1,4 @@
-//! What the calls on a node that a path names come to: beside the tests of the session and of the arguments, what
+//! The outcomes of the calls on a node that a path names: besides the tests of the session and of the arguments, what
 //! `sn_core_decide` and `sn_core_access` decide over a view of the trees.
 ghost use Rattle.std.specs.Prelude.{◌≡◌, IsTrue};
 ghost use Rattle.sn_model.specs.declared.call.Call.TheVariants as call;
@@ -17,7 +17,8 @@ use sn_limits::Limits;
 use sn_model::{Access, AclKind, Caller, Outcome, Reply, StoredAcl, Word};
 use std::alloc::Global;
 
-/// What mkdir comes to: a new directory, where the caller may write (POSIX.1-2017 `mkdir`). EINVAL comes for a mode above 01777.
+/// The outcome of mkdir: a new directory, where the caller may write (POSIX.1-2017 `mkdir`). EINVAL is returned for a mode above
+/// 01777.
 ///
 /// Proved, also of `decide_stat`, `decide_access`, `decide_chmod`, `decide_chown`, `decide_getacl` and `decide_setacl`: The
 /// outcome of a call on a node that a path names, or its first refusal, is the model's, over each view of files.
@@ -41,7 +42,7 @@ pub fn decide_mkdir<'a, V: FileView>(
     decided(decide::mkdir(&Limits::WRITTEN, view, caller, &path, mode))
 }
 
-/// What chmod comes to: what the owner and user 0 may set of the mode (POSIX.1-2017 `chmod`).
+/// The outcome of chmod: what the owner and user 0 may set of the mode (POSIX.1-2017 `chmod`).
 pub fn decide_chmod<V: FileView>(
     view: &mut V,
     sessions: &Sessions,
@@ -62,7 +63,7 @@ pub fn decide_chmod<V: FileView>(
     decided(access::chmod(&Limits::WRITTEN, view, caller, &path, bits))
 }
 
-/// What chown comes to: another owner by user 0 alone, another group by its members (POSIX.1-2017 `chown`).
+/// The outcome of chown: another owner by user 0 alone, another group by its members (POSIX.1-2017 `chown`).
 pub fn decide_chown<V: FileView>(
     view: &mut V,
     sessions: &Sessions,
@@ -85,7 +86,7 @@ pub fn decide_chown<V: FileView>(
     decided(access::chown(&Limits::WRITTEN, view, caller, &path, uid, gid))
 }
 
-/// What stat comes to: what is known of a node (POSIX.1-2017 `stat`).
+/// The outcome of stat: what is known of a node (POSIX.1-2017 `stat`).
 pub fn decide_stat<'a, V: FileView>(
     view: &mut V,
     sessions: &Sessions,
@@ -104,7 +105,7 @@ pub fn decide_stat<'a, V: FileView>(
     decided(decide::stat(view, caller, &path))
 }
 
-/// What access comes to: it passes where the ACL grants all that is wanted (POSIX.1-2017 `access`, acl(5)).
+/// The outcome of access: it passes where the ACL grants all that is wanted (POSIX.1-2017 `access`, acl(5)).
 pub fn decide_access<V: FileView>(
     view: &mut V,
     sessions: &Sessions,
@@ -124,7 +125,7 @@ pub fn decide_access<V: FileView>(
     decided(access::access(view, caller, &path, want))
 }
 
-/// What getacl comes to: an ACL of a node (acl(5)). `Memory` comes where there is none for its text.
+/// The outcome of getacl: an ACL of a node (acl(5)). `Memory` is returned where there is none for its text.
 pub fn decide_getacl<V: FileView>(
     alloc: Global,
     view: &mut V,
@@ -147,7 +148,7 @@ pub fn decide_getacl<V: FileView>(
     Ok(asks(Caller::Stays, told))
 }
 
-/// What setacl comes to: the owner or user 0 sets an ACL of a node (acl(5)).
+/// The outcome of setacl: the owner or user 0 sets an ACL of a node (acl(5)).
 pub fn decide_setacl<V: FileView>(
     view: &mut V,
     sessions: &Sessions,

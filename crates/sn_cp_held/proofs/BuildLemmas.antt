@@ -126,7 +126,7 @@ reached_among s root block k by =
     (λ more. Contains-append_right (reach s root.inode_file) (frozen_reach s root.snapshots) block (frozen_has s root.snapshots (record { bit = k; inodes = by.inodes }) more block by.reached))
     (first_or_more live (map frozen_root root.snapshots) (record { bit = k; inodes = by.inodes }) by.among)
 
--- what its bit tells is reached by a root
+-- what its bit names is reached by a root
 pub rooted_reached : (s : Store) (root : RootBody) → IsRootBody root → (k : Rooted) → Contains (rooted_in root) k → (block : ℕ) → IsReachedBy s (rooted_in root) block k.bit → Contains (reach s k.inodes) block
 rooted_reached s root body k among block by = subst (λ (y : Rooted). Contains (reach s y.inodes) block) (one_root root body (record { bit = k.bit; inodes = by.inodes }) k by.among among refl) by.reached
 
@@ -178,7 +178,7 @@ module _ (n : ℕ) (s : Store) (root : RootBody) (words : List ℕ) (file : Bloc
     live_sound : IsSound root.limits n r next.inode_file
     live_sound = subst (IsSound root.limits n r) (sym of.inode_file) frozen.sound
 
-    -- bit 0 tells what the new inode file reaches
+    -- bit 0 says what the new inode file reaches
     live_told : (block : ℕ) → (bit_at (slice_index built.map block) 0 ≡ 1) ↔ Contains (reach r next.inode_file) block
     live_told block = (
       λ is. subst (λ (f : BlockTree). Contains (reach r f) block) (sym of.inode_file) ((frozen.bits block).0 is),

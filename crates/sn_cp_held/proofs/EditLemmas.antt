@@ -1,4 +1,5 @@
--- What a point that is asked for makes of the snapshots of a root: of each bit, its root and what the words of the map tell of it, and of the trees that they stand for.
+-- What a point that is asked for makes of the snapshots of a root: of each bit, its root and what the words of the map
+-- say of it, and of the trees that they denote.
 use Rattle.std.proofs.Common.{◌≡◌, ◌≢◌, ◌⊎◌, inl, inr, ⊎_elim, ◌↔◌, ℕ, zero, suc, ◌<◌, ◌==◌, nat_le, nat_lt, true, false, not, ◌&&◌, List, [], ◌∷◌, length, map, slice_index, Contains, refl, sym, ap, subst, ◌∙◌, arith}
 use Rattle.std.specs.FinMap as fin
 use Rattle.std.specs.Int.{bit_at}
@@ -195,7 +196,7 @@ module _ (name : List ℕ) where
       (λ more. others_each ys x more other)
       at)
 
--- with the one that goes, whose name and bit no other has
+-- with the one that is deleted, whose name and bit no other has
 module _ (root next : RootBody) (name : List ℕ) (bit : ℕ) (is : IsCatalogue root.snapshots) (less : HasOneLess name bit root next) (k : ℕ) where
   -- a snapshot that is left has another name
   record IsLeft (inodes : BlockTree) : Type 0 where
@@ -230,18 +231,18 @@ module _ (root next : RootBody) (name : List ℕ) (bit : ℕ) (is : IsCatalogue 
 
 -- ---- what becomes of a bit
 
--- The snapshot that has it stays, and the words tell of it what they told.
+-- The snapshot that has it stays, and the words say of it what they said.
 pub record BitStays (words new : List ℕ) (root next : RootBody) (k : ℕ) : Type 0 where
   pub told : (block : ℕ) → bit_at (slice_index new block) k ≡ bit_at (slice_index words block) k
   pub roots : (inodes : BlockTree) → HasRoot next.snapshots k inodes ↔ HasRoot root.snapshots k inodes
 
--- It is that of a new snapshot, which has the inode file that follows, and the words tell of it what they tell of the live tree.
+-- It is that of a new snapshot, which has the inode file that follows, and the words say of it what they say of the live tree.
 pub record BitIsMade (new : List ℕ) (next : RootBody) (k : ℕ) : Type 0 where
   pub told : (block : ℕ) → bit_at (slice_index new block) k ≡ bit_at (slice_index new block) 0
   pub among : HasRoot next.snapshots k next.inode_file
   pub alone : (inodes : BlockTree) → HasRoot next.snapshots k inodes → inodes ≡ next.inode_file
 
--- No snapshot has it, and it stands in no word.
+-- No snapshot has it, and it is in no word.
 pub record BitGoes (new : List ℕ) (next : RootBody) (k : ℕ) : Type 0 where
   pub told : (block : ℕ) → bit_at (slice_index new block) k ≡ 0
   pub none : (inodes : BlockTree) → ¬ HasRoot next.snapshots k inodes
@@ -306,7 +307,7 @@ module _ (words new : List ℕ) (root next : RootBody) (k : ℕ) (other : k ≢ 
 
 -- ---- what is asked for
 
--- each bit of a snapshot stays, is the new one's, or goes
+-- each bit of a snapshot stays, is the new one's, or is deleted
 pub each_bit : (asked : AskedPoint) (bit : ℕ) (words new : List ℕ) (root next : RootBody) → IsRootBody root → FollowsBy asked bit root next → edits.IsEdited (edit_for asked bit) words new → (k : ℕ) → k ≢ 0 → Becomes words new root next k
 each_bit Unasked bit words new root next body follows edited k other = with_none words new root next k other follows edited
 each_bit Plain bit words new root next body follows edited k other = with_none words new root next k other follows edited
@@ -326,7 +327,7 @@ begins_among (Thaws name) bit root file is = live_among root file is
 begins_among (Restores name) bit root file among =
     more_among (record { bit = 0; inodes = root.inode_file }) (map frozen_root root.snapshots) (record { bit = bit; inodes = file }) (root_among root.snapshots (record { bit = bit; name = name; tree = file }) among)
 
--- built for the live tree behind it, the trees are those behind it
+-- built for the live tree after it, the trees are those after it
 pub built_behind : (asked : AskedPoint) (trees : Trees) → trees_built asked (live_behind asked trees) trees.frozen ≡ trees_behind asked trees
 built_behind Unasked trees = refl
 built_behind Plain trees = refl
@@ -334,7 +335,7 @@ built_behind (Freezes name) trees = refl
 built_behind (Thaws name) trees = refl
 built_behind (Restores name) trees = refl
 
--- the trees that its snapshots stand for, where its inode file is of this live tree
+-- the trees that its snapshots denote, where its inode file is of this live tree
 pub frozen_follow : (asked : AskedPoint) (bit : ℕ) (s r : Store) (root next : RootBody) (live : Tree) → SameIn (all_reach s root) s r → FollowsBy asked bit root next → image r next.inode_file ≡ live
     → frozen_of r next.snapshots ≡ frozen_behind asked live (frozen_of s root.snapshots)
 frozen_follow Unasked bit s r root next live same follows tree = ap (frozen_of r) follows ∙ sym (frozen_stay s r root same)

@@ -71,7 +71,7 @@ numbers_within [] fits k = omega arith
 numbers_within (w ∷ ws) fits zero = omega (arith, fits.0)
 numbers_within (w ∷ ws) fits (suc k) = numbers_within ws fits.1 k
 
--- the bit of a root in a sound root's words tells what it reaches
+-- the bit of a root in a sound root's words says what it reaches
 tells_reach : (n : ℕ) (s : Store) (root : RootBody) (words : List ℕ) → IsRootBody root → length words ≡ n → IsSoundRoot n s root (slice_index words) → (k : Rooted) → Contains (rooted_in root) k → TellsBit k.bit words (reach s k.inodes)
 tells_reach n s root words body count sound k has block = told (nat_le n block) refl
   where
@@ -91,7 +91,7 @@ tells_reach n s root words body count sound k has block = told (nat_le n block) 
           λ among. bits.1 (record { inodes = k.inodes; among = has; reached = among }),
         )
 
--- ---- a root that stands, and an inode file of it with this bit
+-- ---- a root that is there, and an inode file of it with this bit
 
 module _ (n : ℕ) (c : Contents) (world : World) (k : Kept) (file : BlockTree) (live : Tree) (first : ℕ) (has : Contains (rooted_in k.root) (record { bit = first; inodes = file })) (st : StandsOver n c world k file live) where
   abbrev s : Store
@@ -163,7 +163,7 @@ module _ (n : ℕ) (c : Contents) (world : World) (k : Kept) (file : BlockTree) 
 pub kept_can_be_built : (n : ℕ) (c : Contents) (world : World) (k : Kept) → StandsKept n c world k → CanBeBuilt n (store_of c) k
 kept_can_be_built n c world k st = over_can_be_built n c world k k.root.inode_file world.live 0 (live_among k.root k.root.inode_file refl) st
 
--- ---- what is built over one that a point begins from, for the live tree behind it
+-- ---- what is built over one that a point begins from, for the live tree after it
 
 module _ (n : ℕ) (c : Contents) (world : World) (k : Kept) (file : BlockTree) (live : Tree) (st : StandsOver n c world k file live) (kind : PointKind) (asked : AskedPoint) (bit : ℕ) (built : Built) (next : RootBody) (x : IsBuiltOf n c kind k file asked bit built next) (leads : live ≡ live_behind asked (trees_of world)) where
   abbrev first : ℕ
@@ -209,7 +209,7 @@ module _ (n : ℕ) (c : Contents) (world : World) (k : Kept) (file : BlockTree) 
     snapshots = x.snapshots;
   }
 
-  -- the trees that what changed and the snapshots stand for
+  -- the trees that what changed and the snapshots denote
   trees_are : trees_built asked (through k.changed (image before file)) (frozen_of before k.root.snapshots) ≡ trees_behind asked (trees_of world)
   trees_are = (λ i. trees_built asked ((st.changed.shows ∙ leads) i) ((sym st.frozen) i)) ∙ built_behind asked (trees_of world)
 

@@ -49,7 +49,7 @@ use Rattle.sn_cp_held.proofs.LiveLemmas.{of_asked, ready_can_be_built}
 
 -- ---- what a name stands for
 
--- what is found under a name is told of a snapshot that has it
+-- what is found under a name is said of a snapshot that has it
 module _ {X : Type 0} (f : Snapshot → X) where
   pub record IsOf (snapshots : List Snapshot) (name : List ℕ) (x : X) : Type 0 where
     pub snapshot : Snapshot
@@ -93,7 +93,7 @@ module _ (h : Held) (world : World) (k : Kept) (rr : RunsReady h world k) (layer
   has : Contains (rooted_in r.root) (record { bit = bit; inodes = file })
   has = begins_among (Restores name) bit r.root file among
 
-  -- the snapshot with the name stands for the frozen tree
+  -- the snapshot with the name denotes the frozen tree
   is_frozen : image r.store file ≡ can.tree
   is_frozen =
       let tree_of : Snapshot → Tree = λ x. image r.store x.tree in

@@ -61,12 +61,13 @@ pub record IsOfBuild (n : ℕ) (s : Store) (root : RootBody) (words : List ℕ) 
   pub inode_file : next.inode_file ≡ built.inode_file
   pub snapshots : FollowsBy asked bit root next
 
--- Another root can follow on one on which changes will be logged. On a root that is recovered nothing is.
+-- Another root can follow on this one, on which changes will be logged. On the root of a recovery none are.
 abbrev pub LeavesAge : PointKind → RootBody → Type 0
 LeavesAge Ordinary next = HasAgeLeft next
 LeavesAge Recovery next = Unit {0}
 
--- What `build` tells of a tree over an inode file on a disk of n blocks with these contents, and the root that follows on it under the written limits, with the new inode file, for a point of this kind that makes of the snapshots what is asked for.
+-- What `build` says of a tree over an inode file on a disk of n blocks with these contents, and the root that follows on it under the
+-- written limits, with the new inode file, for a point of this kind that makes of the snapshots what is asked for.
 pub record IsBuiltOf (n : ℕ) (c : Contents) (kind : PointKind) (k : Kept) (file : BlockTree) (asked : AskedPoint) (bit : ℕ) (built : Built) (next : RootBody) : Type 0 where
   pub begins : BeginsFrom asked bit k.root file
   pub well : IsWellBuilt n k.root.limits k.words k.changed (edit_for asked bit) built
@@ -82,7 +83,7 @@ pub record IsBuiltOf (n : ℕ) (c : Contents) (kind : PointKind) (k : Kept) (fil
 abbrev pub over_layer : Layer → Kept → Kept
 over_layer layer k = record k { changed = layer }
 
--- the point that writes it into the other slot, whose gate is so
+-- the point that writes it into the other slot, whose gate is this
 abbrev pub work_for : ℕ → Kept → Gate → Built → RootBody → Work
 work_for n k gate built next = record { blocks = n; slot = other_slot k.slot; gate = gate; plan = plan_of built next }
 
@@ -95,42 +96,47 @@ abbrev pub BuildsAreOfLive : Type 0
 BuildsAreOfLive = (h : Held) (world : World) (k : Kept) (gate : Gate) (asked : AskedPoint) (bit : ℕ) (built : Built) (next : RootBody) (r : RunsReady h world k) → KeepsLive asked → IsBuiltOf h.at.blocks (reads h.disk) Ordinary k k.root.inode_file asked bit built next
     → IsOfLive h world r.runs asked (work_for h.at.blocks k gate built next) (room_behind h.at.blocks built)
 
--- So is one of the tree of a snapshot that is brought back, without its files without names, where these are charged as ones that were dropped. What changed since the root is of no account.
+-- So is one of the tree of a snapshot that is brought back, without its files without names, where these are charged as ones that were
+-- dropped. What changed since the root doesn't matter.
 abbrev pub RestoresAreOfLive : Type 0
 RestoresAreOfLive = (h : Held) (world : World) (k : Kept) (layer : Layer) (name : List ℕ) (file : BlockTree) (gate : Gate) (bit : ℕ) (built : Built) (next : RootBody) (r : RunsReady h world k) (can : CanBeRestored name layer h.room world) → nameless_in can.tree ≤ h.room.dropped
     → IsBuiltOf h.at.blocks (reads h.disk) Ordinary (over_layer layer k) file (Restores name) bit built next
     → IsOfLive h world r.runs (Restores name) (work_for h.at.blocks k gate built next) (room_behind h.at.blocks built)
 
--- What `build` asks of a sound inode file, so that it is never damaged, nor too little free: the layer lies over its ground, the map tells in this bit what it reaches, and what changed needs no more than is free.
+-- What `build` needs of a sound inode file so that nothing is damaged, and enough is free: the layer lies over its ground, the map says in
+-- this bit what it reaches, and what changed needs no more than is free.
 pub record CanBeBuiltOver (n : ℕ) (s : Store) (k : Kept) (file : BlockTree) (bit : ℕ) : Type 0 where
   pub ground : IsGround k.root.limits n s file k.changed
   pub tells : TellsBit bit k.words (reach s file)
   pub fits : need k.root.limits k.changed ≤ free_data k.words (start_of n Data)
 
--- over the root's own, which bit 0 tells of
+-- over the root's own, which bit 0 describes
 abbrev pub CanBeBuilt : ℕ → Store → Kept → Type 0
 CanBeBuilt n s k = CanBeBuiltOver n s k k.root.inode_file 0
 
--- So it is of a mount's live tree.
+-- It holds for a mount's live tree.
 abbrev pub BuildsHaveRoom : Type 0
 BuildsHaveRoom = (h : Held) (world : World) (k : Kept) → RunsReady h world k → CanBeBuilt h.at.blocks (store_of (reads h.disk)) k
 
--- And of a snapshot that can be brought back.
+-- And for a snapshot that can be brought back.
 abbrev pub RestoresHaveRoom : Type 0
 RestoresHaveRoom = (h : Held) (world : World) (k : Kept) (layer : Layer) (name : List ℕ) (file : BlockTree) (bit : ℕ) → RunsReady h world k → CanBeRestored name layer h.room world → BeginsFrom (Restores name) bit k.root file
     → CanBeBuiltOver h.at.blocks (store_of (reads h.disk)) (over_layer layer k) file bit
 
--- It is what a point needs: its blocks lie in the data area, none that a root reaches, the snapshots' too, and wherever they stand the next root denotes the tree that is seen through the layer, and is sound, and its snapshots stand for the frozen trees that are asked for.
+-- It is what a point needs: its blocks lie in the data area, none that a root reaches, the snapshots' too, and in any store that
+-- has them and what the root reaches the next root denotes the tree that is seen through the layer, and is sound, and its
+-- snapshots denote the frozen trees that are asked for.
 abbrev pub BuildsAreBuilt : Type 0
 BuildsAreBuilt = (n : ℕ) (s : Store) (root : RootBody) (words : List ℕ) (file : BlockTree) (layer : Layer) (asked : AskedPoint) (bit : ℕ) (built : Built) (next : RootBody) → IsOfBuild n s root words file layer asked bit built next
     → IsBuilt n s root (trees_built asked (through layer (image s file)) (frozen_of s root.snapshots)) (plan_of built next)
 
--- Wherever its blocks stand beside what the root reaches, the next root is sound with its snapshots, and the words of its map tell what they reach.
+-- In any store that has its blocks and what the root reaches, the next root is sound with its snapshots,
+-- and the words of its map say what they reach.
 abbrev pub BuildsAreSound : Type 0
 BuildsAreSound = (n : ℕ) (s : Store) (root : RootBody) (words : List ℕ) (file : BlockTree) (layer : Layer) (asked : AskedPoint) (bit : ℕ) (built : Built) (next : RootBody) → IsOfBuild n s root words file layer asked bit built next
     → (r : Store) → SameIn (all_reach s root) s r → HoldsAll r (plan_of built next).blocks → IsSoundRoot n r next (slice_index built.map)
 
--- The next root leaves free what the root left, but for the new blocks, and more where a snapshot goes.
+-- The next root leaves free what the root left, but for the new blocks, and more where a snapshot is deleted.
 abbrev pub BuildsLeaveRoom : Type 0
 BuildsLeaveRoom = (n : ℕ) (s : Store) (root : RootBody) (words : List ℕ) (file : BlockTree) (layer : Layer) (asked : AskedPoint) (bit : ℕ) (built : Built) (next : RootBody) → IsOfBuild n s root words file layer asked bit built next
     → (r : Store) → SameIn (all_reach s root) s r → HoldsAll r (plan_of built next).blocks → free_blocks n s root ≤ free_blocks n r next + length built.blocks.items

@@ -1,4 +1,4 @@
--- What a point that is asked for makes of the snapshots of a root, and of the trees that these and its live root stand for.
+-- What a point that is asked for makes of the snapshots of a root, and of the trees that these and its live root denote.
 use Rattle.std.specs.Prelude.{◌≡◌, ℕ, List, Option, None, Some, Contains}
 use Rattle.std.specs.FinMap as map
 use Rattle.sn_layout.specs.declared.root.RootBody.{RootBody}
@@ -57,7 +57,7 @@ FollowsBy (Freezes name) bit root next = HasOneMore name bit root next
 FollowsBy (Thaws name) bit root next = HasOneLess name bit root next
 FollowsBy (Restores name) bit root next = next.snapshots ≡ root.snapshots
 
--- the frozen trees behind it, where the live tree is this
+-- the frozen trees after it, where the live tree is this
 abbrev pub frozen_behind : AskedPoint → Tree → FrozenTrees → FrozenTrees
 frozen_behind Unasked live frozen = frozen
 frozen_behind Plain live frozen = frozen
@@ -70,7 +70,7 @@ abbrev pub brought_back : Option Tree → Tree → Tree
 brought_back None live = live
 brought_back (Some tree) live = settled tree
 
--- the live tree behind it
+-- the live tree after it
 abbrev pub live_behind : AskedPoint → Trees → Tree
 live_behind Unasked trees = trees.live
 live_behind Plain trees = trees.live

@@ -40,17 +40,22 @@ use Rattle.sn_cp.specs.Points.{Work}
 use Rattle.sn_cp.specs.Steps.{IsWhole}
 use Rattle.sn_cp_held.specs.Snapshots.{live_behind, trees_behind}
 
--- The next root follows on this one by a point of this kind: of the next generation, so many epochs later, and under the written limits.
+-- The next root follows on this one by a point of this kind: of the next generation, as many epochs later
+-- as the kind says, and under the written limits.
 pub record IsFollowing (kind : PointKind) (root next : RootBody) : Type 0 where
   pub generation : next.generation ≡ root.generation + 1
   pub epoch : next.epoch ≡ root.epoch + epochs_of kind
   pub limits : next.limits ≡ limits_written
 
--- A root that leaves so many blocks free takes no more of them than was charged, with a charge for each file that was dropped, before its point began.
+-- A root that leaves this many blocks free takes no more of them than was charged, with a charge for each
+-- file that was dropped, before its point began.
 abbrev pub TakesNoMore : ℕ → RoomCounts → Type 0
 TakesNoMore free room = room.free + room.charged_since + limits_written.inode_charge * room.dropped_since ≤ free + room.charged + limits_written.inode_charge * room.dropped
 
--- The point was built of the live tree, or of that of a snapshot that is brought back, with the snapshots that are asked for, for the slot that doesn't count: wherever its blocks stand beside what the root reaches, its root is sound with its snapshots and its map, and what is kept of the room is charged of it. It takes no more than was charged. It has an age left. The live tree behind it is a name tree.
+-- The point was built from the live tree, or from that of a snapshot that is brought back, with the snapshots that are
+-- asked for, for the slot that doesn't count: in any store that has its blocks and what the root reaches, its root is sound
+-- with its snapshots and its map, and what is kept of the room is charged of it. It takes no more than was charged. It has
+-- an age left. The live tree after it is a name tree.
 pub record IsOfLive (h : Held) (world : World) (r : Runs h world) (asked : AskedPoint) (w : Work) (room : RoomCounts) : Type 0 where
   pub whole : IsWhole w
   pub blocks : w.blocks ≡ h.at.blocks
@@ -70,7 +75,8 @@ pub record CanBeRestored (name : List ℕ) (layer : Layer) (room : RoomCounts) (
   pub drops : HasChanged limits_written layer tree (settled tree) 0
   pub fits : limits_written.inode_charge * nameless_in tree ≤ room.free
 
--- What no step of a point touches, on a disk of so many blocks: the superblock, the map of the slot that counts, the half of the root's epoch, which begins with no record of a later one, and that of the next, which is ready for its first.
+-- What no step of a point touches, on a disk of this many blocks: the superblock, the map of the slot that counts, the half of the root's
+-- epoch, which begins with no record of a later one, and that of the next, which is ready for its first.
 pub record StandsAround (n : ℕ) (slot : Slot) (words : List ℕ) (epoch : ℕ) (c : Contents) : Type 0 where
   pub disk : IsDisk n c
   pub formatted : block_at c 0 ≡ superblock_bytes (record { geometry = n })
@@ -83,7 +89,9 @@ pub record HasBegun (h : Held) (world : World) (r : Runs h world) (d : Disk) : T
   pub shows : Always d (Shows h.at.blocks r.store r.slot r.root r.older [])
   pub around : Always d (StandsAround h.at.blocks r.slot r.words r.root.epoch)
 
--- The root that is kept stands in these contents with its records, sound with its map, and its snapshots stand for the world's frozen trees. A live tree, under the root's limits a name tree, is seen through what changed of the tree of an inode file. What that was charged under these, with a charge for each file that the tree of the inode file has without a name, is no more than is free.
+-- The root that is kept is in these contents with its records, sound with its map, and its snapshots denote the world's frozen trees. A
+-- live tree, under the root's limits a name tree, is seen through what changed of the tree of an inode file. What that was charged under
+-- these, with a charge for each file that the tree of the inode file has without a name, is no more than is free.
 pub record StandsOver (n : ℕ) (c : Contents) (world : World) (k : Kept) (file : BlockTree) (live : Tree) : Type 0 where
   pub store : Store
   pub older : List Change

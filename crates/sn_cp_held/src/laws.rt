@@ -29,7 +29,7 @@ pub fn build_laws()
     ensures restores_fit { RestoresHaveRoom }
 {}
 
-/// What the beginning of a point leaves of the world. What its steps leave says `sn_cp_progress`.
+/// What the beginning of a point leaves of the world. `sn_cp_progress` says what its steps leave.
 ///
 /// Proved: While a point begins, a crash at any moment leaves an image of the settled world, whatever the answer.
 pub fn begin_laws()

@@ -59,7 +59,7 @@ module _ (old new : Held) (world next : World) (p : Progress) (change : Change) 
   appends_either : LeavesEither old.at change old.disk new.disk → LeavesOnly old.disk new.disk (λ c. IsImage c (settle world) ⊎ IsImage c (settle next))
   appends_either leaves = leaves_either old new world next change tree r spelled applied of hierarchy has_room aged touched leaves
 
-  -- one more covers the live tree, over the old root and over the tree that the point was built of
+  -- one more covers the live tree, over the old root and over the tree that the point was built from
   old_cover : MakesCover limits_written (r.older ++ (r.newer ++ change ∷ [])) (image r.store r.root.inode_file) next.live
   old_cover =
       subst (λ (cs : List Change). MakesCover limits_written cs (image r.store r.root.inode_file) next.live) (append_assoc r.older r.newer (change ∷ []))

@@ -1,4 +1,4 @@
--- What is so of a mount that runs, between two points or with one in progress.
+-- What holds of a mount that runs, between two points or with one in progress.
 use Rattle.std.proofs.Common.{◌≡◌, ◌⊎◌, inl, ℕ, ◌+◌, ◌≤◌, Bool, Option, None, Some, sym, subst}
 use Rattle.sn_device.specs.Sectors.{AreSectors}
 use Rattle.sn_device.specs.Disk.{Always, IsSynced, reads}
@@ -30,7 +30,7 @@ use Rattle.sn_cp_progress.specs.Progress.{Progress, RunsOn}
 use Rattle.sn_cp_progress.proofs.CallLemmas.{appends_go_on, drops_go_on}
 
 module _ (h : Held) (world : World) where
-  -- it stands on the root that counts
+  -- it rests on the root that counts
   abbrev pub runs_with : (point : Option Going) → RunsWith point h world → Runs h world
   runs_with None ready = ready.runs
   runs_with (Some going) (built, on) = on.runs
@@ -79,7 +79,7 @@ appends_with (Some going) old new world next change tree (built, on) spelled app
       (appends_go_on old new world next (point_over going built world) change tree on spelled applied of hierarchy has_room (subst HasAgeLeft on.point.root aged) touched leaves whole at charged is no_fewer (carried old.room.charged_since) hierarchic),
 )
 
--- files without names that go
+-- files without names that are dropped
 pub drops_with : (point : Option Going) (h : Held) (world next : World) (kept since : ℕ → Bool) (count : ℕ) (base : Kept) → RunsWith point h world → IsOfTree world world.live next → nameless_in world.live ≤ nameless_in next.live + count
     → ((figure : ℕ) → CarriesOn h.base world.live figure base next.live figure) → IsTree limits_written next.live → RunsWith point (record h { world = next; kept = kept; kept_since = since; room = dropping count h.room; base = base }) next
 drops_with None h world next kept since count base ready of counted carried hierarchic = drops_ready h world next kept since count base ready of counted (carried h.room.charged) hierarchic

@@ -66,7 +66,7 @@ around_depends n slot words epoch at newer in_n in_epoch c d whole_c whole_d agr
       };
     }
 
--- the stage behind one before the last has a step
+-- the stage after one before the last has a step
 pub next_within : (w : Work) (stage : Stage) → IsWhole w → IsWithin w stage → IsBeforeOpening stage → IsWithin w (next_stage w stage)
 next_within w stage whole within before = stage_goes_on w (next_stage w stage) (stage_next w stage whole within) (never stage before)
   where
@@ -118,19 +118,19 @@ module _ {live : Tree} (h : Held) (world : World) (p : Progress) (ro : RunsTo h 
   pub one_on : r.root.epoch + 1 < 256 ^ 8
   one_on = let more = epoch_least in omega (arith, more)
 
-  -- neither half begins with a record of an epoch behind the next one
+  -- neither half begins with a record of an epoch after the next one
   pub none_behind : (bound : ℕ) → r.root.epoch + 1 ≤ bound → (c : Contents) → LiesAround n r.slot r.words r.root.epoch h.at r.newer c → (epoch : ℕ) → HasNoLater c (base_of n epoch) bound
   none_behind bound less c around = each_half n r.root.epoch (λ (b : ℕ). HasNoLater c b bound)
       (later_weaker c (base_of n r.root.epoch) r.root.epoch bound (omega (arith, less)) around.none_later)
       (ready_no_later n c h.at r.newer (r.root.epoch + 1) bound around.disk refl q.epoch less one_on around.ready)
 
-  -- where the old root is shown with its records and those behind them, the contents are an image of the settled world
+  -- where the old root is shown with its records and those after them, the contents are an image of the settled world
   pub old_image : (c : Contents) → LiesAround n r.slot r.words r.root.epoch h.at r.newer c → Shows n r.store r.slot r.root r.older r.newer c → IsImage c (settle world)
   old_image c around shows =
       image_shown n r.store r.slot r.root r.words r.older r.newer (settle world) r.older_spelled r.newer_spelled r.stands.sound (stands_for h world r) (fits_now h world r) r.age c around.disk around.formatted around.map
       (none_behind (r.root.epoch + 1) (omega arith) c around) shows
 
-  -- the point writes beside the old root
+  -- the point writes outside the old root
   pub beside : ShowsBeside w r.store r.slot r.root r.older r.newer r.newer [] h.disk
   beside =
       ordinary_show w r.store r.slot r.root r.older r.newer h.disk

@@ -65,7 +65,7 @@ AppendsLeaveEither = (old new : Held) (world next : World) (p : Progress) (chang
     → Touches (InHalf (base_at old.at)) old.disk new.disk → LeavesEither old.at change old.disk new.disk
     → LeavesOnly old.disk new.disk (λ c. IsImage c (settle world) ⊎ IsImage c (settle next))
 
--- Once its record stands, and it is charged, the mount runs over the world after it, with the point where it was.
+-- Once its record is there, and it is charged, the mount runs over the world after it, with the point where it was.
 abbrev pub AppendsGoOn : Type 0
 AppendsGoOn = (old new : Held) (world next : World) (p : Progress) (change : Change) (tree : Tree) (r : RunsOn old world p) → IsSpelled change → apply limits_written change world.live ≡ Some tree → IsOfTree world tree next → IsHierarchy world.live → HasRoomFor old.room world.live change → HasAgeLeft r.runs.root
     → Touches (InHalf (base_at old.at)) old.disk new.disk → LeavesMore old.at change old.disk new.disk → AreSectors (reads new.disk)
@@ -73,7 +73,7 @@ AppendsGoOn = (old new : Held) (world next : World) (p : Progress) (change : Cha
     → CarriesOn old.base world.live old.room.charged_since new.base next.live (old.room.charged_since + charge_for limits_written world.live change) → IsTree limits_written next.live
     → RunsOn new next p
 
--- Files without names that go, and what becomes of sessions, change nothing of the disk nor of the point.
+-- Files without names that are dropped, and what becomes of sessions, change nothing of the disk nor of the point.
 abbrev pub DropsGoOn : Type 0
 DropsGoOn = (h : Held) (world next : World) (p : Progress) (kept since : ℕ → Bool) (count : ℕ) (base : Kept) → RunsOn h world p → IsOfTree world world.live next → nameless_in world.live ≤ nameless_in next.live + count
     → CarriesOn h.base world.live h.room.charged_since base next.live h.room.charged_since → IsTree limits_written next.live

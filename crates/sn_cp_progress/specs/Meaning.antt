@@ -15,7 +15,7 @@ use Rattle.sn_cp_progress.specs.Progress.{Progress, RunsOn}
 abbrev pub EitherImage : World → World → Contents → Type 0
 EitherImage world after c = IsImage c (settle world) ⊎ IsImage c (settle after)
 
--- a point in progress, of the trees that it was built of
+-- a point in progress, with the trees that it was built from
 abbrev pub progress_over : Going → Trees → Progress
 progress_over going trees = record { work = going.work; stage = going.stage; trees = trees; free = going.free }
 
@@ -24,7 +24,8 @@ abbrev pub RunsWith : Option Going → Held → World → Type 0
 RunsWith None h world = RunsReady h world h.base
 RunsWith (Some going) h world = (built : Tree) × RunsOn h world (progress_over going (record { live = built; frozen = world.frozen }))
 
--- One that runs does so over this world. One that a failure has stopped knows of its disk alone, that the next mount finds one of two worlds there.
+-- One that runs does so over this world. Of one that a failure has stopped it is known only that the
+-- next mount finds one of two worlds on its disk.
 abbrev pub Means : Held → Bool → State → Type 0
 Means h has_stopped (Running world) = (has_stopped ≡ false) × RunsWith h.point h world
 Means h has_stopped (Stopped before after) = (has_stopped ≡ true) × Always h.disk (ShowsState (Stopped before after))

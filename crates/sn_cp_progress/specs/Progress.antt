@@ -27,7 +27,8 @@ use Rattle.sn_cp.specs.Steps.{IsWhole, IsWithin, StandsAtStage}
 use Rattle.sn_cp.specs.declared.stage.Stage.{Stage}
 use Rattle.sn_cp_held.specs.Wholes.{IsFollowing, TakesNoMore}
 
--- A point was built of these trees over this root, for the slot that doesn't count: wherever its blocks stand beside what the root reaches, its root is sound with its snapshots and its map. It has an age left.
+-- A point was built from these trees over this root, for the slot that doesn't count: in any store that has its blocks and what the root
+-- reaches, its root is sound with its snapshots and its map. It has an age left.
 pub record IsOfTrees (n : ℕ) (s : Store) (counts : Slot) (root : RootBody) (trees : Trees) (w : Work) : Type 0 where
   pub whole : IsWhole w
   pub blocks : w.blocks ≡ n
@@ -44,7 +45,11 @@ pub record Progress : Type 0 where
   pub trees : Trees
   pub free : ℕ
 
--- The point is in progress in a mount that runs. It leads to this live tree. What is logged is logged under the next epoch, from its first record on: those changes make of the tree that it was built of one that covers the live one that it leads to, and what they were charged, with a charge for each file without names, is no more than the next root leaves free, which takes no more than was charged before. What is kept is of the root that counts, but that the live tree that it leads to is seen through what changed over that tree.
+-- The point is in progress in a mount that runs. It leads to this live tree. What is logged is logged under the next epoch,
+-- from its first record on: those changes turn the tree that it was built from into one that covers the live one that it leads
+-- to, and what they were charged, with a charge for each file without names, is no more than the next root leaves free, which
+-- takes no more than was charged before. What is kept is that of the root that counts, except that the live tree that it leads
+-- to is seen through what changed over that tree.
 pub record LeadsTo (h : Held) (world : World) (r : Runs h world) (live : Tree) (p : Progress) : Type 0 where
   pub of : IsOfTrees h.at.blocks r.store r.slot r.root p.trees p.work
   pub within : IsWithin p.work p.stage

@@ -2,8 +2,8 @@
 ghost use Rattle.sn_cp_progress.specs.Laws.{AppendsGoOn, AppendsLeaveEither, CallsFitOnNext, DropsGoOn, PointsBegin, PointsEnd, PointsFinish, StepsGoOn};
 
 /// From its beginning to its last step a point leaves the world as it is, but for the snapshots that come with its root; and
-/// what is logged between two steps stands on top of the root that counts, whichever it is. What fits on the old one fits on
-/// the next one too.
+/// what is logged between two steps is on top of the root that counts, whichever it is. What fits on the old one fits on the
+/// next one too.
 ///
 /// Proved: Once a point has begun, the mount runs on with it in progress: the old root counts still, with its records, and
 /// the next epoch can be logged under. It leads to the live tree of the mount, or to that of a snapshot that is brought

@@ -48,7 +48,7 @@ advanced h world old new trees result d on whole before step same onward = (step
         subst (λ (w : Work). RunsOn (record h { disk = d }) world (record { work = w; stage = stage_of new; trees = trees; free = old.free })) (sym same)
         (subst (λ (stage : Stage). RunsOn (record h { disk = d }) world (record { work = work_of old.point; stage = stage; trees = trees; free = old.free })) (sym next) runs)
 
--- it stands at its next stage, which has a step to make
+-- it is at its next stage, which has a step to make
 module _ (old new : Point) where
   pub within_next : IsWhole (work_of old) → IsWithin (work_of old) (stage_of old) → stage_of old ≢ Bodied → (result : Result (Unit {0}) Fault) → work_of new ≡ work_of old → OnOk result (stage_of new ≡ next_stage (work_of old) (stage_of old))
       → OnOk result (IsWithin (work_of new) (stage_of new))

@@ -96,7 +96,7 @@ whole_written [] all b (k, within, is) = absurd (omega (arith, within))
 whole_written (x ∷ xs) all b (zero, within, is) = ap (λ (w : Written). length w.1) (sym is) ∙ all 0 x (omega arith)
 whole_written (x ∷ xs) all b (suc k, within, is) = whole_written xs (λ i d inside. all (suc i) d (omega (arith, inside))) b (k, omega (arith, within), is)
 
--- the gate of a slot is as it was read, whatever a crash leaves behind a beginning
+-- the gate of a slot is as it was read, whatever a crash leaves after a beginning
 pub gate_stays : (n epoch : ℕ) (slot : Slot) (gate : Gate) (old new : Disk) → Touches (InHalf (base_of n epoch)) old new → IsSynced new → gate_in (reads old) slot ≡ gate → Always new (λ c. gate_in c slot ≡ gate)
 gate_stays n epoch slot gate old new touched synced is =
     Always-synced new (λ c. gate_in c slot ≡ gate) synced
@@ -131,7 +131,7 @@ keeps_live (Freezes name) world can = tt
 keeps_live (Thaws name) world can = tt
 keeps_live (Restores name) world can = can
 
--- what is planned is what a point is built of
+-- what is planned is what a point is built from
 pub planned_built : {Told : Type 0} (n : ℕ) (c : Contents) (kind : PointKind) (k : Kept) (asked : AskedPoint) (built : Built) (next : RootBody) (plans : IsPlanned Told n (store_of c) kind k asked built next) → Told → IsSpellable built → IsBuiltOf n c kind k plans.file asked plans.bit built next
 planned_built n c kind k asked built next plans told spelled =
     let follows = plans.follows in

@@ -143,7 +143,7 @@ begins_apart at slot result old planned new same begins =
     subst (λ (d : Disk). Touches (IsApart at.blocks slot) d new) same
     (Touches-within (InHalf (base_of at.blocks (at.epoch + 1))) (IsApart at.blocks slot) planned new (half_apart at.blocks (at.epoch + 1) slot) begins.touched)
 
--- all steps of a point write beside the root that counts
+-- all steps of a point write outside the root that counts
 module _ (w : Work) (whole : IsWhole w) (slot : Slot) (other : other_slot slot ≡ w.slot) where
   root_beside : (stage : Stage) → IsWithin w stage → (i : ℕ) → InStep w stage i → Union (InBlock (body_block slot)) (Single (gate_sector slot)) i → ⊥
   root_beside (Blocks k) within i is root = let lie = lies_at w.blocks w.plan.blocks k is.block whole.place is.stands in high_beside slot i (omega (arith, is.within.0, lie.from)) root

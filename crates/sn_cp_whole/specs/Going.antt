@@ -87,7 +87,8 @@ FinishesTo result world after h free kept old new = LeavesOnly old new (EitherIm
 abbrev pub FinishesPoint : Result (Unit {0}) Fault → World → FrozenTrees → Held → ℕ → Kept → Disk → Disk → Type 0
 FinishesPoint result world frozen h free kept old new = FinishesTo result world (with_frozen world frozen) h free kept old new
 
--- A point of what changed begins over a root, on a disk of so many blocks: it writes the root that follows into the slot that doesn't count, with no more new blocks than what changed needs.
+-- A point of what changed begins over a root, on a disk of this many blocks: it writes the root that follows into the slot that doesn't
+-- count, with no more new blocks than what changed needs.
 pub record IsGoing (n : ℕ) (base : PointBase) (changed : Layer) (going : GoingPoint) : Type 0 where
   pub whole : IsWhole (work_of going.point)
   pub within : IsWithin (work_of going.point) (stage_of going.point)

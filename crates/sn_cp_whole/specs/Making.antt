@@ -34,7 +34,8 @@ with_parts h at room disk = record h { at = at; room = room; disk = disk }
 abbrev pub over_world : World → Held → Held
 over_world world h = record h { world = world }
 
--- what is asked for can be made of the snapshots: the name of a new one is free, and there may be one more; the one that goes is there. What a snapshot needs that is brought back is said apart (`CanBeRestored`).
+-- what is asked for can be made of the snapshots: the name of a new one is free, and there may be one more; the one that is deleted is
+-- there. What bringing a snapshot back needs is defined separately (`CanBeRestored`).
 abbrev pub CanBeAsked : AskedPoint → World → Type 0
 CanBeAsked Unasked world = Unit {0}
 CanBeAsked Plain world = Unit {0}
@@ -51,21 +52,22 @@ MakesPoint (Err Read) asked world old new kept = new.disk ≡ old
 MakesPoint (Err Damaged) asked world old new kept = ⊥
 MakesPoint (Err Device) asked world old new kept = LeavesOnly old new.disk (EitherImage world (pointed asked world))
 
--- the room behind a point: what is free by the new map, with nothing charged and nothing dropped
+-- the room after a point: what is free by the new map, with nothing charged and nothing dropped
 abbrev pub room_over : ℕ → Kept → RoomCounts
 room_over n kept = fresh (free_data kept.words (start_of n Data))
 
 -- ---- what it costs
 
--- the writes of a point of so many new blocks on a disk of n blocks, into a slot whose gate is so: one that begins it, eight a block of data or map, and those of the root
+-- the writes of a point of this many new blocks on a disk of n blocks, into a slot whose gate is this: one that begins it, eight
+-- a block of data or map, and those of the root
 abbrev pub writes_of_point : ℕ → Gate → ℕ → ℕ
 writes_of_point n gate count = 1 + (8 * count + 8 * map_blocks n + (closing_writes gate + 9))
 
--- its syncs: one that begins it, one behind the map, and one each part of the root
+-- its syncs: one that begins it, one after the map, and one each part of the root
 abbrev pub syncs_of_point : Gate → ℕ
 syncs_of_point gate = 2 + root_steps gate
 
--- the most of both, where a slot's gate stands open
+-- the most of both, where a slot's gate is open
 abbrev pub most_writes : ℕ → ℕ → ℕ
 most_writes n count = writes_of_point n Open count
 
@@ -80,7 +82,7 @@ HasCauseFor Read old new = FailsRead old new
 HasCauseFor Damaged old new = new ≡ old
 HasCauseFor Device old new = (old.failures < new.failures) ⊎ IsTrue (has_ended new)
 
--- What a point costs that may have so many new blocks.
+-- What a point costs that may have this many new blocks.
 pub record CostsPoint {T : Type 0} (result : Result T PointFault) (n most : ℕ) (old new : Status) : Type 0 where
   pub done : OnOk result ((count : ℕ) × (count ≤ most) × (gate : Gate) × (new ≡ called (writes_of_point n gate count) (syncs_of_point gate) old))
   pub later : IsLater old new

@@ -1,4 +1,4 @@
--- What a point is built of, and what is planned for it.
+-- What a point is built from, and what is planned for it.
 use Rattle.std.specs.Prelude.{◌≡◌, ℕ, ◌+◌, ◌^◌, ◌≤◌, length, All}
 use Rattle.sn_device.specs.declared.status.Status.{Status}
 use Rattle.sn_layout.specs.Bytes.{AreNumbers}
@@ -50,7 +50,9 @@ pub record IsNextRoot (kind : PointKind) (root : RootBody) (asked : AskedPoint) 
   pub body : IsRootBody next
   pub age : LeavesAge kind next
 
--- What is planned for a point of this kind over what is kept, on a disk of n blocks: what was built of what changed over the inode file that it begins from, and the root that follows with it, with the bit of the snapshot that is made, goes, or is brought back. What the new inode file denotes is said where the device tells its bytes.
+-- What is planned for a point of this kind over what is kept, on a disk of n blocks: what was built from what changed over the inode file
+-- that it begins from, and the root that follows with it, with the bit of the snapshot that is made, deleted, or brought back. What the new
+-- inode file denotes is said where the device tells its bytes.
 pub record IsPlanned (Told : Type 0) (n : ℕ) (s : Store) (kind : PointKind) (k : Kept) (asked : AskedPoint) (built : Built) (next : RootBody) : Type 0 where
   pub bit : ℕ
   pub file : BlockTree
@@ -59,7 +61,7 @@ pub record IsPlanned (Told : Type 0) (n : ℕ) (s : Store) (kind : PointKind) (k
   pub well : IsWellBuilt n k.root.limits k.words k.changed (edit_for asked bit) built
   pub builds : Told → Builds n k.root.limits s file (base_bit (edit_for asked bit)) k.words k.changed built
 
--- what changed can be built over whichever inode file a point begins from that is asked for so
+-- what changed can be built over whichever inode file a point that is asked for in this way begins from
 abbrev pub CanBeBuiltFor : ℕ → Store → Kept → AskedPoint → Type 0
 CanBeBuiltFor n s k asked = (bit : ℕ) (file : BlockTree) → BeginsFrom asked bit k.root file → CanBeBuiltOver n s k file (base_bit (edit_for asked bit))
 

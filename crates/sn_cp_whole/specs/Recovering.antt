@@ -57,15 +57,16 @@ IsApart n slot sector = InRootOf n slot sector → ⊥
 
 -- ---- what it costs
 
--- the writes of the steps of a point of so many new blocks on a disk of n blocks, into a slot whose gate is so: eight a block of data or map, and those of the root
+-- the writes of the steps of a point of this many new blocks on a disk of n blocks, into a slot whose gate is this: eight
+-- a block of data or map, and those of the root
 abbrev pub writes_of_steps : ℕ → Gate → ℕ → ℕ
 writes_of_steps n gate count = 8 * count + 8 * map_blocks n + (closing_writes gate + 9)
 
--- their syncs: one behind the map, and one each part of the root
+-- their syncs: one after the map, and one each part of the root
 abbrev pub syncs_of_steps : Gate → ℕ
 syncs_of_steps gate = 1 + root_steps gate
 
--- What they cost that may have so many new blocks, and no more than the disk has.
+-- What they cost that may have this many new blocks, and no more than the disk has.
 pub record CostsSteps {T : Type 0} (result : Result T PointFault) (n most : ℕ) (old new : Status) : Type 0 where
   pub done : OnOk result ((count : ℕ) × (count ≤ most) × (count ≤ n) × (gate : Gate) × (new ≡ called (writes_of_steps n gate count) (syncs_of_steps gate) old))
   pub later : IsLater old new

@@ -6,7 +6,7 @@ use sn_map::Map;
 /// apart.
 #[derive(Drop)]
 pub struct PointBase {
-    /// Where the root stands that counts.
+    /// Where the root is that counts.
     pub slot: Slot,
     pub root: RootBody,
     /// The words of its map.

@@ -9,8 +9,8 @@ pub enum PointFault {
     Age,
     /// A block couldn't be read.
     Read,
-    /// What was read can't be used, or what is asked for can't be made of the snapshots. Over a sound root this doesn't
-    /// come where what is asked can be.
+    /// What was read can't be used, or what is asked for can't be made of the snapshots. Over a sound root this isn't
+    /// returned where what is asked can be made.
     Damaged,
     /// The device failed while it was written to.
     Device,

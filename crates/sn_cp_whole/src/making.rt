@@ -85,15 +85,15 @@ fn make<D: Device>(
 /// Proved: Of a mount that is ready for a whole point, a crash at any moment of it leaves an image of the settled world, or
 /// of that with the snapshots asked for; at `Ok` the mount runs on with these over the next root, with an empty log and an
 /// empty overlay, ready for another.
-/// Proved, also of `begin_point`: Want of memory or of an age and a read that fails come before the first write and change
+/// Proved, also of `begin_point`: Lack of memory or of an age and a read that fails come before the first write and change
 /// nothing of disk, log, room or what is kept; over such a mount neither `Damaged` nor too little free space comes where
 /// what is asked can be made.
 /// Proved: At `Ok` all that the new map leaves is free, nothing is charged or dropped, and the overlay that is returned has
 /// room for as many drops as were asked for.
 /// Proved: Writes and syncs are known: one to begin, eight for each block of data and of the map, and those of the root,
 /// with no more new blocks than what changed needs; where the device failed, it has counted that.
-/// Proved, also of `begin_point` and `make_recovery`: `Age` comes only where no root can follow by such a point, or none on
-/// that.
+/// Proved, also of `begin_point` and `make_recovery`: `Age` is returned only where no root can follow by such a point, or none
+/// on that.
 /// Proved, also of `make_recovery`: Superblock, the root that counted and its map aren't written.
 pub fn make_point<D: Device>(
     alloc: Global,

@@ -184,8 +184,8 @@ pub fn empty_overlay(alloc: Global, drops: u16) -> Result<Overlay, PointFault>
     }
 }
 
-/// Reads the gate of the slot that is replaced, and last the first one of the half that an epoch's records are to
-/// stand in, which is cleared: so what can't be read is met before the first write.
+/// Reads the gate of the slot that is replaced, and last the first one of the half that an epoch's records are to be
+/// in, which is cleared: so what can't be read is found before the first write.
 fn read_ahead<D: Device>(
     blocks: &mut Blocks<D>,
     geometry: Geometry,

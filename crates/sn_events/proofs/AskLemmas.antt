@@ -332,15 +332,15 @@ module _ (h : Held) (session : ℕ) (c : Call) (o : Outcome) (decided : decision
   pub is_to_ask : has_room_of h o ≡ true → IsToAsk h session c o
   is_to_ask room = record { decided = decided; fits = has_room room }
 
--- What was decided of a world is decided of the same one: behind the point in progress
+-- What was decided of a world is decided of the same one: after the point in progress
 pub decided_behind : (old fin : Held) (session : ℕ) (c : Call) (o : Outcome) → RunsWith old.point old old.world → Finishes (Ok tt) old fin → decision limits_written old.world session c ≡ Ok o → decision limits_written fin.world session c ≡ Ok o
 decided_behind old fin session c o runs finishes decided = subst (λ (w : World). decision limits_written w session c ≡ Ok o) (sym (is_fin old fin (finishes runs) runs).world) decided
 
--- and behind one that makes room
+-- and after one that makes room
 pub decided_with_room : (old mid : Held) (session : ℕ) (c : Call) (o : Outcome) → RunsReady old old.world old.base → IsWorld limits_written old.world → Points (Ok tt) Plain old mid → decision limits_written old.world session c ≡ Ok o → decision limits_written mid.world session c ≡ Ok o
 decided_with_room old mid session c o ready whole points decided = subst (λ (w : World). decision limits_written w session c ≡ Ok o) (sym (points ready (can_make_room old whole)).world) decided
 
--- ---- behind the point in progress, and behind one that makes room
+-- ---- after the point in progress, and after one that makes room
 
 -- What is asked for of a world is asked for of the same one.
 pub asks_still : (old fin : Held) (session : ℕ) (c : Call) → fin.world ≡ old.world → AsksFirst old session c → AsksFirst fin session c
@@ -350,7 +350,7 @@ asks_still old fin session c same asked = record { asks = asked.asks; outcome = 
 pub asked_at_once : (old new : Held) (session : ℕ) (c : Call) (reply : Reply) (has_stopped : Bool) → old.point ≡ None → ServesAsked reply old session c new has_stopped → Answers (event.Call session c) reply old false new has_stopped
 asked_at_once old new session c reply has_stopped between serves = in_its_world (event.Call session c) old new reply has_stopped between (λ r. (serves r).answers)
 
--- behind one that makes room
+-- after one that makes room
 pub asked_behind_room : (old mid new : Held) (session : ℕ) (c : Call) (reply : Reply) (has_stopped : Bool) → IsWorld limits_written old.world → old.point ≡ None → AsksForPoint c → DoesNotFit old session c → Points (Ok tt) Plain old mid → ServesAsked reply mid session c new has_stopped
     → Answers (event.Call session c) reply old false new has_stopped
 asked_behind_room old mid new session c reply has_stopped whole between asks over points serves =
@@ -359,7 +359,7 @@ asked_behind_room old mid new session c reply has_stopped whole between asks ove
     let ready = subst (λ (w : World). RunsReady mid w mid.base) (sym p.world) p.runs in
     asks_behind old mid new session c (inr (asks, over)) p (subst (λ (w : World). AsksFrom w session c reply mid new has_stopped) p.world (serves ready)))
 
--- there is no room behind it either
+-- there is no room after it either
 pub asked_without_room : (old mid : Held) (session : ℕ) (c : Call) → IsWorld limits_written old.world → old.point ≡ None → AsksForPoint c → DoesNotFit old session c → Points (Ok tt) Plain old mid → DoesNotFit mid session c → Answers (event.Call session c) (refused Enospc) old false mid false
 asked_without_room old mid session c whole between asks over points still =
     in_its_world (event.Call session c) old mid (refused Enospc) false between (λ r. space_answers old mid session c (inr (asks, over)) (points r (can_make_room old whole)) still)
@@ -371,7 +371,7 @@ room_unmade old new session c fault whole between asked over points =
     in_its_world (event.Call session c) old new (refused (errno_of_point fault)) (stops_for fault) between (λ r.
     (unpointed_answers (event.Call session c) (BuildsFor Plain old) old (room_point old session c whole asked over) between r old.world (λ d either. inl (either_same either)) fault new (points r (can_make_room old whole))).answers)
 
--- behind the point in progress
+-- after the point in progress
 pub asked_after_finish : (old fin new : Held) (session : ℕ) (c : Call) (reply : Reply) (has_stopped : Bool) → AsksFirst old session c → Finishes (Ok tt) old fin → Answers (event.Call session c) reply fin false new has_stopped → Answers (event.Call session c) reply old false new has_stopped
 asked_after_finish old fin new session c reply has_stopped asked finishes answers =
     in_any_world (event.Call session c) old new reply has_stopped (λ r.

@@ -66,7 +66,7 @@ use Rattle.sn_changed.proofs.DecidedLemmas.{logged_keep_nameless}
 use Rattle.sn_events.proofs.ReadLemmas.{fails_read}
 use Rattle.sn_events.proofs.DecisionLemmas.{CanBeMade, can_be_made, charge_of_change, is_charged, is_logged, refused_none}
 
--- no file has gone
+-- no file is gone
 has_not_closed : (w : World) (n : ℕ) → has_closed w w n ≡ false
 has_not_closed w n = told (is_held w n) (map.get w.live.nodes n)
   where
@@ -262,7 +262,7 @@ module _ (old : Held) (session : ℕ) (c : Call) (o : Outcome) (picked : Chosen)
   pub comes : (tree : Tree) → apply limits_written change old.world.live ≡ Some tree → Comes limits_written old.world session o (next_with tree)
   comes tree e = (subst (λ (d : Result Outcome Refusal). Becomes limits_written old.world session d o.told (next_with tree)) decided (becomes tree e)).1
 
-  -- no file without names goes
+  -- no file without names is dropped
   no_fewer : (tree : Tree) → apply limits_written change old.world.live ≡ Some tree → nameless_in old.world.live ≤ nameless_in (next_with tree).live
   no_fewer tree e = logged_keep_nameless limits_written old.world (next_with tree) session c o whole decided (is_logged old.world old.kept session c o picked change decided chosen some) (comes tree e)
 

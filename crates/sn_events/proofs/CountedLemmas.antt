@@ -54,9 +54,9 @@ same_told session c old new (inr logged) = ap (λ (h : Held). h.point) logged.dr
 not_stopped : {A : Type 0} (new : Held) (before after : World) (s : State) → s ≡ Stopped before after → Means new false s → A
 not_stopped new before after s is m = absurd (true≢false (sym (subst (Means new false) is m).0))
 
--- ---- one event, where a point is in progress before and behind it
+-- ---- one event, where a point is in progress before and after it
 
--- behind the point that an event makes first none is in progress
+-- after the point that an event makes first none is in progress
 first_between : (s : State) (e : Event) (old mid : Held) → MakesFirst s e old mid → mid.point ≡ None
 first_between (Running w) (event.Call session c) old mid made = made.1.fresh.between
 first_between (Running w) event.Step old mid made = absurd made
@@ -119,7 +119,7 @@ module _ (old new : Held) (going next : Going) (is : old.point ≡ Some going) (
 pub counts_event : (s : State) (e : Event) (reply : Reply) (old new : Held) (going next : Going) → old.point ≡ Some going → new.point ≡ Some next → Means old false s → AnswersFrom s e reply old new false → left_of new.point + counts_down e reply ≡ left_of old.point
 counts_event s e reply old new going next is there m a = counted old new going next is there s e a.met reply a.next a.fin a.mid a.finish a.point a.step m a.means a.leaves
 
--- a point that has begun has at most so many steps left
+-- a point that has begun has at most this many steps left
 pub begun_few : (old new : Held) → HasBegun old new → left_of new.point + 1 ≤ need old.base.root.limits old.base.changed + map_blocks old.at.blocks + 4
 begun_few old new begun =
     let few = steps_few begun.going.work begun.going.stage in
@@ -248,7 +248,7 @@ steps_write (Running w) old new has_stopped m a = told a.met a.finish a.step a.l
 
 -- ---- what a call costs that makes no point
 
--- a record has at most so many sectors
+-- a record has at most this many sectors
 record_few : PayloadsFit → (change : Change) → IsSpelled change → record_writes change ≤ 131
 record_few fit change spelled = let longest = (fit change spelled).1 in omega (arith, longest)
 

@@ -1,4 +1,4 @@
--- What is so of the change that a call has decided.
+-- What holds of the change that a call has decided.
 use Rattle.std.proofs.Common.{◌≡◌, ℕ, ◌<◌, Bool, true, Option, Some, None, Result, Ok, Err, is_some, sym, ap, subst, refl, ◌∙◌, arith, lit<, lit≤}
 use Rattle.std.proofs.lemmas.Bool.{true≢false}
 use Rattle.sn_limits.specs.Versions.{limits_written}
@@ -69,7 +69,7 @@ picked_charge tree kept Nothing change is = absurd is
 picked_charge tree kept (Makes directory name kind o) change is = sym (ap (charge_for limits_written tree) is.2)
 picked_charge tree kept (Does c) change is = sym (ap (charge_for limits_written tree) is)
 
--- one that comes to a change brings no snapshot back
+-- one that results in a change brings no snapshot back
 no_point_charge : (w : World) (p : AskedPoint) (pending : Pending) (caller : Caller) → IsAlone p pending caller → IsLogged pending → point_charge limits_written w p ≡ 0
 no_point_charge w Unasked pending caller alone logged = refl
 no_point_charge w Plain pending caller alone logged = refl
@@ -77,7 +77,7 @@ no_point_charge w (Freezes name) pending caller alone logged = refl
 no_point_charge w (Thaws name) pending caller alone logged = refl
 no_point_charge w (Restores name) pending caller alone logged = absurd (subst IsLogged alone.0 logged)
 
--- The charge of a call is that of the change that it comes to.
+-- The charge of a call is that of the change that it results in.
 pub charge_of_change : (w : World) (kept : ℕ → Bool) (session : ℕ) (c : Call) (o : Outcome) (picked : Chosen) (change : Change) → decision limits_written w session c ≡ Ok o → Chooses w.live kept o.change o.caller picked → picked.change ≡ Some change
     → o.charge ≡ charge_for limits_written w.live change
 charge_of_change w kept session c o picked change decided chosen is =
@@ -86,7 +86,7 @@ charge_of_change w kept session c o picked change decided chosen is =
     let paid : o.charge ≡ charge_of limits_written w.live o.change = omega (arith, so.pays, none) in
     paid ∙ picked_charge w.live kept o.change change (picked_is w.live kept o.change o.caller picked change chosen is)
 
--- ---- calls that come to no change
+-- ---- calls that result in no change
 
 err_is_ok : {A : Type 0} (r : Refusal) (o : Outcome) → Err r ≡ Ok o → A
 err_is_ok r o e = cc

@@ -1,4 +1,4 @@
--- What an event answers behind the point in progress, once that is finished, or where it is cut off.
+-- What an event answers after the point in progress, once that is finished, or where it is cut off.
 use Rattle.std.proofs.Common.{◌≡◌, ◌⊎◌, inl, inr, ℕ, Bool, false, Option, Some, None, Err, Ok, refl, sym, ap, subst, ◌∙◌}
 use Rattle.sn_limits.specs.Versions.{limits_written}
 use Rattle.sn_model.specs.declared.call.Call.{Call}
@@ -68,12 +68,12 @@ none_is_none point going none some = let never : None ≡ Some going = sym none 
 pub none_finishes : (old new : Held) → old.point ≡ None → new ≡ old → Finishes (Ok (tt {0})) old new
 none_finishes old new between same r = subst (λ (p : Option Going). FinishesSo (Ok (tt {0})) p old new) (sym between) same
 
--- what is finished behind it is so at once
+-- what is finished after it is so at once
 pub one_finish : (s : State) (e : Event) (old fin last : Held) → IsFin old fin → MayPoint s e → NeedsPoint old e → IsBehindFinish s e fin last → IsBehindFinish s e old last
 one_finish s e old fin last f may needed (inl same) = subst (λ (h : Held). IsBehindFinish s e old h) (sym same) (f.finish s e may needed)
 one_finish s e old fin last f may needed (inr again) = none_is_none fin.point again.2.going f.between again.2.is
 
--- what is answered behind it
+-- what is answered after it
 module _ (e : Event) (old fin new : Held) (f : IsFin old fin) (may_point : MayPoint (Running fin.world) e) (needed : NeedsPoint old e) where
   pub behind_finish : (reply : Reply) (has_stopped : Bool) → AnswersFrom (Running fin.world) e reply fin new has_stopped → AnswersFrom (Running old.world) e reply old new has_stopped
   behind_finish reply has_stopped a = subst (λ (w : World). AnswersFrom (Running w) e reply old new has_stopped) f.world (record {

@@ -1,4 +1,4 @@
--- A change that is appended to the log and then made of the live tree.
+-- A change that is appended to the log and then applied to the live tree.
 use Rattle.std.proofs.Common.{◌≡◌, ℕ, Bool, Option, Some, Ok, refl, sym, ap, subst, ◌∙◌}
 use Rattle.sn_block.specs.Counts.{called}
 use Rattle.sn_cp_whole.specs.declared.base.PointBase.{PointBase}

@@ -36,7 +36,7 @@ use Rattle.sn_events.specs.Mounted.{RunsNow, tree_at, trees_there}
 same_trees : (s t : Store) (root : RootBody) → SameIn (all_reach s root) s t → trees_at t root ≡ trees_at s root
 same_trees s t root same = λ i. record { live = image_same s t root same i; frozen = sym (frozen_stay s t root same) i }
 
--- what is so of each root is so of each snapshot
+-- what holds of each root holds of each snapshot
 of_snapshots : (P : BlockTree → Type 0) (xs : List Snapshot) → ((r : Rooted) → Contains (map frozen_root xs) r → P r.inodes) → All (λ (x : Snapshot). P x.tree) xs
 of_snapshots P [] each k d below = absurd (omega (arith, below))
 of_snapshots P (x ∷ xs) each zero d below = each (frozen_root x) (first_among (frozen_root x) (map frozen_root xs))

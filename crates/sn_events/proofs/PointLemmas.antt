@@ -51,7 +51,7 @@ use Rattle.sn_events.proofs.ReadLemmas.{fails_read}
 use Rattle.sn_events.proofs.DecisionLemmas.{CanBeMade, can_be_made, is_charged}
 use Rattle.sn_events.proofs.UnmountLemmas.{settles_twice}
 
--- what is so of the world that is held is so of the one that is meant
+-- what holds of the world that is held holds of the one that is meant
 pub in_any_world : (e : Event) (old new : Held) (reply : Reply) (has_stopped : Bool) → (RunsWith old.point old old.world → AnswersFrom (Running old.world) e reply old new has_stopped) → Answers e reply old false new has_stopped
 in_any_world e old new reply has_stopped f (Running w) m =
     let is = (runs_with old w old.point m.1).is in
@@ -106,7 +106,7 @@ some_failed old mid new same (inr ended) = inr ended
 
 -- ---- one that brings no snapshot back
 
--- is built of what changed
+-- is built from what changed
 pub builds_changed : (asked : AskedPoint) (h : Held) → is_restore asked ≡ false → BuildsFor asked h h.base.changed
 builds_changed Unasked h other = refl
 builds_changed Plain h other = refl
@@ -122,7 +122,7 @@ leaves_live (Freezes name) other = tt
 leaves_live (Thaws name) other = tt
 leaves_live (Restores name) other = absurd (true≢false other)
 
--- ---- a call that is answered behind one that makes room
+-- ---- a call that is answered after one that makes room
 
 -- what needs room needs a point
 pub needs_room : (h : Held) (session : ℕ) (c : Call) → NeedsRoom h session c → NeedsPoint h (event.Call session c)
@@ -165,7 +165,7 @@ module _ (old mid new : Held) (session : ℕ) (c : Call) (needed : NeedsRoom old
   leaves_call fin at (Some Space) first same to leaves = leaves ∙ same
   leaves_call fin at (Some Age) first same to leaves = leaves ∙ same
 
-  -- from what was held behind it
+  -- from what was held after it
   behind_room : {has_stopped : Bool} {reply : Reply} (a : AnswersFrom (Running old.world) e reply mid new has_stopped) → a.fin ≡ mid → a.mid ≡ mid → CutsTo a.met mid session c new → AnswersFrom (Running old.world) e reply old new has_stopped
   behind_room {has_stopped} {reply} a first same to = record {
     met = a.met;
@@ -201,7 +201,7 @@ module _ (old mid new : Held) (session : ℕ) (c : Call) (needed : NeedsRoom old
   behind_point : {has_stopped : Bool} {reply : Reply} → ServesFrom (Running old.world) session c reply mid new has_stopped → AnswersFrom (Running old.world) e reply old new has_stopped
   behind_point served = behind_room served.answers served.at_once.0 served.at_once.1 (served_cuts served.answers.met served.met)
 
--- ---- one that doesn't fit behind it
+-- ---- one that doesn't fit after it
 
 -- a record has room in an empty half
 empty_has_room : PayloadsFit → (n epoch : ℕ) (change : Change) → IsSpelled change → HasRoom (first_of n epoch) change
@@ -216,7 +216,7 @@ gives_none (WriteBytes number offset bytes) kept none = refl
 gives_none (SetSize number size) kept none = refl
 gives_none (SetAttributes number o) kept none = refl
 
--- what lacks behind a point is room for the charge
+-- what is lacking after a point is room for the charge
 still_lacks : PayloadsFit → (old mid : Held) (session : ℕ) (c : Call) → IsWorld limits_written mid.world → IsPointed Plain old mid → LacksFirst mid session c → DoesNotFit mid session c
 still_lacks fit old mid session c whole p lacks = record {
   outcome = is.outcome;

@@ -50,7 +50,7 @@ stands_still (Some going) at base old new is whole touched stands =
 pub still_stands : (going still : Option GoingPoint) (at : LogPosition) (base : PointBase) (old new : Disk) → still ≡ going → IsBased going at base → AreSectors (reads old) → Touches (InHalf (base_at at)) old new → StandsThere going old → StandsThere still new
 still_stands going still at base old new there based whole touched stands = subst (λ (g : Option GoingPoint). StandsThere g new) (sym there) (stands_still going at base old new based whole touched stands)
 
--- what a change lacks, as the call that came to it says it
+-- what a change lacks, as the call that results in it says it
 pub some_lack : (h p : Held) (o : Outcome) (change : Change) (enough told : Bool) → p ≡ h → enough ≡ is_fitting h o → told ≡ true → TellsLack told p change enough → LacksSome h change (is_fitting h o)
 some_lack h p o change enough told same fits is lacks =
     subst (λ (x : Held). LacksSome x change (is_fitting h o)) same (subst (LacksSome p change) fits (subst (λ (b : Bool). TellsLack b p change enough) is lacks))

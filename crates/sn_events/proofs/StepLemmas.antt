@@ -45,7 +45,7 @@ stopped_step h (Stopped before after) m = record {
   leaves = refl;
 }
 
--- a crash leaves the settled world on the way, and so it does behind it
+-- a crash leaves the settled world on the way, and so it does after it
 goes_on_lasting : (old new : Held) → LeavesOnly old.disk new.disk (λ c. IsImage c (settle old.world)) → RunsWith new.point new old.world → LastsOver (Running old.world) (Running old.world) old.disk new.disk
 goes_on_lasting old new moments runs = record {
   moments = LeavesOnly-weaker old.disk new.disk (λ d. IsImage d (settle old.world)) (λ d. ShowsState (Running old.world) d ⊎ ShowsState (Running old.world) d) (λ d im. inl im) moments;

@@ -24,7 +24,7 @@ settled_twice tree = sym (settle_alike tree (settled tree) (dropping_kept tree t
 pub settles_twice : (w : World) → settle (settle w) ≡ settle w
 settles_twice w = ap (λ (t : Tree). record { live = t; frozen = w.frozen; sessions = replicate 64 None; descriptors = map.empty }) (settled_twice w.live)
 
--- of what was built without the files that no name stands for
+-- of what was built without the files that have no name
 module _ (old : Held) (built : Layer) (drops : DropsFiles old.base old.world.live (record old.base { changed = built }) (settle old.world).live) (whole : IsTree limits_written old.world.live) (r : RunsReady old old.world old.base) where
   abbrev pub last_base : Kept
   last_base = record old.base { changed = built }

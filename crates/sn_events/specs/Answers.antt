@@ -58,7 +58,7 @@ use Rattle.sn_cp_held.specs.Wholes.{IsFollowing}
 use Rattle.sn_held.specs.Images.{IsImage}
 use Rattle.sn_mount.specs.Rooting.{MountsRoot}
 
--- the change that a call comes to
+-- the change that a call results in
 pub record IsChangeOf (world : World) (kept : ℕ → Bool) (session : ℕ) (c : Call) (change : Change) : Type 0 where
   pub outcome : Outcome
   pub decided : decision limits_written world session c ≡ Ok outcome
@@ -66,7 +66,7 @@ pub record IsChangeOf (world : World) (kept : ℕ → Bool) (session : ℕ) (c :
   pub chosen : Chooses world.live kept outcome.change outcome.caller picked
   pub is : picked.change ≡ Some change
 
--- whether a call fits that comes to this, on top of what was logged
+-- whether a call with this outcome fits, on top of what was logged
 abbrev pub is_fitting : Held → Outcome → Bool
 is_fitting h o = fits limits_written h.room (nameless_in h.world.live) o
 
@@ -81,7 +81,7 @@ pub record DoesNotFit (h : Held) (session : ℕ) (c : Call) : Type 0 where
 abbrev pub Lacks : Held → Change → Outcome → Type 0
 Lacks h change o = (HasRoom h.at change → ⊥) ⊎ (is_fitting h o ≡ false) ⊎ (gives_kept change h.kept ≡ true) ⊎ (HasAgeLeft h.base.root → ⊥)
 
--- a call comes to a change that lacks something
+-- a call results in a change that lacks something
 pub record LacksFirst (h : Held) (session : ℕ) (c : Call) : Type 0 where
   pub change : Change
   pub is : IsChangeOf h.world h.kept session c change
@@ -104,20 +104,22 @@ pub record DropsUnnamed (name : List ℕ) (old : Held) (built : Layer) : Type 0 
   pub frozen : map.get old.world.frozen name ≡ Some tree
   pub changed : HasChanged limits_written built tree (settled tree) 0
 
--- What the point of a call is built of: what changed since the root, and where it brings a snapshot back, what drops the files without names of that one's tree.
+-- What the point of a call is built from: what changed since the root, and where it brings a snapshot back, what
+-- drops the files without names of that one's tree.
 abbrev pub BuildsFor : AskedPoint → Held → Layer → Type 0
 BuildsFor (Restores name) old built = DropsUnnamed name old built
 BuildsFor asked old built = built ≡ old.base.changed
 
--- and that of an unmount: of that without the files that no name stands for
+-- and that of an unmount: of that without the files that have no name
 abbrev pub BuildsLast : Held → Layer → Type 0
 BuildsLast old built = DropsFiles old.base old.world.live (record old.base { changed = built }) (settle old.world).live
 
--- the sectors beside the root that counts
+-- the sectors outside the root that counts
 abbrev pub IsBesideRoot : Held → ℕ → Type 0
 IsBesideRoot h = IsApart h.at.blocks h.base.slot
 
--- A whole point was made, where none was in progress, with its writes and syncs, beside the root that counted: nothing was done since its root, which follows on that and has this world.
+-- A whole point was made, where none was in progress, with its writes and syncs, outside the root that counted: nothing was done since its
+-- root, which follows on that and has this world.
 pub record HasMadePoint (world : World) (Builds : Layer → Type 0) (old new : Held) : Type 0 where
   pub between : old.point ≡ None
   pub is : new.world ≡ world
@@ -144,7 +146,8 @@ HasMadeLast old new = HasMadePoint (settle old.world) (BuildsLast old) old new
 abbrev pub base_of : Going → Kept → Kept
 base_of going k = record { slot = going.work.slot; root = going.work.plan.next; words = going.work.plan.words; changed = k.changed }
 
--- The point in progress was finished, with the writes and syncs that were left of it, beside the root that counted: its own root counts, with what was logged, was charged and has changed since it began. The numbers that were kept back before are so no more.
+-- The point in progress was finished, with the writes and syncs that were left of it, outside the root that counted: its own root counts,
+-- with what was logged, was charged and has changed since it began. The numbers that were kept back before no longer are.
 pub record HasFinished (old new : Held) : Type 0 where
   pub going : Going
   pub is : old.point ≡ Some going
@@ -168,7 +171,7 @@ MayPoint (Stopped before after) e = ⊥
 abbrev pub IsBehindFinish : State → Event → Held → Held → Type 0
 IsBehindFinish s e old fin = (fin ≡ old) ⊎ (MayPoint s e × NeedsPoint old e × HasFinished old fin)
 
--- A call needs a whole point first whose change lacks something, or one that asks for a point of its own, where it doesn't fit.
+-- A call needs a whole point first if its change lacks something, or if it asks for a point of its own and doesn't fit.
 abbrev pub NeedsRoom : Held → ℕ → Call → Type 0
 NeedsRoom h session c = LacksFirst h session c ⊎ (AsksForPoint c × DoesNotFit h session c)
 
@@ -178,7 +181,7 @@ MakesFirst (Running w) (event.Call session c) old mid = NeedsRoom old session c 
 MakesFirst (Running w) event.Restart old mid = HasMadeLast old mid
 MakesFirst s e old mid = ⊥
 
--- What is held behind the whole point that an event makes first, where it makes one: else what was held.
+-- What is held after the whole point that an event makes first, where it makes one: else what was held.
 abbrev pub IsBehindPoint : State → Event → Held → Held → Type 0
 IsBehindPoint s e old mid = (mid ≡ old) ⊎ MakesFirst s e old mid
 
@@ -186,17 +189,18 @@ IsBehindPoint s e old mid = (mid ≡ old) ⊎ MakesFirst s e old mid
 abbrev pub IsLastRoot : RootBody → Type 0
 IsLastRoot root = HasAgeFor Ordinary root → ⊥
 
--- A call doesn't fit right behind a whole point that made room for it.
+-- A call doesn't fit right after a whole point that made room for it.
 abbrev pub LacksRoom : Event → Held → Held → Type 0
 LacksRoom (event.Call session c) old mid = NeedsRoom old session c × HasMadeRoom old mid × DoesNotFit mid session c
 LacksRoom e old mid = ⊥
 
--- The root is too old of which a point is needed: of a call behind one that made room for it, too.
+-- The root on which a point is needed is too old; for a call that is the one after any point that made room for it.
 abbrev pub LacksAge : Event → Held → Held → Type 0
 LacksAge (event.Call session c) old mid = NeedsPoint mid (event.Call session c) × IsLastRoot mid.base.root
 LacksAge e old mid = IsLastRoot old.base.root
 
--- what an event may meet with: EIO only where the device failed, ENOSPC only where the call doesn't fit right behind a whole point, ELIMIT for age only where a point is needed and its root would be too old, and nothing but EIO where the device failed
+-- what an event may encounter: EIO only where the device failed, ENOSPC only where the call doesn't fit right after a whole point, ELIMIT
+-- for age only where a point is needed and its root would be too old, and nothing but EIO where the device failed
 abbrev pub MayMeet : Held → Held → Event → Option Mishap → Status → Type 0
 MayMeet old mid e (Some Read) new = HasFailed old.status new
 MayMeet old mid e (Some Write) new = HasFailed old.status new
@@ -208,7 +212,7 @@ MayMeet old mid e met new = HasNotFailed old.status new
 abbrev pub writes_of : Change → ℕ
 writes_of change = body_sectors (payload_bytes change) + 2
 
--- the call comes to no change of the tree
+-- the call results in no change of the tree
 abbrev pub HasNoChange : World → (ℕ → Bool) → ℕ → Call → Type 0
 HasNoChange world kept session c = (change : Change) → IsChangeOf world kept session c change → ⊥
 
@@ -231,7 +235,8 @@ IsUnchanged m old new = new ≡ old
 abbrev pub with_record : Held → Change → ℕ → Tree → Disk → Held
 with_record h change charge tree disk = record h { world = with_live h.world tree; room = logged charge h.room; at = behind h.at change; disk = disk; status = called (writes_of change) 2 h.status }
 
--- Files without names may have gone: the numbers of those that were open are kept back, and of so many those are counted that are there no more. Nothing else has changed, but for what is kept of the changes since the root.
+-- Files without names may have been dropped: the numbers of those that were open are kept back, and of those that were parked as many count
+-- as dropped as are no longer there. Nothing else has changed, but for what is kept of the changes since the root.
 pub record HasDropped (parked : ℕ) (old new : Held) : Type 0 where
   pub kept : (number : ℕ) → new.kept number ≡ (has_closed old.world new.world number || old.kept number)
   pub since : (number : ℕ) → new.kept_since number ≡ (has_closed old.world new.world number || old.kept_since number)
@@ -241,13 +246,14 @@ pub record HasDropped (parked : ℕ) (old new : Held) : Type 0 where
 abbrev pub CarriesCharge : ℕ → Held → Held → Type 0
 CarriesCharge charge old new = (figure : ℕ) → CarriesOn old.base old.world.live figure new.base new.world.live (figure + charge)
 
--- A call that comes to no change of the tree writes nothing. Files without names may go with it.
+-- A call that results in no change of the tree writes nothing. Files without names may be dropped with it.
 pub record HasTold (session : ℕ) (c : Call) (old new : Held) : Type 0 where
   pub none : HasNoChange old.world old.kept session c
   pub drops : HasDropped (nameless_in old.world.live) old new
   pub carries : CarriesCharge 0 old new
 
--- The change that a call comes to was appended to the log, where it lacked nothing, charged, and made. A file that goes with its last name was charged by its call, and isn't counted.
+-- The change that a call results in was appended to the log, where it lacked nothing, charged, and made. A file that is dropped with its
+-- last name was charged by its call, and isn't counted.
 pub record HasLogged (session : ℕ) (c : Call) (old new : Held) : Type 0 where
   pub change : Change
   pub is : IsChangeOf old.world old.kept session c change
@@ -304,7 +310,8 @@ abbrev pub IsCutCall : Held → Held → ℕ → Call → Disk → Status → Ty
 IsCutCall old mid session c disk status = IsTried mid session c disk status ⊎ IsCutAsked session c mid disk status
     ⊎ (NeedsRoom old session c × IsCutPoint (BuildsFor Plain old) old disk status) ⊎ IsCutFinish old (event.Call session c) disk status
 
--- Behind the point that a call makes first, where it needs one: one that asks for a point makes it, a call that comes to a change is recorded, also where the change alters nothing, and any other writes nothing; nor does one that is refused.
+-- After the point that a call makes first, where it needs one: one that asks for a point makes it, a call that results in a change is
+-- recorded, also where the change alters nothing, and any other writes nothing; nor does one that is refused.
 abbrev pub LeavesCall : Held → Held → ℕ → Call → Option Mishap → Held → Type 0
 LeavesCall old mid session c None new = HasPointed session c mid new ⊎ HasServed session c mid new
 LeavesCall old mid session c (Some Write) new = IsCutCall old mid session c new.disk new.status
@@ -344,7 +351,8 @@ pub record HasEnded (old new : Held) : Type 0 where
   pub finished : HasFinished old new
   pub last : finished.going.stage ≡ Bodied
 
--- A step says that there is more where it has begun a point or gone on with one, and that it is done where the tree that was frozen became durable: it writes beside the root that counts.
+-- A step says that there is more where it has begun a point or gone on with one, and that it is done where the tree that was frozen became
+-- durable: it writes outside the root that counts.
 pub record HasStepped (reply : Reply) (old new : Held) : Type 0 where
   pub touched : Touches (IsBesideRoot old) old.disk new.disk
   pub told : ((reply ≡ answer.Progress progress.More) × (HasBegun old new ⊎ HasGoneOn old new)) ⊎ ((reply ≡ answer.Progress progress.Done) × HasEnded old new)
@@ -373,7 +381,9 @@ counts_down e reply = 0
 abbrev pub CostsMountOf : Status → Status → Type 0
 CostsMountOf old new = (n : ℕ) × (8 * n ≤ old.sectors) × CostsMount n old new
 
--- What the disk was an image of is mounted, which was this world, with the room of the image that is there now, and nothing was done since its root: that is the one that was found, or one that follows, where a record was replayed or a file without names dropped. From its first sync on at no moment a crash would have left another world.
+-- What the disk was an image of is mounted, which was this world, with the room of the image that is there now, and nothing was done since
+-- its root: that is the one that was found, or one that follows, where a record was replayed or a file without names dropped. From its
+-- first sync on at no moment would a crash have left another world.
 pub record HasMounted (world : World) (old new : Held) : Type 0 where
   pub fresh : IsFresh new
   pub room : HasRoomOf (reads new.disk) world new.room
@@ -393,14 +403,15 @@ abbrev pub LeavesMount : Held → State → Held → Type 0
 LeavesMount old (Running world) new = HasMounted world old new
 LeavesMount old (Stopped before after) new = HasNotMounted old new
 
--- A restart makes a whole point, and mounts behind it, unless the point isn't made.
+-- A restart makes a whole point, and mounts after it, unless the point isn't made.
 abbrev pub LeavesRestart : Held → Held → Option Mishap → State → Held → Type 0
 LeavesRestart old mid None next new = HasMadeLast old mid × LeavesMount mid next new
 LeavesRestart old mid (Some Write) next new = IsCutLast old new.disk new.status
 LeavesRestart old mid (Some m) (Running world) new = IsUnchanged m old new
 LeavesRestart old mid (Some m) (Stopped before after) new = HasMadeLast old mid × HasNotMounted mid new
 
--- What is held behind an event, from what was held once the point in progress was finished, and behind the whole point that was made. In a mount that has stopped all but a restart leaves what was held, and calls nothing of the device.
+-- What is held after an event, from what was held once the point in progress was finished, and after the whole point that was made. In a
+-- mount that has stopped all but a restart leaves what was held, and calls nothing of the device.
 abbrev pub Leaves : State → Event → Option Mishap → Reply → State → Held → Held → Held → Type 0
 Leaves (Running w) (event.Call session c) met reply next fin mid new = LeavesCall fin mid session c met new
 Leaves (Running w) event.Step met reply next fin mid new = LeavesStep fin met reply new
@@ -408,7 +419,9 @@ Leaves (Running w) event.Restart met reply next fin mid new = LeavesRestart fin 
 Leaves (Stopped before after) event.Restart met reply next fin mid new = LeavesMount mid next new
 Leaves (Stopped before after) e met reply next fin mid new = new ≡ mid
 
--- The event is a step of the machine, from this state to the next: a crash at any moment of its course leaves one of the two, and once it is answered the next alone. First the point in progress is finished, where the event needs that, and then a whole one is made, where it needs one: what is held then is told by what was held behind them.
+-- The event is a step of the machine, from this state to the next: a crash at any moment of its course leaves one of the two, and once it
+-- is answered the next alone. First the point in progress is finished, where the event needs that, and then a whole one is made, where it
+-- needs one: what is held then is determined by what was held after them.
 pub record AnswersFrom (s : State) (e : Event) (reply : Reply) (old new : Held) (has_stopped : Bool) : Type 0 where
   pub met : Option Mishap
   pub fin : Held

@@ -1,4 +1,4 @@
--- A change that is appended to the log and then made of the live tree.
+-- A change that is appended to the log and then applied to the live tree.
 use Rattle.std.specs.Prelude.{◌≡◌, ℕ, Bool, true, false, Option, Some, Result, Ok, Err}
 use Rattle.sn_device.specs.Sectors.{AreSectors}
 use Rattle.sn_device.specs.Disk.{IsSynced, reads}
@@ -37,7 +37,7 @@ pub record IsMade (change : Change) (old new : World) : Type 0 where
 abbrev pub with_change : Kept → Tree → Change → Kept
 with_change k live change = record k { changed = merge k.changed (layer_of_change live change) }
 
--- it is made and charged, and its record stands in the log
+-- it is made and charged, and its record is in the log
 pub record IsLogged (change : Change) (charge : ℕ) (old new : Held) : Type 0 where
   pub made : IsMade change old.world new.world
   pub kept : (n : ℕ) → new.kept n ≡ kept_after change old.kept n

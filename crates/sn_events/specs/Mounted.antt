@@ -52,7 +52,7 @@ abbrev pub going_in : Option GoingPoint → Option Going
 going_in None = None
 going_in (Some going) = Some (going_of going)
 
--- the tree of a root, as it stands on a disk
+-- the tree of a root, as it is on a disk
 abbrev pub tree_at : Disk → RootBody → Tree
 tree_at disk root = image (store_of (reads disk)) root.inode_file
 
@@ -81,7 +81,8 @@ holding g blocks at world room base going = holding_on (g.disk (device_of blocks
 abbrev pub RunsNow : Held → Type 0
 RunsNow h = RunsWith h.point h h.world
 
--- What is so of what it reads, where the device tells its bytes: its live tree lies over the root's, its world is one, it runs over that, and the disk is where the point in progress takes it to be.
+-- What holds of what it reads, where the device tells its bytes: its live tree lies over the root's, its world is one, it runs over that,
+-- and the disk is where the point in progress takes it to be.
 pub record IsMeant (disk : Disk) (status : Status) (at : LogPosition) (world : LiveWorld) (room : RoomCounts) (base : PointBase) (going : Option GoingPoint) : Type 0 where
   pub over : IsOver world (tree_at disk base.root)
   pub whole : IsWorld limits_written (world_in world (trees_there disk base.root))

@@ -16,7 +16,8 @@ use Rattle.sn_mount.specs.Recovering.{KeepsTheWorld, LeavesTheWorld, OfImage, Wr
 use Rattle.sn_examine.specs.Laws.{IsSomeClean}
 use Rattle.sn_check.specs.Verdicts.{IsCause}
 
--- The world that the disk was an image of runs, with the room of the image that is there now, and at no moment a crash would have left another.
+-- The world that the disk was an image of runs, with the room of the image that is there now, and
+-- at no moment would a crash have left another.
 pub record MountsWorld (old : Disk) (h : Held) (has_stopped : Bool) (world : World) : Type 0 where
   pub room : HasRoomOf (reads h.disk) world h.room
   pub means : Means h has_stopped (Running world)
@@ -39,7 +40,7 @@ pub record Mounts (sectors : ℕ) (old : Disk) (h : Held) (has_stopped : Bool) :
   pub touched : KeepsTheRoot sectors old h.disk
   pub runs : OfImage old (MountsWorld old h has_stopped)
 
--- It isn't, for the cause that a check tells, and the world that it is an image of, if any, is still there.
+-- It isn't, for the cause that a check reports, and the world that it is an image of, if any, is still there.
 pub record IsLeft (fault : MountFault) (sectors : ℕ) (old new : Disk) : Type 0 where
   pub cause : IsCause sectors (reads old) fault
   pub touched : WritesAtFault fault sectors old new

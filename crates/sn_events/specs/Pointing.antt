@@ -38,7 +38,8 @@ use Rattle.sn_events.specs.Mounting.{IsFresh}
 use Rattle.sn_root.specs.declared.following.PointKind.TheVariants.{Ordinary}
 use Rattle.sn_cp_held.specs.Wholes.{IsFollowing}
 
--- A point was made of what runs, beside the root that counted: a crash at any moment leaves the settled world from before, or this one, settled, which runs on over the next root.
+-- A point was made of what runs, outside the root that counted: a crash at any moment leaves the settled world from before, or this
+-- one, settled, which runs on over the next root.
 pub record IsPointedTo (world_after : World) (Builds : Layer → Type 0) (old new : Held) : Type 0 where
   pub between : old.point ≡ None
   pub world : new.world ≡ world_after
@@ -60,7 +61,7 @@ pub record IsPointedTo (world_after : World) (Builds : Layer → Type 0) (old ne
 abbrev pub IsPointed : AskedPoint → Held → Held → Type 0
 IsPointed asked old new = IsPointedTo (pointed asked old.world) (BuildsFor asked old) old new
 
--- that of an unmount, which drops the files that no name stands for
+-- that of an unmount, which drops the files that have no name
 abbrev pub IsPointedLast : Held → Held → Type 0
 IsPointedLast old new = IsPointedTo (settle old.world) (BuildsLast old) old new
 

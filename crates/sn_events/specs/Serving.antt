@@ -27,13 +27,13 @@ use Rattle.sn_sound.specs.Logs.{HasAgeLeft}
 use Rattle.sn_events.specs.Answers.{AnswersFrom, DoesNotFit, IsCutAsked, IsTried, LacksFirst, is_fitting}
 pub use Rattle.sn_events.specs.Dropping.{DropsFiles}
 
--- what a call is answered that comes to nothing
+-- what a call without an outcome is answered
 abbrev pub reply_to : CallFault → Reply
 reply_to (lack.Refused r) = answer.Refused r
 reply_to lack.Memory = refused Enomem
 reply_to lack.Read = refused Eio
 
--- without a point a call meets with want of memory, with a read that fails, or its append was cut off
+-- without a point a call encounters a lack of memory, a read that fails, or its append was cut off
 abbrev pub ServesTo : Option Mishap → Held → ℕ → Call → Held → Type 0
 ServesTo None h session c new = Unit {0}
 ServesTo (Some Memory) h session c new = Unit {0}
@@ -48,7 +48,8 @@ pub record ServesFrom (s : State) (session : ℕ) (c : Call) (reply : Reply) (ol
   pub at_once : (answers.fin ≡ old) × (answers.mid ≡ old)
   pub met : ServesTo answers.met old session c new
 
--- A call is answered at once, from each state that is meant; or it comes to a change that lacks something, and nothing has changed; its numbers are those of a call.
+-- A call is answered at once, from each state that is meant; or it results in a change that lacks something, and nothing
+-- has changed; its numbers are those of a call.
 abbrev pub Serves : Option Reply → Held → ℕ → Call → Held → Bool → Type 0
 Serves (Some reply) old session c new has_stopped = (s : State) → Means old false s → ServesFrom s session c reply old new has_stopped
 Serves None old session c new has_stopped = LacksFirst old session c × (new ≡ old) × IsCall c
@@ -68,7 +69,7 @@ abbrev pub TellsLack : Bool → Held → Change → Bool → Type 0
 TellsLack true h change enough = LacksSome h change enough
 TellsLack false h change enough = LacksNothing h change enough
 
--- What becomes of a caller was set, and the files that went with it were taken out of what changed, and counted.
+-- What becomes of a caller was set, and the files that were dropped with it were taken out of what changed, and counted.
 pub record Turns (session : ℕ) (caller : Caller) (parked : ℕ) (old new : Held) : Type 0 where
   pub is : new ≡ record old { world = dropped (with_caller old.world session caller); kept = new.kept; kept_since = new.kept_since; room = dropping (parked - nameless_in new.world.live) old.room; base = new.base }
   pub kept : (n : ℕ) → new.kept n ≡ (has_closed old.world (dropped (with_caller old.world session caller)) n || old.kept n)
@@ -103,7 +104,7 @@ pub record IsToAsk (h : Held) (session : ℕ) (c : Call) (o : Outcome) : Type 0 
   pub decided : decision limits_written h.world session c ≡ Ok o
   pub fits : DoesNotFit h session c → ⊥
 
--- whether one that comes to this fits: what is charged for nothing does
+-- whether one with this outcome fits: what is charged for nothing does
 abbrev pub has_room_of : Held → Outcome → Bool
 has_room_of h o = (o.charge == 0) || is_fitting h o
 

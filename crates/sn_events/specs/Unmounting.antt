@@ -26,7 +26,7 @@ abbrev pub PointsLast : Result (Unit {0}) PointFault → Held → Held → Type 
 PointsLast (Ok _) old new = RunsReady old old.world old.base → (mid : Held) × IsPointedLast old mid × (mid.disk ≡ new.disk) × (mid.status ≡ new.status)
 PointsLast (Err fault) old new = RunsReady old old.world old.base → IsUnpointedLast fault old new
 
--- It wasn't made behind the point in progress, or this one was cut off.
+-- It wasn't made after the point in progress, or this one was cut off.
 abbrev pub IsRefusedFor : PointFault → Held → Held → Type 0
 IsRefusedFor fault old new = FinishesSo (Err fault) old.point old new ⊎ ((fin : Held) × FinishesSo (Ok (tt {0})) old.point old fin × IsUnpointedLast fault fin new)
 

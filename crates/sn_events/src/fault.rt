@@ -9,9 +9,9 @@ use sn_model::Errno;
 pub enum ChangeFault {
     /// No memory is left for it: nothing has changed.
     Memory,
-    /// A block couldn't be read that tells what it changes: nothing has changed.
+    /// A block that its change depends on couldn't be read: nothing has changed.
     Read,
-    /// The device failed while its record was written: what stands on the disk isn't known.
+    /// The device failed while its record was written: what is on the disk isn't known.
     Device,
 }
 

@@ -1,4 +1,4 @@
--- Replay of two epochs, one behind the other.
+-- Replay of two epochs, one after the other.
 use Rattle.std.proofs.Common.{◌≡◌, ℕ, ◌+◌, sym, subst, arith}
 use Rattle.sn_device.specs.Sectors.{Contents}
 use Rattle.sn_model.specs.declared.fault.MountFault.{MountFault}

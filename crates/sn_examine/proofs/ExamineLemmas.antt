@@ -29,7 +29,7 @@ root_refuses (root.Damaged damage) sectors c some finds = (
 root_refuses (root.Read read.Device) sectors c some finds = tt
 root_refuses (root.Read read.Memory) sectors c some finds = tt
 
--- a read that fails tells no damage, and slots without a newest root one of the roots
+-- a read that fails reports no damage, and slots without a newest root one of the roots
 pub read_of_roots : (f : ReadFault) → IsOfRoots (read_fault f)
 read_of_roots read.Device = tt
 read_of_roots read.Memory = tt

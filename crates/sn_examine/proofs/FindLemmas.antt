@@ -80,7 +80,7 @@ breaks_log c n root free block (in_older b) = older block b
 breaks_log c n root free block (in_newer at middle charges first b) =
     newer block first.all.replayed.changes middle (are_replayed root.limits c (image (store_of c) root.inode_file) n root.epoch at middle charges first) b
 
--- changes that are made one behind the other have a tree between them
+-- changes that are made one after the other have a tree between them
 split_made : (first : Option Tree) (second : Tree → Option Tree) (tree : Tree) → (first >>= second) ≡ Some tree → (middle : Tree) × (first ≡ Some middle) × (second middle ≡ Some tree)
 split_made (Some middle) second tree e = (middle, refl, e)
 split_made None second tree e = never e
@@ -181,11 +181,11 @@ module _ (limits : Limits) (c : Contents) (from : Tree) (n epoch : ℕ) (at : Lo
       let none = both.none nothing in
       λ i. nil_from_length older_ones (sym both.has_older.all.replayed.behind.count ∙ none.0) i ++ nil_from_length newer_ones (sym both.has_newer.all.replayed.behind.count ∙ none.1) i
 
-  -- the position counts none exactly where none is logged, so that it tells whether something is to recover
+  -- the position counts none exactly where none is logged, so that it shows whether something is to recover
   pub tells_recovery : (recovers : Bool) (root : RootBody) (logged dropped : ℕ) → logged ≡ at.count → dropped ≡ nameless_in from → TellsByNumbers recovers root logged dropped → TellsRecovery recovers root (older_ones ++ newer_ones) from
   tells_recovery recovers root logged dropped count is tells = tells (older_ones ++ newer_ones) from (λ none. none_logged (sym count ∙ none), λ nil. count ∙ some_logged nil) is
 
--- what is to recover before the records is so behind them, and the other way round
+-- what is to recover before the records is so after them, and the other way round
 pub recovers_after : (root : RootBody) (limits : Limits) (changes : List Change) (from tree : Tree) → apply_all limits changes from ≡ Some tree → IsToRecover root changes from → IsToRecover root changes tree
 unfolding apply_all
 recovers_after root limits [] from tree e (inl other) = inl other

@@ -52,7 +52,7 @@ numbers_spell n bytes long fit =
     ∙ ap (λ (r : List ℕ). numbers_bytes 4 (numbers_of n bytes) ++ r) (sym none)
     ∙ sym (numbers_read n bytes (omega (arith, long)) fit)
 
--- what stands in sectors are bytes
+-- what is in sectors are bytes
 sectors_fit : (c : Contents) (at n : ℕ) → AreSectors c → at + n ≤ length c → IsBytes (bytes_at c at n)
 unfolding bytes_at
 sectors_fit c at zero whole room i = subst (λ (b : ℕ). b < 256) (sym (get_or_past {X = ℕ} [] i 0 (omega arith))) (omega arith)

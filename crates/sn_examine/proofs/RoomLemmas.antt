@@ -27,7 +27,7 @@ use Rattle.sn_examine.specs.Failing.{read_fault}
 use Rattle.sn_examine.specs.Refusing.{TellsFree}
 use Rattle.sn_examine.specs.Rooms.{IsNoDamage}
 
--- words that are those of any map that the copy is spelled with tell what is free
+-- words that are those of any map that the copy is spelled with show what is free
 pub tells_free : (n : ℕ) (c : Contents) (slot : Slot) (root : RootBody) (words : List ℕ) (free : ℕ) → length words ≡ n → start_of n Data ≤ n → ((all : List ℕ) → HasMap n c slot all → words ≡ all)
     → free ≡ count_by is_free_word (drop (start_of n Data) words) → TellsFree n c slot root free
 tells_free n c slot root words free long within only is all has sound =
@@ -72,7 +72,7 @@ next_read n c slot words part at end sectors room long inside whole is part_long
         only (take 1024 (drop at all)) (omega (arith, length-take 1024 (drop at all), length-drop at all, has.count, is, inside))
         (all_take (λ number. number < 256 ^ 4) 1024 (drop at all) (all_drop (λ number. number < 256 ^ 4) at all has.fits)) here
 
--- a read that fails tells no damage
+-- a read that fails reports no damage
 pub read_is_none : (f : ReadFault) → IsNoDamage (read_fault f)
 read_is_none read.Device = inr refl
 read_is_none read.Memory = inl refl

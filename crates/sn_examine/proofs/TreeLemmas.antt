@@ -19,13 +19,13 @@ tree_reads result old new (Read Device) is counts = fails_reading (has_ended old
 tree_reads result old new (Read Memory) is counts = idle old new (counts.memory is)
 tree_reads result old new (Damaged block) is counts = idle old new (counts.damaged block is)
 
--- the device is told to have failed where it has
+-- the device is reported to have failed where it has
 pub tree_fails : {T : Type 0} (result : Result T TreeFault) (old new : Status) (body : ℕ) (fault : TreeFault) → result ≡ Err fault → CountsTree result old new → IsSoOf (fault_of_tree fault body) old new
 tree_fails result old new body (Read Device) is counts = failed_read (has_ended old) old new refl (counts.device is)
 tree_fails result old new body (Read Memory) is counts = ap (λ (s : Status). s.failures) (counts.memory is)
 tree_fails result old new body (Damaged block) is counts = ap (λ (s : Status). s.failures) (counts.damaged block is)
 
--- ---- what is told
+-- ---- what is reported
 
 -- a tree that is never damaged is no damage
 pub tree_undamaged : {T : Type 0} (result : Result T TreeFault) (body : ℕ) (fault : TreeFault) → result ≡ Err fault → ((block : Option ℕ) → result ≡ Err (Damaged block) → ⊥) → IsNoDamage (fault_of_tree fault body)

@@ -14,11 +14,11 @@ abbrev pub TellsRecovery : Bool → RootBody → List Change → Tree → Type 0
 TellsRecovery true root changes tree = IsToRecover root changes tree
 TellsRecovery false root changes tree = IsToRecover root changes tree → ⊥
 
--- so it is told by numbers: this one is 0 where no changes are logged, and nowhere else, and so many files of the tree have no name
+-- the same by numbers: this one is 0 where no changes are logged, and nowhere else, and this many files of the tree have no name
 abbrev pub TellsByNumbers : Bool → RootBody → ℕ → ℕ → Type 0
 TellsByNumbers recovers root logged nameless = (changes : List Change) (tree : Tree) → (logged ≡ 0 ↔ changes ≡ []) → nameless ≡ nameless_in tree → TellsRecovery recovers root changes tree
 
--- something is, and the root has no age left for that, which is told of the half of its epoch
+-- something is, and the root has no age left for that, which is reported with the half of its epoch
 abbrev pub IsAged : MountFault → ℕ → RootBody → Bool → Type 0
 IsAged (fault.Damaged damage block) n root recovers = (damage ≡ Log) × (recovers ≡ true) × (HasAgeLeft root → ⊥) × (block ≡ half_block n root.epoch)
 IsAged cause n root recovers = ⊥

@@ -10,13 +10,13 @@ use Rattle.sn_log.specs.Positions.{LogPosition}
 use Rattle.sn_sound.specs.Logs.{BreaksAt}
 use Rattle.sn_examine.specs.Replaying.{HasAll}
 
--- All records of an epoch were replayed by these limits, up to this position, and are charged so much.
+-- All records of an epoch were replayed by these limits, up to this position, and are charged this much.
 pub record Replays (limits : Limits) (c : Contents) (from : Tree) (n epoch : ℕ) (at : LogPosition) (tree : Tree) (charges : ℕ) : Type 0 where
   pub blocks : at.blocks ≡ n
   pub of_epoch : at.epoch ≡ epoch
   pub all : HasAll limits c from at tree charges
 
--- Those of the root's epoch and then those of the next one were, and the log goes on behind the last of them.
+-- Those of the root's epoch and then those of the next one were, and the log goes on after the last of them.
 pub record HasBoth (limits : Limits) (c : Contents) (from : Tree) (n epoch : ℕ) (at : LogPosition) (tree : Tree) (charges : ℕ) : Type 0 where
   pub older : LogPosition
   pub newer : LogPosition
@@ -29,7 +29,7 @@ pub record HasBoth (limits : Limits) (c : Contents) (from : Tree) (n epoch : ℕ
   pub is : ((newer.count ≡ 0) × (at ≡ older)) ⊎ (at ≡ newer)
   pub none : at.count ≡ 0 → (older.count ≡ 0) × (newer.count ≡ 0)
 
--- One that can't be replayed stands among those of the root's epoch, or among those of the next one, where all of the root's can.
+-- One that can't be replayed is among those of the root's epoch, or among those of the next one, where all of the root's can.
 pub data BreaksBoth (limits : Limits) (c : Contents) (from : Tree) (n epoch block : ℕ) : Type 0 where
   in_older : BreaksAt c limits from n epoch block → BreaksBoth limits c from n epoch block
   in_newer : (at : LogPosition) (middle : Tree) (charges : ℕ) → Replays limits c from n epoch at middle charges → BreaksAt c limits middle n (epoch + 1) block → BreaksBoth limits c from n epoch block

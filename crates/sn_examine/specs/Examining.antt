@@ -22,12 +22,12 @@ root_fault root.UnknownVersion = fault.Version
 root_fault (root.Damaged damage) = fault.Damaged Root (block_of damage)
 root_fault (root.Read f) = read_fault f
 
--- a damage that is told is one of the roots
+-- a damage that is reported is one of the roots
 abbrev pub IsOfRoots : MountFault → Type 0
 IsOfRoots (fault.Damaged damage block) = damage ≡ Root
 IsOfRoots cause = Unit {0}
 
--- a record of an epoch later than this one stands first in the half, which is told of its first block; or that couldn't be read
+-- a record of an epoch later than this one is first in the half, which is reported with its first block; or that couldn't be read
 abbrev pub IsLaterIn : MountFault → Contents → ℕ → LogHalf → ℕ → Type 0
 IsLaterIn (fault.Damaged damage block) c n half epoch = (damage ≡ Log) × (HasNoLater c (half_base n half) epoch → ⊥) × (block ≡ start_of n (area.Log half))
 IsLaterIn fault.Memory c n half epoch = Unit {0}

@@ -1,4 +1,4 @@
--- How a device tells that it failed, and what a mount costs it.
+-- How a device shows that it failed, and what a mount costs it.
 use Rattle.std.specs.Prelude.{◌≡◌, ◌⊎◌, ℕ, ◌+◌, ◌<◌, ◌≤◌, Result, IfErr, IsTrue}
 use Rattle.sn_device.specs.declared.status.Status.{Status}
 use Rattle.sn_device.specs.Status.{has_ended}
@@ -8,7 +8,7 @@ use Rattle.sn_block.specs.Counts.{IsLater}
 use Rattle.sn_block.specs.declared.fault.ReadFault.{ReadFault}
 use Rattle.sn_block.specs.declared.fault.ReadFault.TheVariants as read
 
--- the device has failed, or has come to its end
+-- the device has failed, or has reached its end
 abbrev pub HasFailed : Status → Status → Type 0
 HasFailed old new = (old.failures < new.failures) ⊎ IsTrue (has_ended new)
 
@@ -16,7 +16,7 @@ HasFailed old new = (old.failures < new.failures) ⊎ IsTrue (has_ended new)
 abbrev pub HasNotFailed : Status → Status → Type 0
 HasNotFailed old new = new.failures ≡ old.failures
 
--- at most so many writes and syncs, failed or not
+-- at most this many writes and syncs, failed or not
 pub record CostsAtMost (w y : ℕ) (old new : Status) : Type 0 where
   pub writes : new.writes ≤ old.writes + w
   pub syncs : new.syncs ≤ old.syncs + y
@@ -32,7 +32,7 @@ abbrev pub read_fault : ReadFault → MountFault
 read_fault read.Device = Device
 read_fault read.Memory = Memory
 
--- the device is told to have failed where it has, or has come to its end, and nowhere else
+-- the device is reported to have failed where it has, or has reached its end, and nowhere else
 abbrev pub IsSoOf : MountFault → Status → Status → Type 0
 IsSoOf Device old new = HasFailed old new
 IsSoOf cause old new = HasNotFailed old new

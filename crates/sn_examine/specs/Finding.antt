@@ -20,7 +20,7 @@ use Rattle.sn_examine.specs.Ages.{TellsRecovery}
 use Rattle.sn_examine.specs.Both.{HasBoth}
 use Rattle.sn_examine.specs.Rooms.{FindsRoom}
 
--- A disk of n blocks has this newest root, and at the first place of neither half of its log stands a record of an epoch later than the next.
+-- A disk of n blocks has this newest root, and at the first place of neither half of its log is a record of an epoch later than the next.
 pub record HasRoot (sectors : ℕ) (c : Contents) (n : ℕ) (slot : Slot) (root : RootBody) : Type 0 where
   pub formatted : IsFormatted sectors c n
   pub newest : IsNewest c slot root

@@ -10,10 +10,10 @@ use Rattle.sn_sound.specs.Verdicts.{IsClean}
 abbrev pub IsSomeClean : ℕ → Contents → Type 0
 IsSomeClean sectors c = (free : ℕ) × IsClean sectors c free
 
--- What is an image of a world has nothing that a check finds.
+-- In an image of a world a check finds nothing.
 abbrev pub ImagesAreClean : Type 0
 ImagesAreClean = (sectors : ℕ) (c : Contents) (world : World) → IsOfDevice sectors c → IsImage c world → IsSomeClean sectors c
 
--- And in which a check finds nothing is an image of a world.
+-- And a disk in which a check finds nothing is an image of a world.
 abbrev pub CleanDisksAreImages : Type 0
 CleanDisksAreImages = (sectors : ℕ) (c : Contents) → IsOfDevice sectors c → IsSomeClean sectors c → (world : World) × IsImage c world

@@ -27,7 +27,7 @@ IsNoImage c = (world : World) → IsImage c world → ⊥
 abbrev pub TellsFree : ℕ → Contents → Slot → RootBody → ℕ → Type 0
 TellsFree n c slot root free = (words : List ℕ) → HasMap n c slot words → IsSoundRoot n (store_of c) root (slice_index words) → free ≡ free_blocks n (store_of c) root
 
--- The log has a fault at this block. How much is free was told by the map.
+-- The log has a fault at this block. How much is free was read from the map.
 pub record HasLogFault (sectors : ℕ) (c : Contents) (block : ℕ) : Type 0 where
   pub blocks : ℕ
   pub formatted : IsFormatted sectors c blocks
@@ -38,7 +38,7 @@ pub record HasLogFault (sectors : ℕ) (c : Contents) (block : ℕ) : Type 0 whe
   pub told : TellsFree blocks c slot root free
   pub is : IsLogFault blocks c root free block
 
--- The map beside the newest root isn't that of a root that is sound with its snapshots, which is told of its first block.
+-- The map beside the newest root isn't that of a root that is sound with its snapshots, which is reported with its first block.
 pub record HasUnsoundMap (sectors : ℕ) (c : Contents) (block : ℕ) : Type 0 where
   pub blocks : ℕ
   pub formatted : IsFormatted sectors c blocks
@@ -48,7 +48,8 @@ pub record HasUnsoundMap (sectors : ℕ) (c : Contents) (block : ℕ) : Type 0 w
   pub unsound : (words : List ℕ) → HasMap blocks c slot words → IsSoundRoot blocks (store_of c) root (slice_index words) → ⊥
   pub is : block ≡ start_of blocks (MapCopy slot)
 
--- A damage of the roots, of the map of the newest one or of the log stands at the block that it is told of, and the contents are an image of no world.
+-- A damage of the roots, of the map of the newest one or of the log is at the block that it is reported
+-- with, and the contents are an image of no world.
 abbrev pub StandsAt : Damage → ℕ → Contents → ℕ → Type 0
 StandsAt Root sectors c block = IsNoImage c × IsRootFault c Root block
 StandsAt Pointer sectors c block = ⊥
@@ -58,7 +59,8 @@ StandsAt Misspelt sectors c block = ⊥
 StandsAt Links sectors c block = ⊥
 StandsAt Log sectors c block = IsNoImage c × HasLogFault sectors c block
 
--- Superblock, gates and versions come first, in this order, and a damage is one of a formatted disk. Want of memory and a failure of the device are told by the device's clauses.
+-- Superblock, gates and versions come first, in this order, and a damage is one of a formatted disk. A lack of memory and a failure of the
+-- device are described by the device's clauses.
 abbrev pub Refuses : MountFault → ℕ → Contents → Type 0
 Refuses (fault.Damaged damage block) sectors c = IsSomeSize sectors c × StandsAt damage sectors c block
 Refuses fault.NotFormatted sectors c = HasNoVerdict sectors c fault.NotFormatted

@@ -16,7 +16,8 @@ use Rattle.sn_opening.specs.Spelled.{AreSpelled}
 use Rattle.sn_sound.specs.Charges.{charges_from}
 use Rattle.sn_sound.specs.Logs.{BreaksAt}
 
--- Up to a position of its epoch stand the records of these changes, which make this tree of another and are charged so much for it, by these limits.
+-- Up to a position of its epoch are the records of these changes, which make this tree of another and
+-- are charged this much for it, by these limits.
 pub record HasReplayed (limits : Limits) (c : Contents) (from : Tree) (at : LogPosition) (tree : Tree) (charges : ℕ) : Type 0 where
   pub changes : List Change
   pub spelled : AreSpelled changes
@@ -24,7 +25,7 @@ pub record HasReplayed (limits : Limits) (c : Contents) (from : Tree) (at : LogP
   pub applied : apply_all limits changes from ≡ Some tree
   pub charged : charges ≡ charges_from limits changes from
 
--- It fails for memory, for the device, or where a record stands that is misspelt or whose change can't be made, in the block of its gate.
+-- It fails for memory, for the device, or at a record that is misspelt or whose change can't be made, in the block of its gate.
 abbrev pub Breaks : Limits → MountFault → Contents → Tree → ℕ → ℕ → Type 0
 Breaks limits (fault.Damaged damage block) c from n epoch = (damage ≡ Log) × BreaksAt c limits from n epoch block
 Breaks limits fault.Memory c from n epoch = Unit {0}
@@ -52,6 +53,7 @@ ReplaysSo limits false c from at tree charges = HasAll limits c from at tree cha
 
 -- ---- beside what changed
 
--- What changed since a root, up to this tree, for these charges and others before them, is on with this layer what changed up to that tree, for those charges.
+-- What changed since a root, up to this tree, for these charges and others before them, becomes with this layer
+-- what changed up to that tree, for those charges.
 abbrev pub LeadsOn : Limits → Layer → Tree → ℕ → Layer → Tree → ℕ → Type 0
 LeadsOn limits layer tree charges next after more = (root : Tree) (before : ℕ) → HasChanged limits layer root tree (before + charges) → HasChanged limits next root after (before + more)

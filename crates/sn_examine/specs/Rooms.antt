@@ -1,4 +1,4 @@
--- What is charged for what a mount replays, beside what is free.
+-- What is charged for what a mount replays, against what is free.
 use Rattle.std.specs.Prelude.{◌≡◌, ◌⊎◌, ℕ, true, false}
 use Rattle.sn_device.specs.Sectors.{Contents}
 use Rattle.sn_layout.specs.declared.geometry.Slot.{Slot}
@@ -10,14 +10,14 @@ use Rattle.sn_room.specs.Rooms.{RoomCounts, is_covered, mounted}
 use Rattle.sn_sound.specs.Logs.{half_block}
 use Rattle.sn_examine.specs.Refusing.{TellsFree}
 
--- so much is free by the map, and covers the charges, with those of the root's version for each file without names
+-- this much is free by the map, and covers the charges, with those of the root's version for each file without names
 pub record FindsRoom (n : ℕ) (c : Contents) (slot : Slot) (root : RootBody) (charges dropped : ℕ) (room : RoomCounts) : Type 0 where
   pub free : ℕ
   pub told : TellsFree n c slot root free
   pub is : room ≡ mounted free charges dropped
   pub covered : is_covered root.limits (mounted free charges dropped) ≡ true
 
--- it doesn't, which is told of the half of the root's epoch
+-- it doesn't, which is reported with the half of the root's epoch
 pub record LacksRoom (n : ℕ) (c : Contents) (slot : Slot) (root : RootBody) (charges dropped block : ℕ) : Type 0 where
   pub free : ℕ
   pub told : TellsFree n c slot root free

@@ -25,7 +25,8 @@ fn has_age_left(root: &RootBody) -> bool
     root.generation < LARGEST_AGE && root.epoch <= LARGEST_AGE - 2
 }
 
-/// Damaged where something is to recover and no age is left for that, which is told of the half of the root's epoch.
+/// Damaged where something is to recover and no age is left for that, which is reported at the half of the root's
+/// epoch.
 ///
 /// Proved: A root without an age left, where something is to recover, is a damage of the log too.
 pub fn test_age(geometry: Geometry, root: &RootBody, recovers: bool) -> Result<(), MountFault>

@@ -71,8 +71,8 @@ pub(crate) fn newest_root<D: Device>(blocks: &mut Blocks<D>) -> Result<NewestRoo
     }
 }
 
-/// Damaged where at the first place of a half stands a record of an epoch later than this one, which would count once
-/// that epoch begins. It is told of the half's first block.
+/// Damaged where the first place of a half has a record of an epoch later than this one, which would count once that
+/// epoch begins. It is reported at the half's first block.
 fn none_later_in<D: Device>(
     blocks: &mut Blocks<D>,
     geometry: Geometry,
@@ -97,8 +97,8 @@ fn none_later_in<D: Device>(
     }
 }
 
-/// Damaged where at the first place of either half stands a record of an epoch later than this one. It is told of that
-/// half's first block.
+/// Damaged where the first place of either half has a record of an epoch later than this one. It is reported at that half's
+/// first block.
 pub fn none_later<D: Device>(
     blocks: &mut Blocks<D>,
     geometry: Geometry,

@@ -10,7 +10,7 @@ use sn_root::RootFault;
 use sn_tree_read::TreeFault;
 
 /// What a mount answers where a block can't be read: `Device` where a sector of it failed, `Memory` where there was
-/// none to keep it. Nothing is told of the bytes.
+/// none to keep it. Nothing is said of the bytes.
 pub fn fault_of(fault: ReadFault) -> MountFault
     ensures { result ≡ read_fault fault }
 {
@@ -20,8 +20,8 @@ pub fn fault_of(fault: ReadFault) -> MountFault
     }
 }
 
-/// What a mount answers where a tree can't be read. What can't be read of it is misspelt, which is told of its block, and
-/// where the fault has none, of that of the root's body.
+/// What a mount answers where a tree can't be read. What can't be read of it is misspelt, which is reported at its block, and
+/// where the fault has none, at that of the root's body.
 pub fn fault_of_tree(fault: TreeFault, body: u32) -> MountFault
     ensures { result ≡ fault_of_tree fault body }
 {

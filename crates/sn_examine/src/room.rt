@@ -18,7 +18,7 @@ use sn_model::{Damage, MountFault};
 use sn_room::Room;
 use std::alloc::Global;
 
-/// Reads the words of one block of a map copy. What stands behind the last of them is no matter here.
+/// Reads the words of one block of a map copy. What comes after the last of them doesn't matter here.
 fn read_words<D: Device>(
     blocks: &mut Blocks<D>,
     number: u32,
@@ -99,7 +99,8 @@ pub fn read_map<D: Device>(
 }
 
 /// The room that is left on top of a root whose log is charged so much, and whose tree has so many files without names,
-/// and the map that tells it. Damaged where more is charged than is free, which is told of the half of the root's epoch.
+/// and the map that says so. Damaged where more is charged than is free, which is reported at the half of the root's
+/// epoch.
 ///
 /// Proved: Charges of more than the map has free are a damage of the log, reported at the half of the root's epoch; how much
 /// is free is the root's where the map is right, and a file without names is charged as the root's version says.

@@ -14,7 +14,7 @@ use std::alloc::{AllocError, Global};
 /// Proved: Through an overlay the frozen trees are seen as they are below: which snapshots there are, their names in the
 /// order of their bytes, and of each tree the nodes, names, default ACLs, bytes and listings, and how many files have no
 /// name.
-/// Proved: No look-up changes the frozen trees or the live one, and its faults are a want of memory for the answer and the
+/// Proved: No look-up changes the frozen trees or the live one, and its faults are a lack of memory for the answer and the
 /// tree's own.
 pub trait HasSnapshots: Below {
     ghost use Rattle.std.specs.Prelude.{◌≡◌, ◌+◌, ◌<◌, ◌^◌, IsTrue, IfOk, IfErr, drop, length, take};
@@ -27,7 +27,7 @@ pub trait HasSnapshots: Below {
     // the trees of the snapshots, by their names
     ghost frozen: { Self → FrozenTrees };
 
-    // what a look-up in one of them needs beside what any needs
+    // what a look-up in one of them needs besides what any needs
     ghost holds_frozen: { Self → Type 0 };
 
     /// Whether there is a snapshot with this name.

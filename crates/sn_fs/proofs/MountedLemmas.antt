@@ -76,7 +76,7 @@ stopped_mounted told disk status at world room base going now stops running soun
 
 -- ---- a caller that turns
 
--- which makes no difference of the frozen trees
+-- which makes no difference to the frozen trees
 pub turned_frozen : (w : World) (trees : Trees) (session : ℕ) (caller : Caller) → record (dropped (with_caller w session caller)) { frozen = trees.frozen } ≡ dropped (with_caller (record w { frozen = trees.frozen }) session caller)
 turned_frozen w trees session Stays = refl
 turned_frozen w trees session (LogsIn s) = refl

@@ -46,7 +46,7 @@ same_world w0 w1 old new frozen live = λ i. record (live i) { frozen = frozen i
 
 -- ---- a whole point was made
 
--- it makes no difference but of the trees
+-- it makes no difference but to the trees
 restored_is : (o : Option Tree) (w : World) → restored o w ≡ record w { live = (restored o w).live; frozen = (restored o w).frozen }
 restored_is None w = refl
 restored_is (Some tree) w = refl

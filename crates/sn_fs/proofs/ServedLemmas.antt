@@ -1,4 +1,4 @@
--- What a call comes to whose number was picked once its caller was made ready.
+-- The outcome of a call whose number was picked once its caller was made ready.
 use Rattle.std.proofs.Common.{◌≡◌, ℕ, Bool, true, false, Some, None, Option, Ok, refl, sym, ap, subst, ◌∙◌}
 use Rattle.sn_changed.specs.Laws.{ChangesMerge}
 use Rattle.sn_caller.specs.Called.{CanTurn, HasRoom}

@@ -56,7 +56,7 @@ impl<D: Device> Fs<D> {
     }
 
     /// Answers a call that asks for a whole consistency point, whose tests have passed, where no other is in progress. One
-    /// that is charged for something comes behind a plain one where it doesn't fit.
+    /// that is charged for something comes after a plain one where it doesn't fit.
     fn ask_between(&mut self, session: u32, call: &Call, outcome: Outcome<'_>) -> Reply
         requires running { has_stopped self.old ≡ false }
         requires sound { IsFs self.old }
@@ -79,8 +79,8 @@ impl<D: Device> Fs<D> {
         self.point_for(outcome)
     }
 
-    /// Answers a call that asks for a whole consistency point. It is made once the call's tests have passed, behind the one
-    /// in progress, and makes of the snapshots what the call asks for.
+    /// Answers a call that asks for a whole consistency point. It is made once the call's tests have passed, after the one in
+    /// progress, and makes of the snapshots what the call asks for.
     fn ask(&mut self, session: u32, call: &Call) -> Reply
         requires running { has_stopped self.old ≡ false }
         requires sound { IsFs self.old }
@@ -106,7 +106,7 @@ impl<D: Device> Fs<D> {
         self.going.is_none()
     }
 
-    /// Answers a call that asks for no point, where none is in progress: behind a whole one, where it lacks something.
+    /// Answers a call that asks for no point, where none is in progress: after a whole one, where it lacks something.
     fn serve_between(&mut self, session: u32, call: &Call) -> Reply
         requires running { has_stopped self.old ≡ false }
         requires sound { IsFs self.old }
@@ -131,27 +131,27 @@ impl<D: Device> Fs<D> {
 
     /// Answers a call. Once it is answered, a crash loses nothing of it. Where the log has no room for its record, the
     /// disk none for its charge, or no number is left but those kept back, the consistency point in progress is finished, and
-    /// a whole one comes where that isn't enough: so ENOSPC comes only where the call doesn't fit behind that. So it does
-    /// where the call asks for one. EIO comes where the device fails. Where that was in a read, nothing has changed; in a
-    /// write or a sync it stops the mount: then every call is ESTOPPED.
+    /// a whole one comes where that isn't enough: so ENOSPC is returned only where the call doesn't fit after that. So it
+    /// does where the call asks for one. EIO comes where the device fails. Where that was in a read, nothing has changed; in
+    /// a write or a sync it stops the mount: then every call is ESTOPPED.
     ///
     /// Proved: Each reply is one of the machine, from each state that the mounted file system means; a running one is over
     /// the tree of the root that counts, as the device has it, seen through what changed since, with the frozen trees of its
     /// snapshots and with who is logged in.
     /// Proved: A crash at any moment of a call leaves the settled world from before it or the one after it, and once the
     /// call is answered the one after it alone, or after an `EIO` that stopped the mount either.
-    /// Proved: `EIO` comes only where the device failed or ended, and a failed write or sync stops the mount while a failed
-    /// read doesn't; `ENOSPC` comes only right after a whole consistency point that the call made, where its charge, with
-    /// one for each file without a name and the reserve, is more than is free.
+    /// Proved: `EIO` is returned only where the device failed or ended, and a failed write or sync stops the mount while a
+    /// failed read doesn't; `ENOSPC` is returned only right after a whole consistency point that the call made, where its
+    /// charge, with one for each file without a name and the reserve, is more than is free.
     /// Proved, also of `Fs::step`: A call makes a whole point, after the one in progress, only where it asks for one, its
     /// record has no room in the log, its charge with those since the root isn't free, no number is left but those kept
     /// back, or no root could follow on the one that counts.
     /// Proved, also of `Fs::step`: A call that is recorded has room for its record and its charge, a number, and a root that
-    /// can follow; `ELIMIT` for age comes only where a point is needed and no root can follow that leaves an age.
+    /// can follow; `ELIMIT` for age is returned only where a point is needed and no root can follow that leaves an age.
     /// Proved: A call that asks for a point, as `sync` does, is answered after one wherever its tests pass, so then the
     /// durable tree is the live one.
     /// Proved: A snapshot is made, or goes, by the point of the call that asks for it: after it the mount runs with the
-    /// frozen trees that the model wants, and a crash at any moment of the call leaves the snapshots from before or after
+    /// frozen trees that the model asks for, and a crash at any moment of the call leaves the snapshots from before or after
     /// it, and all else that was answered.
     /// Proved: Calls come between any two steps, and all promises of a call hold there: what they change is logged under the
     /// next epoch, charged on both roots, and lies over what was frozen.

@@ -31,7 +31,7 @@ fn fault_of(fault: LookFault) -> ChangeFault
 impl<D: Device> Fs<D> {
     /// Appends the record of a change, charges it, and makes it in what changed since the root; it answers the file that
     /// loses its last name by it, if one does. All that has to be read, and all memory that it needs, is asked for before the
-    /// first write, also for the drop of each file that is open behind it.
+    /// first write, also for the drop of each file that is open after it.
     pub(crate) fn log_change(
         &mut self,
         payload: &Payload<'_>,

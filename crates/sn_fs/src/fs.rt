@@ -18,6 +18,6 @@ pub struct Fs<D: Device> {
     pub(crate) room: Room,
     pub(crate) base: PointBase,
     pub(crate) going: Option<GoingPoint>,
-    /// A failure of the device has stopped it: what stands on the disk isn't known.
+    /// A failure of the device has stopped it: what is on the disk isn't known.
     pub(crate) has_stopped: bool,
 }

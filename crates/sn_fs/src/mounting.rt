@@ -20,7 +20,7 @@ use std::alloc::Global;
 /// Mounts a device: syncs it, checks all of it, tries the log over the newest root's tree, which stays on the device, and drops
 /// the files that no name stands for. Where anything was replayed or dropped, a consistency point makes a root of it; then
 /// the first place of the log is cleared. `NotFormatted`, `NoRoot`, `Version` and `Damaged` come in this order, each before anything
-/// is written, and as the check of the image tells them.
+/// is written, and as the check of the image reports them.
 ///
 /// Proved, also of `Fs::call` and `Fs::step`: Over any device, unless a failure has stopped the mount: the log is on a
 /// device that has all its blocks, a point can begin or one is in progress, each open file has room for its drop, and no

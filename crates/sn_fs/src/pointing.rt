@@ -157,8 +157,8 @@ impl<D: Device> Fs<D> {
         }
     }
 
-    /// Begins a consistency point, where none is in progress: what changes from then on comes behind it. A failure of the
-    /// device stops the mount.
+    /// Begins a consistency point, where none is in progress: what changes from then on comes after it. A failure of the device
+    /// stops the mount.
     fn begin(&mut self) -> Result<(), PointFault>
         requires running { has_stopped self.old ≡ false }
         requires sound { IsFs self.old }

@@ -1,4 +1,4 @@
-//! What a call comes to, over the live tree as it is read.
+//! The outcome of a call, over the live tree as it is read.
 ghost use Rattle.std.specs.Prelude.{◌≡◌, false, Ok, IsTrue, IfErr, IfOk, OnOk};
 ghost use Rattle.sn_events.specs.Serving.{IsUndecided};
 ghost use Rattle.sn_fs.specs.Filesystem.{IsFs, has_stopped, held};
@@ -12,8 +12,8 @@ use sn_live_world::CallFault;
 use sn_model::{Call, Outcome};
 
 impl<D: Device> Fs<D> {
-    /// What a call comes to, or why it has no outcome. Nothing is written, and nothing changes but what the device counts of
-    /// a read that failed.
+    /// The outcome of a call, or why it has none. Nothing is written, and nothing changes but what the device counts of a
+    /// read that failed.
     pub(crate) fn decide<'c>(
         &mut self,
         session: u32,

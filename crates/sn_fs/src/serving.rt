@@ -38,7 +38,7 @@ pub(crate) fn refused(errno: Errno) -> Reply
     Reply::Refused(Refusal::plain(errno))
 }
 
-/// What a call is answered that comes to nothing.
+/// What a call is answered that has no outcome.
 pub(crate) fn reply_of(fault: CallFault) -> Reply
     ensures { result ≡ reply_to fault }
 {
@@ -67,7 +67,7 @@ impl<D: Device> Fs<D> {
         self.world.prepare_caller(caller)
     }
 
-    /// Whether a call fits that comes to this, on the root that counts. So it does on that of the point in progress.
+    /// Whether a call with this outcome fits, on the root that counts. So it does on that of the point in progress.
     fn fits(&self, outcome: &Outcome<'_>) -> bool
         ensures exact { IsOver self.now.world (tree_of self.now) → result ≡ is_fitting (held self.now) outcome.now }
         ensures within { IsTrue result → charged_behind limits_written self.now.room (nameless_of self.now.world) outcome.now < 2 ^ 32 }
@@ -76,7 +76,7 @@ impl<D: Device> Fs<D> {
             .fits(&Limits::WRITTEN, self.world.nameless(), outcome)
     }
 
-    /// Whether a call fits that asks for a point and comes to this: one that is charged for nothing always does.
+    /// Whether a call fits that asks for a point and has this outcome: one that is charged for nothing always does.
     pub(crate) fn has_room_for(&self, outcome: &Outcome<'_>) -> bool
         ensures { IsOver self.now.world (tree_of self.now) → result ≡ has_room_of (held self.now) outcome.now }
     {
@@ -115,8 +115,8 @@ impl<D: Device> Fs<D> {
             .drop_files(parked.saturating_sub(self.world.nameless()));
     }
 
-    /// Answers a call that asks for no point, where what it comes to lacks nothing that a point gives. Else nothing has changed.
-    /// The point in progress, if any, stays where it is.
+    /// Answers a call that asks for no point, where its outcome lacks nothing that a point gives. Else nothing has changed. The
+    /// point in progress, if any, stays where it is.
     pub(crate) fn serve(&mut self, session: u32, call: &Call) -> Option<Reply>
         requires running { has_stopped self.old ≡ false }
         requires sound { IsFs self.old }

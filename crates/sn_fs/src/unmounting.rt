@@ -53,7 +53,7 @@ impl<D: Device> Fs<D> {
     /// Finishes the consistency point in progress, makes a whole one of the tree without the files that no name stands for,
     /// so that the next mount finds it in the root, and hands the device back. ENOMEM, EIO where a block can't be read, and
     /// ELIMIT where no root can follow change nothing but that: the file system goes on. EIO where the device fails while it
-    /// is written stops it, and ESTOPPED comes where that was before.
+    /// is written stops it, and ESTOPPED is returned where that was before.
     ///
     /// Proved, also of `Fs::call`: The point in progress is finished first, with the writes and syncs that were left of it,
     /// where a call lacks something or asks for a point, and by an unmount: then its root counts, with what was logged since

@@ -100,7 +100,7 @@ left_of_tree w session caller tree = record {
 pub left_covers : (changes : List Change) (from tree live : Tree) (held : ℕ → Bool) → live ≡ without_nameless held tree → MakesCover limits_written changes from tree → MakesCover limits_written changes from live
 left_covers changes from tree live held e m = subst (MakesCover limits_written changes from) (sym e) (dropping_covers limits_written changes from tree held m)
 
--- files without names that go change nothing of the disk
+-- dropping files without names changes nothing of the disk
 unfoldable pub dropped_runs : (h : Held) (w next : World) (kept since : ℕ → Bool) (count : ℕ) (base : Kept) → Runs h w → IsOfTree w w.live next → nameless_in w.live ≤ nameless_in next.live + count → Runs (record h { world = next; kept = kept; kept_since = since; room = dropping count h.room; base = base }) next
 dropped_runs h w next kept since count base r of counted = record {
   is = refl;
@@ -125,7 +125,7 @@ dropped_runs h w next kept since count base r of counted = record {
 
 -- ---- a change of the live tree that is appended
 
--- it comes behind all changes, whichever half it is in
+-- it comes after all changes, whichever half it is in
 behind_older : (older newer : List Change) (change : Change) → newer ≡ [] → (older ++ newer) ++ change ∷ [] ≡ (older ++ change ∷ []) ++ newer
 behind_older older newer change none =
     subst (λ (ns : List Change). (older ++ ns) ++ change ∷ [] ≡ (older ++ change ∷ []) ++ ns) (sym none)
@@ -144,7 +144,7 @@ module _ (old new : Held) (w next : World) (change : Change) (tree : Tree) (r : 
   more_frozen : next.frozen ≡ frozen_of r.store r.root.snapshots
   more_frozen = of.frozen ∙ r.frozen
 
-  -- what is charged behind it
+  -- what is charged after it
   all_fit : Fits limits_written ((r.older ++ r.newer) ++ change ∷ []) (image r.store r.root.inode_file) old.room.free
   all_fit = one_more_fits old.room n r.store r.root (r.older ++ r.newer) change w.live r.charged r.cover hierarchy has_room
 
@@ -295,7 +295,7 @@ ready_with h w k kept since base point status ready =
       };
     }
 
--- files without names that go
+-- files without names that are dropped
 pub drops_ready : (h : Held) (w next : World) (kept since : ℕ → Bool) (count : ℕ) (base : Kept) → RunsReady h w h.base → IsOfTree w w.live next → nameless_in w.live ≤ nameless_in next.live + count
     → CarriesOn h.base w.live h.room.charged base next.live h.room.charged → IsTree limits_written next.live → RunsReady (record h { world = next; kept = kept; kept_since = since; room = dropping count h.room; base = base }) next base
 unfolding dropped_runs

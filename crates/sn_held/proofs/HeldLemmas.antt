@@ -82,7 +82,7 @@ module _ (n : ℕ) (s : Store) (slot : Slot) (root : RootBody) (words : List ℕ
 
 -- ---- the first place of a half
 
--- where a record of an epoch stands first, or none does, there is none later
+-- where a record of an epoch is first, or none is, there is none later
 pub ready_no_later : (n : ℕ) (c : Contents) (at : LogPosition) (changes : List Change) (epoch later : ℕ) → IsDisk n c → at.blocks ≡ n → at.epoch ≡ epoch → epoch ≤ later → epoch < 256 ^ 8 → IsReadyAt at changes c
     → HasNoLater c (base_of n epoch) later
 ready_no_later n c at changes epoch later disk in_n in_epoch before fits is_ready = here changes
@@ -103,7 +103,7 @@ half_is epoch other = told (half_of_epoch epoch) (half_of_epoch other) (half_of_
     told One one two (inl is) = inr (sym is.1)
     told One one two (inr is) = inl (sym is.0)
 
--- what is so of the halves of an epoch and of the next one is so of each
+-- what holds of the halves of an epoch and of the next one holds of each
 pub each_half : (n other : ℕ) (P : ℕ → Type 0) → P (base_of n other) → P (base_of n (other + 1)) → (epoch : ℕ) → P (base_of n epoch)
 each_half n other P one two epoch = ⊎_elim
     (λ (is : half_of_epoch epoch ≡ half_of_epoch other). subst (λ (half : LogHalf). P (8 * start_of n (Log half))) (sym is) one)

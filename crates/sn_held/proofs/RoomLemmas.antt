@@ -42,7 +42,7 @@ use Rattle.sn_sound.proofs.FreeLemmas.{free_counted}
 use Rattle.sn_sound.proofs.StandingLemmas.{root_same}
 use Rattle.sn_held.specs.Room.{HasRoomFor, IsCharged}
 
--- ---- charges of one list behind the other
+-- ---- charges of one list after the other
 
 pub charges_join : (limits : Limits) (first second : List Change) (from tree : Tree) → apply_all limits first from ≡ Some tree
     → charges_from limits (first ++ second) from ≡ charges_from limits first from + charges_from limits second tree
@@ -70,7 +70,7 @@ one_charge limits tree change = told (apply limits change tree)
     told None = omega arith
     told (Some after) = omega arith
 
--- a change that is made behind others to what they cover
+-- a change that is made after others to what they cover
 pub one_more_charged : (changes : List Change) (change : Change) (from live : Tree) → MakesCover limits_written changes from live → IsHierarchy live
     → charges_from limits_written (changes ++ change ∷ []) from ≡ charges_from limits_written changes from + charge_for limits_written live change
 one_more_charged changes change from live m hierarchy =

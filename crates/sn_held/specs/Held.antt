@@ -27,7 +27,8 @@ use Rattle.sn_held.specs.Room.{IsCharged}
 use Rattle.sn_cp.specs.Points.{Work}
 use Rattle.sn_cp.specs.declared.stage.Stage.{Stage}
 
--- What a mounted file system keeps for its next point: the root that counts, where it stands, the words of its map, and what changed since, or since the point in progress began.
+-- What a mounted file system keeps for its next point: the root that counts, where it is, the words of its map, and what
+-- changed since, or since the point in progress began.
 pub record Kept : Type 0 where
   pub slot : Slot
   pub root : RootBody
@@ -52,11 +53,13 @@ pub record Held : Type 0 where
   pub disk : Disk
   pub status : Status
 
--- Whatever a crash leaves, the next record goes behind the last one: in the half of the root's epoch while the next epoch has none, else in the half of that.
+-- Whatever a crash leaves, the next record goes after the last one: in the half of the root's epoch while the
+-- next epoch has none, else in the half of that.
 abbrev pub GoesOn : LogPosition → RootBody → List Change → List Change → Disk → Type 0
 GoesOn at root older newer d = ((newer ≡ []) × (at.epoch ≡ root.epoch) × Always d (IsReadyAt at older)) ⊎ ((at.epoch ≡ root.epoch + 1) × Always d (IsReadyAt at newer))
 
--- A mount that runs over a world stands on a root, and keeps the changes of its log, which make of the root's tree one that covers the live one.
+-- A mount that runs over a world rests on a root, and keeps the changes of its log, which make of
+-- the root's tree one that covers the live one.
 pub record Runs (h : Held) (world : World) : Type 0 where
   pub is : h.world ≡ world
   -- the blocks as they were when the root was made

@@ -14,7 +14,9 @@ use Rattle.sn_sound.specs.Charges.{Fits}
 use Rattle.sn_sound.specs.Logs.{HasAgeLeft, IsToRecover}
 use Rattle.sn_sound.specs.Maps.{IsSoundRoot, free_blocks}
 
--- The contents are those of a formatted disk, whose newest root is sound with its snapshots and its map. They open to this world, at the first place of neither half of the log stands a record of an epoch later than the next, and what was logged on top of the root was charged no more than the root leaves free.
+-- The contents are those of a formatted disk, whose newest root is sound with its snapshots and its map. They open to this world,
+-- at the first place of neither half of the log is a record of an epoch later than the next, and what was logged on top of the root
+-- was charged no more than the root leaves free.
 pub record IsImage (c : Contents) (world : World) : Type 0 where
   pub blocks : ℕ
   pub disk : IsDisk blocks c
@@ -29,7 +31,7 @@ pub record IsImage (c : Contents) (world : World) : Type 0 where
   -- a mount of it can make a point, where it has to
   pub age : IsToRecover opens.root (opens.older ++ opens.newer) (image (store_of c) opens.root.inode_file) → HasAgeLeft opens.root
 
--- The log of an image ends at this position, behind the records of its root's epoch while the next one has none, else behind those of that.
+-- The log of an image ends at this position, after the records of its root's epoch while the next one has none, else after those of that.
 abbrev pub EndsAt : (c : Contents) (world : World) → IsImage c world → LogPosition → Type 0
 EndsAt c world image at =
     (at.blocks ≡ image.blocks)

@@ -29,7 +29,8 @@ ImagesAreOne = (c : Contents) (world other : World) → IsImage c world → IsIm
 abbrev pub RunsShow : Type 0
 RunsShow = (h : Held) (world : World) → Runs h world → Always h.disk (λ c. IsImage c (settle world))
 
--- Files without names that go, so many that were dropped, and what becomes of sessions, change nothing of the disk, so that the mount stays ready for a point.
+-- Files without names that are dropped, and what becomes of sessions, change nothing of the
+-- disk, so that the mount stays ready for a point.
 abbrev pub DropsRun : Type 0
 DropsRun = (h : Held) (world next : World) (kept since : ℕ → Bool) (count : ℕ) (base : Kept) → RunsReady h world h.base → IsOfTree world world.live next → nameless_in world.live ≤ nameless_in next.live + count
     → CarriesOn h.base world.live h.room.charged base next.live h.room.charged → IsTree limits_written next.live → RunsReady (record h { world = next; kept = kept; kept_since = since; room = dropping count h.room; base = base }) next base
@@ -40,7 +41,8 @@ AppendsLeaveEither = (old new : Held) (world next : World) (change : Change) (tr
     → Touches (InHalf (base_at old.at)) old.disk new.disk → LeavesEither old.at change old.disk new.disk
     → LeavesOnly old.disk new.disk (λ c. IsImage c (settle world) ⊎ IsImage c (settle next))
 
--- Once its record stands, and it is charged, the mount runs over the world after it, which has no fewer files without names, and is ready for a point of it.
+-- Once its record is there, and it is charged, the mount runs over the world after it, which has no fewer files
+-- without names, and is ready for a point of it.
 abbrev pub AppendsRun : Type 0
 AppendsRun = (old new : Held) (world next : World) (change : Change) (tree : Tree) → RunsReady old world old.base → IsSpelled change → apply limits_written change world.live ≡ Some tree → IsOfTree world tree next → IsHierarchy world.live → HasRoomFor old.room world.live change → HasAgeLeft old.base.root
     → Touches (InHalf (base_at old.at)) old.disk new.disk → LeavesMore old.at change old.disk new.disk

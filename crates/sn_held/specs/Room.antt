@@ -15,14 +15,15 @@ use Rattle.sn_sound.specs.Charges.{Fits, charges_from}
 use Rattle.sn_sound.specs.Maps.{free_blocks}
 use Rattle.sn_held.specs.Images.{IsImage}
 
--- The room that is kept is that of a root with these changes logged on top of it, which make this live tree: they are charged, no more than the root leaves free, and each file that the root's tree has without a name is live without one still, or was dropped.
+-- The room that is kept is that of a root with these changes logged on top of it, which make this live tree: they are charged, no more than
+-- the root leaves free, and each file that the root's tree has without a name is still live without one, or was dropped.
 pub record IsCharged (room : RoomCounts) (n : ℕ) (s : Store) (root : RootBody) (changes : List Change) (live : Tree) : Type 0 where
   pub free : room.free ≡ free_blocks n s root
   pub charged : room.charged ≡ charges_from limits_written changes (image s root.inode_file)
   pub parked : nameless_in (image s root.inode_file) ≤ parked room (nameless_in live)
   pub fits : Fits limits_written changes (image s root.inode_file) room.free
 
--- Behind a change of this tree all that is charged, with a charge for each parked file, is still no more than is free.
+-- After a change of this tree all that is charged, with a charge for each parked file, is still no more than is free.
 abbrev pub HasRoomFor : RoomCounts → Tree → Change → Type 0
 HasRoomFor room tree change = room.charged + charge_for limits_written tree change + limits_written.inode_charge * parked room (nameless_in tree) ≤ room.free
 

@@ -1,8 +1,8 @@
 //! What a mounted file system holds over a root, and what its disk is an image of. Definitions and laws, and
 //! no code that runs.
 //!
-//! The model. `sn_opening` says what contents open to, and `sn_sound` when a root is sound. Here they come
-//! together in what a mounted file system keeps from call to call:
+//! The model. `sn_opening` says what contents open to, and `sn_sound` when a root is sound. Here they are combined
+//! in what a mounted file system keeps from call to call:
 //! - `Images`: contents are an image of a world where they are those of a formatted disk whose newest root is
 //!   sound with its map, whose log is charged no more than is free, and that opens to the world. `IsImage` is
 //!   what a mount asks of a disk, and what is left of it by whatever a crash leaves.
@@ -11,7 +11,7 @@
 //!   says that the disk shows a root with records that make of its tree one that covers the live one, and `RunsReady` that a
 //!   point can begin of what changed since.
 //! - `Events`: what a call leaves of the tree, and its append of the records.
-//! - `Moments`: what contents are an image of in the course of events.
+//! - `Moments`: what contents are an image of while events go on.
 //!
 //! What the sources leave open is decided in `docs/DECISIONS.md`, under "What a disk opens to".
 #![tactic(auto)]

@@ -188,7 +188,7 @@ both : (a b : Bool) → (a && b) ≡ true → b ≡ true
 both true b e = e
 both false b e = absurd (true≢false (sym e))
 
--- no file has lost its last name but the one that is told
+-- no file has lost its last name but the one that is reported
 pub only_lost : (moves : NodeMoves) (listed : ℕ → Bool) (n : ℕ) → listed_after moves listed n ≡ true → (listed n ≡ true) ⊎ (lost_of moves ≡ Some n)
 only_lost Stay listed n e = inl e
 only_lost (Come number replaces) listed n e = inl (both (not (n == number)) (listed n) e)

@@ -1,4 +1,4 @@
--- A file of a live tree that goes.
+-- A file of a live tree that is dropped.
 use Rattle.std.proofs.Common.{◌≡◌, ℕ, ◌-◌, ◌==◌, ◌&&◌, not, Bool, true, List, Option, Some, None, refl, sym, ap, subst, ◌∙◌, arith}
 use Rattle.std.specs.Cmp.{nat_cmp_total}
 use Rattle.std.specs.FinMap as map
@@ -68,7 +68,7 @@ module _ (tree : Tree) (number : ℕ) where
   left_told : (rows : List Counted) → TellsDirectories tree rows → TellsDirectories (take_node tree number) rows
   left_told rows tells = renoded tree (take_node tree number) rows refl (λ link k e kind. let found = some_node _ Directory kind in is_kind tree k found.0 Directory (was k found.0 found.1) found.2) tells
 
--- a file that goes is one without names no longer
+-- a file that is dropped is no longer one without names
 pub bare_left : (tree : Tree) (number n : ℕ) → bare_at (take_node tree number) n ≡ (not (n == number) && bare_at tree n)
 bare_left tree number =
     let left = take_node tree number in

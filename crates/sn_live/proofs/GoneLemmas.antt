@@ -1,4 +1,4 @@
--- Files without names that go one after the other.
+-- Files without names that are dropped one after the other.
 use Rattle.std.proofs.Common.{◌≡◌, ◌≢◌, ℕ, zero, suc, ◌+◌, ◌<◌, true, false, List, [], ◌∷◌, Contains, get_or, take, length, add-one, refl, sym, ap, subst, ◌∙◌, arith}
 use Rattle.std.specs.Cmp.{nat_cmp_total}
 use Rattle.std.proofs.lemmas.Map.Lookups.{exact_unsigned}
@@ -15,7 +15,7 @@ use Rattle.sn_changed.proofs.DroppedLemmas.{leads_on, told_nameless, without_is}
 use Rattle.sn_live.specs.Unnamed.{CanGo, DropsNameless}
 use Rattle.sn_live.proofs.BareLemmas.{bare_at}
 
--- those behind the first one go from what is left
+-- those after the first one are dropped from what is left
 rest_go : (tree : Tree) (file : DroppedFile) (files : List DroppedFile) → CanGo tree (file ∷ files) → CanGo (take_node tree file.number) files
 rest_go tree file files can = record {
   nameless = λ n c. ap (is_nameless tree n) (get_left nat_cmp_total exact_unsigned tree.nodes file.number n (apart n c)) ∙ can.nameless n (suc c.0, omega (arith, c.1), c.2);
@@ -25,7 +25,7 @@ rest_go tree file files can = record {
     apart : (n : ℕ) → Contains (numbers_of files) n → n ≢ file.number
     apart n c same = can.once zero (suc c.0) n (omega arith) (omega (arith, c.1)) (sym (c.2 ∙ same))
 
--- once some have gone, the next one is still without a name
+-- once some are gone, the next one is still without a name
 pub still_bare : (files : List DroppedFile) (tree : Tree) (k : ℕ) (other : DroppedFile) → CanGo tree files → k < length files → bare_at (without_each tree (take k files)) (get_or files k other).number ≡ true
 still_bare [] tree k other can within = absurd (omega (arith, within))
 still_bare (file ∷ files) tree zero other can within = can.nameless file.number (zero, omega arith, refl)
@@ -49,7 +49,7 @@ pub next_drops : (files : List DroppedFile) (layer : Layer) (k : ℕ) (other : D
     → with_drops layer (take (k + 1) files) ≡ merge (with_drops layer (take k files)) (gone (get_or files k other).number (get_or files k other).by_close)
 next_drops files layer k other within = ap (λ (n : ℕ). with_drops layer (take n files)) (add-one k) ∙ one_drops files layer k other within
 
--- all that a settled tree lacks can go, and then it is settled
+-- all that a settled tree lacks can be dropped, and then it is settled
 pub all_can_go : (tree : Tree) (files : List DroppedFile) → TellsGone tree (settled tree) files → CanGo tree files
 all_can_go tree files tells = record { nameless = told_nameless tree (λ _. false) files tells; once = tells.once }
 

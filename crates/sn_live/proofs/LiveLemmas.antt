@@ -1,4 +1,4 @@
--- The state of a live tree, as changes are made, files go, and points begin and end.
+-- The state of a live tree, as changes are made, files are dropped, and points begin and end.
 use Rattle.std.proofs.Common.{◌≡◌, ℕ, Some, sym, ap, subst, ◌∙◌}
 use Rattle.sn_changed.proofs.ChangedLemmas.{nothing_changed}
 use Rattle.sn_directories.specs.Told.{IsShown, TellsDirectories}

@@ -23,7 +23,7 @@ changes_of live = layer_of live.top
 abbrev pub shown_of : LiveTree → Tree → Tree
 shown_of live below = through (changes_of live) (through (point_of live) below)
 
--- the numbers that are kept back, and those that are so since the point in progress began, or the durable root's where none is
+-- the numbers that are kept back, and those that have been since the point in progress began, or the durable root's if there is none
 abbrev pub kept_back_of : LiveTree → ℕ → Bool
 kept_back_of live number = kept_of live.numbers number
 
@@ -38,11 +38,12 @@ count_of live = live.nameless
 abbrev pub HasNoPoint : LiveTree → Type 0
 HasNoPoint live = point_of live ≡ no_changes
 
--- so many files can be dropped without memory being taken
+-- this many files can be dropped without memory being taken
 abbrev pub HasDrops : LiveTree → ℕ → Type 0
 HasDrops live drops = HasRoom live.top (record { nodes = drops; names = 0; blocks = 0 })
 
--- The state belongs to a tree below: what the point writes lies over it, and what changed since over that. What is shown is a name tree, both tables tell it, and those of its files that have no name are listed and counted.
+-- The state belongs to a tree below: what the point writes lies over it, and what changed since over that. What is shown is a name tree,
+-- both tables describe it, and those of its files that have no name are listed and counted.
 pub record IsLive (live : LiveTree) (below : Tree) : Type 0 where
   pub point : LiesOver (point_of live) below
   pub shown : IsShown (changes_of live) (through (point_of live) below) live.directories

@@ -14,7 +14,7 @@ use Rattle.sn_model.specs.Tree.{Node, Tree, link_count, link_to, names_for}
 use Rattle.sn_number_table.specs.Table.{TellsNumbers, kept_of, since_of}
 use Rattle.sn_number_table.specs.declared.table.NumberTable.{NumberTable}
 
--- A directory goes with its name. A file stays, without names if it has no other one.
+-- A directory is removed with its name. A file stays, without names if it has no other one.
 abbrev pub losing_of : ℕ → Kind → ℕ → NodeMoves
 losing_of number File links = if links == 1 then Unname number else Stay
 losing_of number Directory links = Go number

@@ -15,11 +15,11 @@ use Rattle.sn_model.specs.Tree.{Tree}
 abbrev pub charge_of : PreparedLive → ℕ
 charge_of p = laid.charge_of p.change
 
--- there is room for it, and for so many drops more
+-- there is room for it, and for this many more drops
 abbrev pub HasRoomFor : LiveTree → PreparedLive → ℕ → Type 0
 HasRoomFor live p drops = laid.HasRoomFor live.top p.change drops
 
--- A change can be made of a live tree under limits: it was prepared for being laid over it, and does so to its nodes.
+-- A change can be applied to a live tree under limits: it was prepared to be laid over it, and changes its nodes in this way.
 pub record CanBeMade (limits : Limits) (p : PreparedLive) (live : Tree) (change : Change) : Type 0 where
   pub laid : laid.CanBeLaid limits p.change live change
   pub nodes : p.nodes ≡ node_moves_of live change
@@ -29,6 +29,6 @@ abbrev pub IsPrepared : Limits → Option PreparedLive → Tree → Change → T
 IsPrepared limits None live change = apply limits change live ≡ None
 IsPrepared limits (Some p) live change = CanBeMade limits p live change
 
--- No file has lost its last name but the one that is told.
+-- No file has lost its last name but the one that is reported.
 abbrev pub LosesAtMost : Tree → Tree → Option ℕ → Type 0
 LosesAtMost old new lost = (number : ℕ) → is_nameless new number (map.get new.nodes number) ≡ true → (is_nameless old number (map.get old.nodes number) ≡ true) ⊎ (lost ≡ Some number)

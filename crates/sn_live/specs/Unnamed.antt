@@ -6,7 +6,7 @@ use Rattle.sn_model.specs.Settling.{settled}
 use Rattle.sn_model.specs.Tree.{Tree}
 use Rattle.sn_overlay.specs.Layers.{Layer}
 
--- They go with their last names, not with a descriptor.
+-- They are dropped with their last names, not with a descriptor.
 abbrev pub GoWithNames : List DroppedFile → Type 0
 GoWithNames files = (k : ℕ) (other : DroppedFile) → k < length files → (get_or files k other).by_close ≡ false
 
@@ -19,7 +19,7 @@ pub record CanGo (tree : Tree) (files : List DroppedFile) : Type 0 where
 abbrev pub listed_if : (ℕ → Bool) → ℕ → List DroppedFile → List DroppedFile
 listed_if listed number files = if listed number then files ++ record { number = number; by_close = false } ∷ [] else files
 
--- The files of a tree that no name stands for have gone from what changed.
+-- The files of a tree that have no name were dropped from what changed.
 pub record DropsNameless (tree : Tree) (old new : Layer) : Type 0 where
   pub files : List DroppedFile
   pub gone : TellsGone tree (settled tree) files

@@ -17,7 +17,7 @@ use sn_number_table::NamelessFiles;
 use sn_overlay::Overlay;
 use std::alloc::{AllocError, Global};
 
-/// Puts a number behind others, if it is that of a file without names.
+/// Puts a number after others, if it is that of a file without names.
 fn list_if_nameless(
     without_names: &NamelessFiles,
     number: u16,
@@ -36,9 +36,9 @@ fn list_if_nameless(
 }
 
 impl LiveTree {
-    /// Takes a file away that no name stands for, where there is room for a drop. `by_close` says that it goes with its
-    /// last descriptor, and then its number is kept back; that of one that goes with its last name can be given out at
-    /// once. It takes no memory.
+    /// Removes a file that no name stands for, where there is room for a drop. `by_close` says that it goes with its last
+    /// descriptor, and then its number is kept back; that of one that goes with its last name can be given out at once. It
+    /// takes no memory.
     ///
     /// Proved, also of `reserve_drops`: A file without names goes without memory, in the room that there was for it; its
     /// number is kept back exactly where it went with its last descriptor.
@@ -91,7 +91,7 @@ impl LiveTree {
         Ok(changed)
     }
 
-    /// Takes files away that no name stands for, each once, where there is room for all. It takes no memory.
+    /// Removes files that no name stands for, each once, where there is room for all. It takes no memory.
     fn drop_files(&mut self, files: &[DroppedFile])
         requires { HasDrops self.old (length files.now) }
         ensures live { (below : Tree) → IsLive self.old below → CanGo (shown_of self.old below) files.now → IsLive self.new below }

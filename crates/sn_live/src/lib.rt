@@ -1,15 +1,15 @@
 //! The state of a live tree that is read on demand, and what changes do to it.
 //!
 //! The live tree isn't in memory: it is a tree below, seen through what a consistency point in progress writes, and
-//! that through what changed since. Beside the two overlays stand the table of its directories (`sn_directories`), the
-//! table of its numbers and the list of its files without names (`sn_number_table`), which are counted. They go on with
-//! each change, so that all that a call has to know is at hand, or is a look-up of the tree below.
+//! that through what changed since. Besides the two overlays there are the table of its directories (`sn_directories`),
+//! the table of its numbers and the list of its files without names (`sn_number_table`), which are counted. They go on
+//! with each change, so that all that a call has to know is at hand, or is a look-up of the tree below.
 //!
 //! The model is the tree of `sn_model` that is shown, and `apply` over it. What a change asks for is read and grown
 //! first ([`LiveTree::prepare`]), and nothing that is shown changes by that; then a caller records the change, and
 //! [`LiveTree::commit`] makes it, takes no memory and can't fail.
 //!
-//! The way through it:
+//! The way through:
 //!
 //! 1. `specs/Live`: what is shown of a tree below, and when the state belongs to it (`IsLive`). `specs/Nodes`: what a
 //!    change does to nodes and to files without names. `specs/Prepared`: what is prepared for a change.

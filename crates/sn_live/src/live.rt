@@ -140,7 +140,7 @@ impl LiveTree {
     }
 
     /// Reads and grows all that a change of what is shown asks for, where it can be applied under the limits, with room
-    /// for it and for so many drops beside. `None` where it can't be applied. Nothing that is shown changes, and no room
+    /// for it and for so many drops besides. `None` where it can't be applied. Nothing that is shown changes, and no room
     /// for drops is lost, whatever the answer. A fault is one of the tree below, or of memory.
     ///
     /// Proved, also of `commit`: A change is prepared exactly where it can be applied under the given limits, of any version
@@ -184,8 +184,9 @@ impl LiveTree {
     }
 
     /// Makes a change that was prepared, where there is room for it: then what is shown is what the change makes of it,
-    /// and the state still belongs to it. What changed has grown by what the change makes different. Where the change gives out a number that is kept back, none is any more. It
-    /// takes no memory, and leaves room for as many drops as there was beside the change.
+    /// and the state still belongs to it. What changed has grown by what the change makes different. Where the change
+    /// gives out a number that is kept back, none is any more. It takes no memory, and leaves room for as many drops as
+    /// there was besides the change.
     ///
     /// Proved: What is shown becomes exactly what the model makes of it by a change, and the state goes on with it: overlays
     /// over one another, a name tree, tables of its directories and numbers, and the list and count of its files without

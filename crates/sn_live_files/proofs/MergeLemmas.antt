@@ -46,7 +46,7 @@ module _ {K X : Type 0} {R : K → K → Ordering} (o : IsTotalOrder R) where
       let parts = and_parts (is_lt (R x e.0)) (below_all R x es) h in
       ap (λ r. cond (is_eq r) (Some e.1) (find R x es)) (lesser (R x e.0) parts.0) ∙ find-below x es parts.1
 
-  -- what is so of each value that is found is so of each entry
+  -- what holds of each value that is found holds of each entry
   pub each_entry : (es : List (K × X)) (P : K × X → Type 0) → is_sorted R es ≡ true → ((k : K) (v : X) → find R k es ≡ Some v → P (k, v)) → AllByRecursion P es
   each_entry [] P h told = tt
   each_entry (e ∷ es) P h told =
@@ -113,7 +113,7 @@ module _ {K X : Type 0} {R : K → K → Ordering} (o : IsTotalOrder R) where
       let parts = and_parts (below_all R c.0 cs) (is_sorted R cs) h in
       sorted-set_first c (set_all cs) (below-set_all c.0 cs parts.0) (sorted-set_all cs parts.1)
 
-  -- one entry below and those behind it
+  -- one entry below and those after it
   module _ (b : K × X) (bs : List (K × X)) (first : below_all R b.0 bs ≡ true) where
     abbrev on : Rest K X
     on = λ ds. merged R ds bs

@@ -1,4 +1,4 @@
--- What a walk is told of a node that is seen.
+-- What a walk gets to know of a node that is seen.
 use Rattle.sn_overlay.specs.declared.node.SeenNode.{SeenNode}
 use Rattle.sn_walk.specs.declared.view.Attributes.{Attributes}
 

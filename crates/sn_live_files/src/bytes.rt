@@ -52,7 +52,7 @@ fn count_within(at: u64, most: usize) -> usize
     if most < room { most } else { room }
 }
 
-// Puts bytes of one block of a file behind those that are there.
+// Puts bytes of one block of a file after those that are there.
 fn push_part<B: Below>(
     tree: &mut B,
     number: u16,

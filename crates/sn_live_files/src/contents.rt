@@ -4,14 +4,14 @@ use sn_overlay::Below;
 use sn_walk::Attributes;
 use std::alloc::Global;
 
-/// A tree below an overlay that answers what a walk is told of a node, bytes of a file, and the names of a directory.
+/// A tree below an overlay that answers what a walk learns of a node, bytes of a file, and the names of a directory.
 ///
 /// Proved: What a walk learns of a node is what the tree that is seen has, without a copy of its default ACL.
 /// Proved: The bytes of a file from an offset on are those of the tree that is seen: as many as asked for, or as there are
 /// before its end, and none of a directory or of a number without a node.
 /// Proved: The names of a directory, each with its number, are those of the tree that is seen, in the order of their bytes:
 /// through an overlay those that changed merged with those below.
-/// Proved: The faults are a want of memory for an answer and the tree's own.
+/// Proved: The faults are a lack of memory for an answer and the tree's own.
 pub trait HasContents: Below {
     ghost use Rattle.std.specs.Prelude.{◌≡◌, ◌+◌, ◌<◌, ◌^◌, IsTrue, IfErr, IfOk, drop, length, take};
     ghost use Rattle.std.specs.FinMap as map;
@@ -22,8 +22,8 @@ pub trait HasContents: Below {
     ghost use Rattle.sn_live_files.specs.Known.{attributes_of};
     ghost use Rattle.sn_live_files.specs.Listing.{links_of};
 
-    /// What a walk is told of the node that a number has, `None` where none has it: less than the whole node, which has its
-    /// default ACL too.
+    /// What a walk learns of the node that a number has, `None` where none has it: less than the
+    /// whole node, which has its default ACL too.
     fn attributes(&mut self, number: u16) -> Result<Option<Attributes>, Self::Fault>
         requires { Self.holds self.old }
         ensures kept { Self.holds self.new }

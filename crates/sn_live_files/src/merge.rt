@@ -8,7 +8,7 @@ use sn_model::{Link, Word};
 use std::alloc::{AllocError, Global};
 use std::cmp::Ordering;
 
-// Puts a name that changed behind those that are there, unless it went.
+// Puts a name that changed after those that are there, unless it went.
 fn put(
     alloc: Global,
     change: &(Link, Option<u16>),
@@ -27,14 +27,14 @@ fn put(
     Ok(())
 }
 
-// The changes behind a name, and whether it is among those up to there.
+// The changes after a name, and whether it is among those up to there.
 #[derive(Clone, Copy)]
 struct Passed<'a> {
     rest: &'a [(Link, Option<u16>)],
     has_name: bool,
 }
 
-// Puts the names that changed and come before one behind those that are there, and that one too if it changed.
+// Puts the names that changed and come before one after those that are there, and that one too if it changed.
 fn put_up_to<'a>(
     alloc: Global,
     changed: &'a [(Link, Option<u16>)],
@@ -66,7 +66,7 @@ fn put_up_to<'a>(
     })
 }
 
-// Puts all names that changed behind those that are there.
+// Puts all names that changed after those that are there.
 fn put_all(
     alloc: Global,
     changed: &[(Link, Option<u16>)],

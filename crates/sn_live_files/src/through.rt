@@ -24,7 +24,7 @@ fn hides_names(change: Option<&NodeChange>) -> bool
     }
 }
 
-// What a walk is told of a node that changed.
+// What a walk learns of a node that changed.
 fn attributes_of(state: &NodeState) -> Attributes
     ensures { result ≡ attributes_of (shown_state state.now) }
 {

@@ -13,7 +13,7 @@ use Rattle.sn_number_table.specs.declared.table.NumberTable.{NumberTable}
 abbrev pub live_trees : Tree → FrozenTrees → Trees
 live_trees tree frozen = record { live = tree; frozen = frozen }
 
--- What is seen is a name tree, and the table tells its numbers.
+-- What is seen is a name tree, and the table describes its numbers.
 pub record IsNumbered (tree : Tree) (numbers : NumberTable) : Type 0 where
   pub whole : IsTree limits_written tree
   pub tells : TellsNumbers tree numbers

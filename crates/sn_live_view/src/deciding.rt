@@ -1,4 +1,4 @@
-//! What calls come to over a root that is seen through what changed since.
+//! The outcomes of calls over a root that is seen through what changed since.
 ghost use Rattle.std.specs.Prelude.{◌≡◌, IsTrue, IfOk};
 ghost use Rattle.sn_core_files.specs.Decided.{Decides};
 ghost use Rattle.sn_core_files.specs.Faults.{IfView};
@@ -25,7 +25,7 @@ use sn_number_table::NumberTable;
 use sn_overlay::{Overlay, Through};
 use std::alloc::Global;
 
-// What a call comes to over a live tree, with the table of its numbers.
+// The outcome of a call over a live tree, with the table of its numbers.
 fn decide_on<'x, 'c, T: NamedTree + HasContents + HasSnapshots>(
     alloc: Global,
     tree: &'x mut T,
@@ -48,7 +48,7 @@ fn decide_on<'x, 'c, T: NamedTree + HasContents + HasSnapshots>(
     decide(alloc, &mut view, sessions, session, call)
 }
 
-// What a call comes to over a tree that is seen through an overlay.
+// The outcome of a call over a tree that is seen through an overlay.
 fn decide_over<'x, 'c, B: KeepsNames + HasContents + HasSnapshots>(
     alloc: Global,
     below: &'x mut B,
@@ -77,8 +77,8 @@ fn decide_over<'x, 'c, B: KeepsNames + HasContents + HasSnapshots>(
     decide_on(alloc, &mut tree, numbers, sessions, session, call)
 }
 
-/// What a call comes to over a live tree of a root and the frozen ones, or why it has no outcome: `Memory` where what it
-/// tells found none, `View` where the root found a fault. Nothing changes.
+/// The outcome of a call over a live tree of a root and the frozen ones, or why it has none: `Memory` where its answer
+/// found none, `View` where the root found a fault. Nothing changes.
 ///
 /// Proved: The outcome of a call over a live tree and the tree below it, which lists names and has snapshots, or its first
 /// refusal, is exactly the model's in the world whose live tree is what is shown, and whose frozen trees are those below.
@@ -116,8 +116,8 @@ pub fn decide_live<'x, 'c, B: KeepsNames + HasContents + HasSnapshots>(
     )
 }
 
-/// What a call comes to that needs no look-up of a tree, or why it has no outcome: `Memory` where what it tells found
-/// none, `View` where a look-up is needed. In both cases its session and arguments have passed.
+/// The outcome of a call that needs no look-up of a tree, or why it has none: `Memory` where its answer found none, `View`
+/// where a look-up is needed. In both cases its session and arguments have passed.
 ///
 /// Proved: The outcome of a call that needs no look-up is the model's without any, and of each other call its session and
 /// arguments have passed.

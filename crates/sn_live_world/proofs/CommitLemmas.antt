@@ -25,7 +25,7 @@ held_there world n whole e = told (map.get world.live.nodes n) refl
         let is = nameless_is world.live n node (sym (ap (is_nameless world.live n) f) ∙ e) in
         all_held limits_written world whole n (is_kind world.live n node File f is.0) is.1
 
--- so only what has lost its last name may be left to nobody
+-- so only what has lost its last name may be abandoned
 pub only_lost : (old new : World) (lost : Option ℕ) → new.descriptors ≡ old.descriptors → IsWorld limits_written old → LosesAtMost old.live new.live lost → OnlyLost new lost
 only_lost old new lost same whole loses n e = told (loses n (is_left_nameless new n e))
   where

@@ -25,7 +25,7 @@ use Rattle.sn_overlay.specs.Overlays.{gone}
 
 -- ---- room
 
--- room for so many drops is room for fewer
+-- room for this many drops is room for fewer
 pub fewer_drops : (it : LiveTree) (more fewer : ℕ) → fewer ≤ more → live.HasDrops it more → live.HasDrops it fewer
 fewer_drops it more fewer less has = record { nodes = omega (arith, less, has.nodes); names = has.names; blocks = has.blocks }
 

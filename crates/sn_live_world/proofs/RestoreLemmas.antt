@@ -11,7 +11,7 @@ use Rattle.sn_overlay.specs.Layers.{Layer}
 use Rattle.sn_overlay.specs.Needs.{AreCharged}
 use Rattle.sn_overlay.specs.Overlays.{no_changes}
 
--- where nothing had changed of a tree, what has changed once they have gone is paid by their charges
+-- where nothing had changed of a tree, what has changed once they are gone is paid by their charges
 pub drops_paid : (root shown : Tree) (old new : Layer) → shown ≡ root → old ≡ no_changes → IsHierarchy shown → DropsNameless shown old new → (limits : Limits) → AreCharged limits → HasChanged limits new root (settled root) 0
 drops_paid root shown old new same none whole drops limits charged =
     subst (λ (t : Tree). HasChanged limits new root (settled t) 0) same

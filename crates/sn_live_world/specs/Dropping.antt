@@ -1,4 +1,4 @@
--- Files that are dropped, each where no name stands for it and nobody has it open.
+-- Files that are dropped, each where it has no name and nobody has it open.
 use Rattle.std.specs.Prelude.{◌≡◌, ℕ, Bool, true, ◌==◌, ◌&&◌, ◌||◌, List, [], Option, Contains}
 use Rattle.sn_changed.specs.Dropped.{TellsGone, with_drops}
 use Rattle.sn_changed.specs.declared.dropped.DroppedFile.{DroppedFile}
@@ -9,11 +9,11 @@ use Rattle.sn_live_world.specs.declared.world.LiveWorld.{LiveWorld}
 use Rattle.sn_model.specs.Settling.{dropped, dropped_if, is_abandoned}
 use Rattle.sn_model.specs.Tree.{Tree}
 
--- whether a number is that of a file that goes
+-- whether a number is that of a file that is dropped
 abbrev pub goes : LiveWorld → Tree → ℕ → Bool → ℕ → Bool
 goes w below number by_close n = by_close && (is_abandoned (world_over w below) number && n == number)
 
--- One file goes, if it is so. Its number is kept back where it goes with its last descriptor.
+-- One file is dropped, if it is abandoned. Its number is kept back where it is dropped with its last descriptor.
 pub record DropsIf (number : ℕ) (by_close : Bool) (old new : LiveWorld) (below : Tree) : Type 0 where
   pub over : IsOver new below
   pub world : world_over new below ≡ dropped_if (world_over old below) number
@@ -21,7 +21,7 @@ pub record DropsIf (number : ℕ) (by_close : Bool) (old new : LiveWorld) (below
   pub kept : (n : ℕ) → kept_of new n ≡ (goes old below number by_close n || kept_of old n)
   pub since : (n : ℕ) → kept_since_of new n ≡ (goes old below number by_close n || kept_since_of old n)
 
--- Each of these goes that is so, with its last descriptor, and no other.
+-- Each of these that is abandoned is dropped, with its last descriptor, and no other.
 pub record DropsClosed (numbers : List ℕ) (old new : LiveWorld) (below : Tree) : Type 0 where
   pub over : IsOver new below
   pub world : dropped (world_over new below) ≡ dropped (world_over old below)
@@ -33,7 +33,7 @@ pub record DropsClosed (numbers : List ℕ) (old new : LiveWorld) (below : Tree)
   pub kept : (n : ℕ) → kept_of new n ≡ (has_gone (world_over old below) (world_over new below) n || kept_of old n)
   pub since : (n : ℕ) → kept_since_of new n ≡ (has_gone (world_over old below) (world_over new below) n || kept_since_of old n)
 
--- The one that lost its name goes, if one did and it is so.
+-- The one that lost its name is dropped, if one did and it is abandoned.
 pub record DropsLost (lost : Option ℕ) (old new : LiveWorld) (below : Tree) : Type 0 where
   pub over : IsOver new below
   pub world : world_over new below ≡ dropped_lost (world_over old below) lost

@@ -1,4 +1,4 @@
--- What a fault is told as, and what it does to the counts of a device.
+-- What a fault is reported as, and what it does to the counts of a device.
 use Rattle.std.specs.Prelude.{◌≡◌, ◌⊎◌, Bool, IsTrue, Result, Ok, Err}
 use Rattle.sn_block.specs.Counts.{FailsRead}
 use Rattle.sn_block.specs.declared.fault.ReadFault.TheVariants as read
@@ -10,7 +10,7 @@ use Rattle.sn_live_world.specs.declared.fault.LookFault.TheVariants as look
 use Rattle.sn_tree_read.specs.declared.fault.TreeFault.{TreeFault}
 use Rattle.sn_tree_read.specs.declared.fault.TreeFault.TheVariants as tree
 
--- what a fault of a root's tree is told as
+-- what a fault of a root's tree is reported as
 abbrev pub look_fault_of : TreeFault → LookFault
 look_fault_of (tree.Read read.Memory) = look.Memory
 look_fault_of (tree.Read read.Device) = look.Read

@@ -22,13 +22,13 @@ use Rattle.sn_model.specs.declared.outcome.Pending.{Pending}
 use Rattle.sn_model.specs.declared.outcome.Pending.TheVariants.{Nothing, Makes, Does}
 use Rattle.sn_number_table.specs.Numbers.{next_number}
 
--- why a call comes to nothing
+-- why a call has no outcome
 abbrev pub HasNone : CallFault → World → ℕ → Call → Type 0
 HasNone (Refused r) world session c = decision limits_written world session c ≡ Err r
 HasNone Memory world session c = MayLack world session c
 HasNone Read world session c = MayLack world session c
 
--- what a call comes to
+-- the outcome of a call
 abbrev pub Decides : World → ℕ → Call → Result Outcome CallFault → Type 0
 Decides world session c (Ok o) = decision limits_written world session c ≡ Ok o
 Decides world session c (Err e) = HasNone e world session c
@@ -39,13 +39,13 @@ Picks tree kept Nothing caller picked = picked ≡ record { change = None; calle
 Picks tree kept (Makes directory name kind o) caller picked = (number : ℕ) × (next_number limits_written tree kept ≡ Some number) × (picked ≡ record { change = Some (Make directory name number kind o); caller = filled number caller })
 Picks tree kept (Does c) caller picked = picked ≡ record { change = Some c; caller = caller }
 
--- The state belongs to a tree below, a caller can turn there, and no live file is left to nobody but one that lost its name.
+-- The state belongs to a tree below, a caller can turn there, and no live file is abandoned but one that lost its name.
 pub record Turns (w : LiveWorld) (below : Tree) (session : ℕ) (caller : Caller) (lost : Option ℕ) : Type 0 where
   pub over : IsOver w below
   pub can : CanTurn (descriptors_of w) (room_of w) session caller
   pub only : OnlyLost (world_over w below) lost
 
--- Files went, and what changed is merged with their drops.
+-- Files were dropped, and what changed is merged with their drops.
 pub record DropsTo (old new : LiveWorld) (below : Tree) : Type 0 where
   pub files : List DroppedFile
   pub told : TellsGone (tree_over old below) (tree_over new below) files

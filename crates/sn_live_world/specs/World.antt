@@ -16,7 +16,7 @@ use Rattle.sn_overlay.specs.Overlays.{no_changes}
 abbrev pub tree_over : LiveWorld → Tree → Tree
 tree_over w below = live.shown_of w.live below
 
--- with who is logged in, and without frozen trees: no change makes any difference of them
+-- with who is logged in, and without frozen trees: no change makes any difference to them
 abbrev pub world_over : LiveWorld → Tree → World
 world_over w below = live_world (in_use_of w.sessions) (tree_over w below)
 
@@ -28,14 +28,14 @@ world_in w trees = record (world_over w trees.live) { frozen = trees.frozen }
 abbrev pub IsOver : LiveWorld → Tree → Type 0
 IsOver w below = live.IsLive w.live below
 
--- the numbers that are kept back, and those that are so since the point in progress began, or the durable root's where none is
+-- the numbers that are kept back, and those that have been since the point in progress began, or the durable root's if there is none
 abbrev pub kept_of : LiveWorld → ℕ → Bool
 kept_of w = live.kept_back_of w.live
 
 abbrev pub kept_since_of : LiveWorld → ℕ → Bool
 kept_since_of w = live.kept_since_of w.live
 
--- so many more files can be opened without memory
+-- this many more files can be opened without memory
 abbrev pub room_of : LiveWorld → ℕ
 room_of w = (in_use_of w.sessions).room
 
@@ -57,11 +57,11 @@ nameless_of w = live.count_of w.live
 abbrev pub HasNoPoint : LiveWorld → Type 0
 HasNoPoint w = point_of w ≡ no_changes
 
--- so many files can be dropped without memory
+-- this many files can be dropped without memory
 abbrev pub HasDrops : LiveWorld → ℕ → Type 0
 HasDrops w drops = live.HasDrops w.live drops
 
--- there is room for what was prepared, and for so many drops beside
+-- there is room for what was prepared, and for this many more drops
 abbrev pub HasRoomFor : LiveWorld → PreparedLive → ℕ → Type 0
 HasRoomFor w p drops = prepared.HasRoomFor w.live p drops
 
@@ -69,7 +69,7 @@ HasRoomFor w p drops = prepared.HasRoomFor w.live p drops
 abbrev pub HasSessions : LiveWorld → LiveWorld → Type 0
 HasSessions old new = in_use_of new.sessions ≡ in_use_of old.sessions
 
--- The same is shown of each tree below, and nothing that changed or is kept back is another. Room may be.
+-- The same is shown of each tree below, and what changed and what is kept back are the same. Room may differ.
 pub record Alike (old new : LiveWorld) : Type 0 where
   pub worlds : (below : Tree) → world_over new below ≡ world_over old below
   pub over : (below : Tree) → IsOver old below → IsOver new below

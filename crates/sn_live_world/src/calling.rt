@@ -36,7 +36,7 @@ impl LiveWorld {
     /// that is shown changes, and no room for drops is lost.
     ///
     /// Proved, also of `prepare_change`: All that a call needs is read and grown before it changes anything: room for the
-    /// file that it opens and for its drop, and what its change asks for, beside room for the drops of all open files; what
+    /// file that it opens and for its drop, and what its change asks for, besides room for the drops of all open files; what
     /// is shown is unchanged, whatever the answer.
     pub fn prepare_caller(&mut self, caller: &Caller) -> Result<(), AllocError>
         requires { HasDrops self.old (live_in (descriptors_of self.old)) }
@@ -59,8 +59,8 @@ impl LiveWorld {
         self.live.is_nameless(number) && !self.sessions.is_held(number)
     }
 
-    /// Takes a live file away, if no name stands for it and nobody has it open. Its number is kept back where it went
-    /// with its last descriptor.
+    /// Removes a live file, if no name stands for it and nobody has it open. Its number is kept back where it went with
+    /// its last descriptor.
     fn drop_if(&mut self, number: u16, by_close: bool)
         requires { HasDrops self.old 1 }
         ensures drops { (below : Tree) → IsOver self.old below → DropsIf number by_close self.old self.new below }
@@ -74,7 +74,7 @@ impl LiveWorld {
         }
     }
 
-    /// Takes each of these files away that lost its last descriptor, if no name stands for it.
+    /// Removes each of these files that lost its last descriptor, if no name stands for it.
     fn drop_each_closed(&mut self, numbers: &[u16])
         requires { HasDrops self.old (length numbers.now) }
         ensures drops { (below : Tree) → IsOver self.old below → DropsClosed numbers.now self.old self.new below }
@@ -88,7 +88,7 @@ impl LiveWorld {
         }
     }
 
-    /// Takes a file away that lost its last name, if one did and nobody has it open.
+    /// Removes a file that lost its last name, if one did and nobody has it open.
     fn drop_lost(&mut self, lost: Option<u16>)
         requires { HasDrops self.old (if is_some lost then 1 else 0) }
         ensures drops { (below : Tree) → IsOver self.old below → DropsLost lost self.old self.new below }

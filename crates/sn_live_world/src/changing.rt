@@ -31,7 +31,7 @@ use std::alloc::Global;
 impl LiveWorld {
     ghost use Rattle.sn_live_world.specs.World.{Alike, HasDrops, HasRoomFor, HasSessions, IsOver, changes_of, descriptors_of, kept_of, kept_since_of, point_of, tree_over, world_in, world_over};
 
-    // Reads and grows what a change asks for, with room for so many drops beside.
+    // Reads and grows what a change asks for, with room for so many drops besides.
     fn prepare_beside<D: Device>(
         &mut self,
         alloc: Global,
@@ -96,7 +96,7 @@ impl LiveWorld {
     }
 
     /// Makes a change that was prepared, where there is room for it, and answers the file that loses its last name, if
-    /// one does. It takes no memory, and leaves room for as many drops as there was beside the change.
+    /// one does. It takes no memory, and leaves room for as many drops as there was besides the change.
     ///
     /// Proved: A change is made without memory, what changed since the root is merged with exactly its layer, and the file
     /// that loses its last name is returned: in a world of the model no other is left to nobody.

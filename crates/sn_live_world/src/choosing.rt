@@ -12,7 +12,7 @@ use sn_limits::Limits;
 use sn_model::{Caller, Change, Pending};
 use sn_walk::Home;
 
-/// What a call comes to, with the number of a new node.
+/// The outcome of a call, with the number of a new node.
 #[derive(Drop)]
 pub struct Picked<'a> {
     /// The change that is to be made, if one is.

@@ -1,4 +1,4 @@
-//! What calls come to over the trees of a root on a device.
+//! The outcomes of calls over the trees of a root on a device.
 ghost use Rattle.std.specs.Prelude.{◌≡◌, IsTrue, IfErr, IfNone, IfOk, IfSome};
 ghost use Rattle.sn_block.specs.Lending.{device_of};
 ghost use Rattle.sn_core_files.specs.Decided.{MayLack};
@@ -57,7 +57,7 @@ impl LiveWorld {
         }
     }
 
-    // What a call comes to, as far as it needs no look-up, and `None` where it needs one: then its session and
+    // The outcome of a call, as far as it needs no look-up, and `None` where it needs one: then its session and
     // arguments have passed.
     fn decide_alone<'c, D: Device>(
         &self,
@@ -88,8 +88,8 @@ impl LiveWorld {
         }
     }
 
-    /// What a call comes to, or why it comes to nothing. `Memory` and `Read` come only once its session and arguments
-    /// have passed, and of calls that may find no memory. Nothing changes. A call that needs no look-up reads nothing.
+    /// The outcome of a call, or why it has none. `Memory` and `Read` come only once its session and arguments have
+    /// passed, and of calls that may find no memory. Nothing changes. A call that needs no look-up reads nothing.
     ///
     /// Proved: The outcome of a call over a sound root and its snapshots, its live tree seen through what changed since, is
     /// exactly the model's, where the device tells its bytes; a call that needs no look-up reads nothing, and before memory

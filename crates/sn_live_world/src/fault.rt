@@ -6,28 +6,28 @@ use sn_block::ReadFault;
 use sn_model::Refusal;
 use sn_tree_read::TreeFault;
 
-/// Why nothing is told of a root.
+/// Why a look-up of a root has no answer.
 #[derive(Clone, Copy)]
 pub enum LookFault {
     /// Memory was refused.
     Memory,
-    /// A block couldn't be read, or was misspelt. The latter comes only of a device that tells nothing of its bytes, as
-    /// one that gives others than before.
+    /// A block couldn't be read, or was misspelt. The latter comes only from a device that doesn't tell its bytes, as one
+    /// that gives others than before.
     Read,
 }
 
-/// Why a call comes to nothing.
+/// Why a call has no outcome.
 #[derive(Drop)]
 pub enum CallFault {
     /// A test refuses it.
     Refused(Refusal),
-    /// Memory was refused, for what it tells or for a look-up.
+    /// Memory was refused, for its answer or for a look-up.
     Memory,
     /// A block couldn't be read, or was misspelt, as for a look-up.
     Read,
 }
 
-/// What a fault of a root's tree is told as.
+/// How a fault of a root's tree is reported.
 pub(crate) fn look_fault_of(fault: TreeFault) -> LookFault
     ensures { result ≡ look_fault_of fault }
 {

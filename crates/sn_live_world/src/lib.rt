@@ -1,28 +1,28 @@
-//! The live tree of a root on a device with who is logged in: what a call comes to, the change that it makes, and what
+//! The live tree of a root on a device with who is logged in: the outcome of a call, the change that it makes, and what
 //! becomes of its session.
 //!
 //! The live tree is read on demand. It is the tree of a root on disk, seen through what changed since (`sn_live`), and
-//! nobody holds it in memory. Beside it stand the sessions of `sn_desc`. The model is the world of `sn_model` that is
-//! shown of a tree below. A call is decided in the world that has the frozen trees of the root's snapshots too, which are
-//! read on demand as well; of changes and callers it is said over the live tree alone, since they change nothing else.
+//! nobody holds it in memory. Beside it are the sessions of `sn_desc`. The model is the world of `sn_model` that is shown
+//! of a tree below. A call is decided in the world that has the frozen trees of the root's snapshots too, which are read
+//! on demand as well; of changes and callers it is said over the live tree alone, since they change nothing else.
 //!
 //! A call is served in parts, and whoever serves it may record the change in between:
 //!
-//! 1. [`LiveWorld::decide`] reads what the call comes to, in the live tree and the frozen ones. A call that needs no look-up
-//!    is decided without the root.
+//! 1. [`LiveWorld::decide`] finds the outcome of the call, in the live tree and the frozen ones. A call that needs no
+//!    look-up is decided without the root.
 //! 2. [`LiveWorld::prepare_caller`] makes room for the file that it opens, [`LiveWorld::choose`] fills in the number of a
 //!    new node, and [`LiveWorld::prepare_change`] reads and grows what the change asks for. Nothing changes by these.
-//! 3. [`LiveWorld::commit`] makes the change, and [`LiveWorld::set_caller`] sets what becomes of the caller, and takes
-//!    the files away that no name stands for and nobody has open any more. Both take no memory and can't fail.
+//! 3. [`LiveWorld::commit`] makes the change, and [`LiveWorld::set_caller`] sets what becomes of the caller, and removes the
+//!    files that no name stands for and nobody has open any more. Both take no memory and can't fail.
 //!
 //! A snapshot is brought back in two parts: [`prepare_restore`] reads and grows a live tree of the snapshot's tree, without its
 //! files without names, and [`LiveWorld::restore`] puts it in the live tree's place once a consistency point has made it a
 //! root. The second takes no memory and can't fail.
 //!
-//! The way through it: `specs/World` says which world is shown, `specs/Faults` what a fault does to the device,
-//! `specs/Turned` what a caller leaves, and `specs/Restored` what a snapshot is brought back as. `world` has the state, and
-//! `pointing` consistency points that begin and end; `deciding`, `choosing`, `changing` and `calling` have the parts of a
-//! call. `opening` makes the live tree of a root, and `restoring` brings a snapshot back.
+//! The way through: `specs/World` says which world is shown, `specs/Faults` what a fault does to the device, `specs/Turned` what
+//! a caller leaves, and `specs/Restored` what a snapshot is brought back as. `world` has the state, and `pointing`
+//! consistency points that begin and end; `deciding`, `choosing`, `changing` and `calling` have the parts of a call.
+//! `opening` makes the live tree of a root, and `restoring` brings a snapshot back.
 //!
 //! What the sources leave open is decided in `docs/DECISIONS.md`, under "Reading a root on demand".
 //!

@@ -19,7 +19,7 @@ use std::alloc::Global;
 
 /// The live tree of a root on which nothing changed, with its tables: what is shown is the root's tree. `file` is the
 /// root's inode file. Two passes go over it, one over its directories and one over its inodes. Where the root is sound,
-/// `Damaged` never comes. Memory is taken for the tables, and for blocks that aren't kept.
+/// `Damaged` is never returned. Memory is taken for the tables, and for blocks that aren't kept.
 ///
 /// Proved: The live tree of a root on which nothing changed, with its tables, shows the root's tree; `Damaged` is never
 /// answered where the root is sound.

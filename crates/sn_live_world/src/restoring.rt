@@ -68,8 +68,8 @@ fn settled_over<D: Device>(
 
 /// Reads and grows all that is needed to bring a snapshot of a sound root back. Nothing changes: the tree that is live is
 /// left as it is until the other takes its place. No file is read, but each inode and each directory of the snapshot's
-/// tree is. `Memory` comes where memory is refused. `Read` comes where a block can't be read, and where no snapshot has the
-/// name, which a device that tells its bytes excludes.
+/// tree is. `Memory` is returned where memory is refused. `Read` is returned where a block can't be read, and where no
+/// snapshot has the name, which a device that tells its bytes excludes.
 ///
 /// Proved: All that is needed to bring a snapshot back is read and grown before anything changes: a live tree over the
 /// snapshot's, which shows it without its files without names, with its tables. What changed of the snapshot's tree is paid

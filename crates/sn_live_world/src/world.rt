@@ -56,7 +56,7 @@ impl LiveWorld {
     /// How many live files have no name. It is kept, and not counted anew.
     ///
     /// Proved, also of `set_caller`: How many files have no name is known without a new count; no caller makes them more,
-    /// whatever the device tells.
+    /// whatever the device answers.
     pub fn nameless(&self) -> u32
         ensures exact { result ≡ nameless_of self.now }
         ensures tells { (below : Tree) → IsOver self.now below → result ≡ nameless_in (world_over self.now below).live }

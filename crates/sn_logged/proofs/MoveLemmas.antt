@@ -62,7 +62,7 @@ node_put tree number node rows alike tells = renoded tree (put_node tree number 
         get_put = get_inserted nat_cmp_total tree.nodes number node
     told link n e kind (inr apart) = subst (λ (o : Option Node). IsSomeAnd o (λ x. x.kind ≡ Directory)) (get_other nat_cmp_total exact_unsigned tree.nodes number node n apart) kind
 
--- a node that goes
+-- a node that is removed
 node_gone : (tree : Tree) (number : ℕ) (rows : Rows) → TellsDirectories tree rows → TellsDirectories (take_node tree number) rows
 node_gone tree number rows tells = renoded tree (take_node tree number) rows refl (λ link n e kind. was n kind) tells
   where
@@ -239,7 +239,7 @@ module _ (tree after : Tree) (rows : Rows) (tells : TellsDirectories tree rows) 
 
 -- ---- a move
 
--- what has the new name is gone from it, and the table tells that
+-- what has the new name is gone from it, and the table says so
 record IsReplaced (tree : Tree) (old new : Link) (number : ℕ) (rows : Rows) (cleared : Tree) : Type 0 where
   clears : IsCleared tree cleared new
   kinds : HasKind cleared number Directory → HasKind tree number Directory

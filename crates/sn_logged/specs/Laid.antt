@@ -1,4 +1,4 @@
--- What is prepared for a change of a tree, and what it comes to.
+-- What is prepared for a change of a tree, and the result.
 use Rattle.std.specs.Prelude.{◌≡◌, ℕ, Option, None, Some}
 use Rattle.sn_limits.specs.declared.limits.Limits.{Limits}
 use Rattle.sn_model.specs.declared.change.Change.{Change}
@@ -17,11 +17,12 @@ use Rattle.sn_logged.specs.declared.preparing.PreparedChange.{PreparedChange}
 abbrev pub charge_of : PreparedChange → ℕ
 charge_of p = p.charge
 
--- an overlay has room for what was prepared, and for so many drops more
+-- an overlay has room for what was prepared, and for this many more drops
 abbrev pub HasRoomFor : Overlay → PreparedChange → ℕ → Type 0
 HasRoomFor overlay p drops = HasRoom overlay (and_drops (sizes_of p.newer) drops)
 
--- A change can be applied to a tree under limits. Its overlay has the layer of the change; through it, and it lies over the tree, the tree is what the change makes of it; it is charged so much, and does so to names.
+-- A change can be applied to a tree under limits. Its overlay has the layer of the change, which lies over the tree, and through which the
+-- tree is what the change makes of it; it is charged this much, and changes names in this way.
 pub record CanBeLaid (limits : Limits) (p : PreparedChange) (live : Tree) (change : Change) : Type 0 where
   pub after : Tree
   pub applied : apply limits change live ≡ Some after

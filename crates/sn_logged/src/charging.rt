@@ -44,7 +44,7 @@ fn is_file_under<T: NamedTree>(tree: &mut T, directory: u16, name: &[u8]) -> Res
     }
 }
 
-// A file that loses a name may stay without one, which is charged beside the change.
+// A file that loses a name may stay without one, which is charged besides the change.
 fn remove_charge<T: NamedTree>(
     limits: &Limits,
     tree: &mut T,

@@ -49,7 +49,7 @@ fn prepare_over<'x, B: KeepsNames>(
 }
 
 /// Reads and grows all that a change of what is seen asks for, where it can be applied under the limits: its layer, its
-/// charge, and room for it in the overlay, and for so many drops beside. `None` where it can't be applied. Nothing that is
+/// charge, and room for it in the overlay, and for so many drops besides. `None` where it can't be applied. Nothing that is
 /// seen changes, and no room is lost, whatever the answer. A fault is one of the tree below, or of memory.
 ///
 /// Proved, also of `commit_change`: All that reads, grows or may fail comes first, and leaves what is seen and the room that
@@ -84,8 +84,8 @@ pub fn prepare_change<B: KeepsNames>(
 }
 
 /// Lays a change that was prepared over what is seen, where there is room for it: then the tree that is seen is the one that
-/// the change makes of it, and the table tells its directories. It takes no memory, and leaves room for as many drops as
-/// there was beside the change. What the overlay makes different is then what it did, and what the change does beside.
+/// the change makes of it, and the table describes its directories. It takes no memory, and leaves room for as many drops as
+/// there was besides the change. What the overlay makes different is then what it did, and what the change does besides.
 ///
 /// Proved, also of `prepare_change`: A change is laid over a tree that is read exactly where it can be applied, and what is
 /// seen and what it is charged are then the model's, by the given limits, of any version that is read; otherwise overlay and

@@ -8,10 +8,10 @@
 //! The model is `apply` and `charge_for` of `sn_model`, over the tree that is seen, and under the limits that a caller hands
 //! in: those of the root that the journal follows, or those that calls run under.
 //!
-//! The way through it:
+//! The way through:
 //!
-//! 1. `specs/Moves`: what a change does to the names of directories. `specs/Laid`: what is prepared for a change, and
-//!    what a change that was laid over a tree comes to.
+//! 1. `specs/Moves`: what a change does to the names of directories. `specs/Laid`: what is prepared for a change, and the
+//!    result of a change that was laid over a tree.
 //! 2. `charging` reads what a change is charged, `moving` what it does to names, and notes it in the table.
 //! 3. [`prepare_change`] reads and grows all that a change asks for, and nothing that is seen changes; [`commit_change`] lays
 //!    it over, takes no memory and can't fail. Between the two a caller records the change.

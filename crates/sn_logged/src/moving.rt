@@ -137,7 +137,7 @@ fn note_move(directories: &mut Directories, from: u16, to: u16, number: u16, rep
     directories.gain(to, number);
 }
 
-/// Notes what a change has done to names: the table tells the directories of the tree behind it.
+/// Notes what a change has done to names: the table describes the directories of the tree after it.
 pub(crate) fn note_moves(directories: &mut Directories, moves: NameMoves)
     ensures { (tree after : Tree) (change : TheChange) → IsTree limits_written tree → moves ≡ moves_of tree change → apply limits_written change tree ≡ Some after
         → TellsDirectories tree directories.old → TellsDirectories after directories.new }

@@ -39,7 +39,7 @@ use Rattle.sn_mkfs.proofs.InodeLemmas.{directory_fits, directory_inode, director
 
 -- ---- the new tree
 
--- nothing of it goes where it is settled
+-- nothing of it is dropped where it is settled
 stays : (q : ℕ) (b : Bool) → cond (not (is_nameless new_tree q (cond b (Some new_root) None)) || false) (cond b (Some new_root) None) None ≡ cond b (Some new_root) None
 stays q true = refl
 stays q false = refl

@@ -34,7 +34,7 @@ marked_all zero b = (omega arith, none b)
     none (suc k) = (omega arith, none k)
 marked_all (suc a) b = (omega arith, marked_all a b)
 
--- zeros behind it, and zeros in front
+-- zeros after it, and zeros in front
 marked_more : (a b k : ℕ) → marked a b ++ replicate k 0 ≡ marked a (b + k)
 marked_more a b k = append_assoc (replicate a 0) (1 ∷ replicate b 0) (replicate k 0) ∙ ap (λ (zs : List ℕ). replicate a 0 ++ 1 ∷ zs) (replicate-append-replicate b k 0)
 
@@ -89,7 +89,7 @@ module _ (c : Contents) (total : ℕ) (whole : AreSectors c) (long : total ≤ l
   blank_gate at low =
       ap (λ (s : List ℕ). slice_index s 0) (sym (append-nil (sector_at c at)) ∙ blank_part at 1 (omega (arith, low)))
 
--- ---- what stands on the disk before the root
+-- ---- what is on the disk before the root
 
 module _ (n total : ℕ) (size : IsDiskSize n) (covers : total ≡ 8 * start_of n Data)
     (c1 c2 c3 c4 : Contents) (whole : AreSectors c1) (long : 8 * n ≤ length c1)
@@ -183,7 +183,7 @@ module _ (n total : ℕ) (size : IsDiskSize n) (covers : total ≡ 8 * start_of 
   pub laid_out : IsLaidOut n c4
   laid_out = record { prepared = is_prepared; closed = slots_closed 24 (omega arith) (omega arith) }
 
--- ---- and behind it
+-- ---- and after it
 
 -- what is prepared lies elsewhere than slot A
 pub prepared_kept : (n : ℕ) (c d : Contents) → IsDiskSize n → AgreesOutside (InReplacing A) c d → IsPrepared n c → IsPrepared n d

@@ -1,4 +1,4 @@
--- A disk as it is formatted: its root, its one directory, and where each of its bytes stands.
+-- A disk as it is formatted: its root, its one directory, and where each of its bytes is.
 use Rattle.std.specs.Prelude.{◌≡◌, ℕ, ◌-◌, false, List, [], ◌∷◌, ◌++◌, replicate}
 use Rattle.sn_limits.specs.Versions.{limits_written}
 use Rattle.sn_limits.specs.declared.kind.Kind.TheVariants.{Directory}
@@ -49,7 +49,8 @@ inode_block = zeros 256 ++ inode_bytes root_directory ++ zeros 3712
 unfoldable pub fresh_words : ℕ → List ℕ
 fresh_words n = replicate (start_of n Data) 0 ++ 1 ∷ replicate (n - start_of n Data - 1) 0
 
--- What stands on the disk beside slot A: the superblock, the inode file, the block map, and no record in either half of the log. Slot B is closed.
+-- What is on the disk outside slot A: the superblock, the inode file, the block map, and no
+-- record in either half of the log. Slot B is closed.
 pub record IsPrepared (n : ℕ) (c : Contents) : Type 0 where
   pub superblock : block_at c 0 ≡ superblock_bytes (record { geometry = n })
   pub other : IsClosed c (gate_sector B)
@@ -62,7 +63,7 @@ pub record IsLaidOut (n : ℕ) (c : Contents) : Type 0 where
   pub prepared : IsPrepared n c
   pub closed : IsClosed c (gate_sector A)
 
--- And then in slot A stands the first root.
+-- And then slot A has the first root.
 pub record IsFresh (n : ℕ) (c : Contents) : Type 0 where
   pub prepared : IsPrepared n c
   pub is_open : IsOpen c (gate_sector A)

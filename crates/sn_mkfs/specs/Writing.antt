@@ -1,4 +1,4 @@
--- What formatting writes beside zeros.
+-- What formatting writes besides zeros.
 use Rattle.std.specs.Prelude.{ℕ, ◌+◌, ◌*◌, ◌/◌, ◌%◌, List, replicate, slice_set}
 use Rattle.sn_layout.specs.MapCopy.{map_block_bytes}
 use Rattle.sn_layout.specs.Geometry.{start_of}

@@ -11,7 +11,7 @@ pub enum MkfsFault {
     /// Memory was refused.
     #[error("K2")]
     Memory,
-    /// The device failed, or came to its end.
+    /// The device failed, or reached its end.
     #[error("K3")]
     Device,
 }

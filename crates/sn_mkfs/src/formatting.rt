@@ -24,9 +24,9 @@ use sn_layout::{Geometry, SECTORS_PER_BLOCK};
 use std::alloc::Global;
 
 /// Formats the first so many blocks of a device, of 4,096 bytes each: it then holds an empty root
-/// directory of user 0 and group 0, of mode 0755, and no snapshots. `Size` comes where the number isn't
-/// from 256 to 1,048,576 or the device has fewer than eight sectors for each block. At `Device` any
-/// part may have been written.
+/// directory of user 0 and group 0, of mode 0755, and no snapshots. `Size` is returned where the number
+/// isn't from 256 to 1,048,576 or the device has fewer than eight sectors for each block. At `Device`
+/// any part may have been written.
 ///
 /// Proved: A device that was formatted opens to the new world: a root directory alone, of user 0 and group 0 and of mode
 /// 0755, no snapshots, and nobody logged in.
@@ -35,11 +35,11 @@ use std::alloc::Global;
 /// the first of the data area.
 /// Proved: All other data blocks are free.
 /// Proved: Nothing is unsynced, after exactly the writes of the sectors before the data area and 33 more, and four syncs.
-/// Proved: K1 comes exactly where the number of blocks isn't from 256 to 1,048,576, or the device has fewer than eight
+/// Proved: K1 is returned exactly where the number of blocks isn't from 256 to 1,048,576, or the device has fewer than eight
 /// sectors for each.
 /// Proved: At K1, and where memory is refused (K2), the device comes back as it was.
-/// Proved: K3 comes only where the device failed or ended, after no more writes and syncs than those, and no count of it
-/// fell.
+/// Proved: K3 is returned only where the device failed or ended, after no more writes and syncs than those, and no count of
+/// it fell.
 pub fn mkfs<D: Device>(alloc: Global, device: D, blocks: u32) -> Result<D, Unformatted<D>>
     ensures opens { IsTrue D.tells_bytes
         → IfOk result (λ formatted. Opens blocks (reads (D.disk formatted)) new_world) }

@@ -5,12 +5,12 @@
 //! an inode file of one block, the first of the data area, in which number 2 alone is used. All other
 //! data blocks are free, the map copy of slot A says so, and neither half of the log has a record.
 //!
-//! The device comes by value and is handed back, formatted or not. Of one that doesn't tell its bytes
-//! only its counts are spoken of.
+//! The device comes by value and is handed back, formatted or not. For one that doesn't tell its bytes
+//! the clauses say only what its counts are.
 //!
-//! The way through: `specs/Fresh.antt` has the formatted disk part by part, `specs/Faults.antt` what a
-//! fault says. `fresh` has the first root and its directory, `writing` what is written, in which order,
-//! and `formatting` the call. A caller that asks for the number of blocks before it has a device asks
+//! The way through: `specs/Fresh.antt` has the formatted disk part by part, `specs/Faults.antt` what a fault
+//! says. `fresh` has the first root and its directory, `writing` what is written, in which order, and
+//! `formatting` the call. A caller that asks for the number of blocks before it has a device asks
 //! `sn_layout::Geometry::new`. `proofs/` shows first that the parts make up such a disk, and then that it
 //! opens to the new world and is sound.
 //!

@@ -34,7 +34,7 @@ pub fn format<D: Device>(blocks: &mut Blocks<D>, geometry: Geometry) -> Result<(
     replace(blocks, Slot::A, Gate::Closed, &fresh_root(geometry))
 }
 
-// Writes all that the first root stands on, and syncs. Both slots are closed then.
+// Writes all that the first root needs, and syncs. Both slots are closed then.
 fn lay_out<D: Device>(blocks: &mut Blocks<D>, geometry: Geometry) -> Result<(), Fault>
     requires room { 8 * geometry ≤ (D.status (device_of blocks.old)).sectors }
     ensures laid_out { IsTrue D.tells_bytes

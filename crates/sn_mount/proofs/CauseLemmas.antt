@@ -1,4 +1,4 @@
--- Why a disk isn't mounted: what the check tells of it.
+-- Why a disk isn't mounted: what the check reports of it.
 use Rattle.std.proofs.Common.{inl, ℕ}
 use Rattle.sn_device.specs.Sectors.{Contents}
 use Rattle.sn_device.specs.Crash.{Touches}

@@ -1,4 +1,4 @@
--- What stands once the first place of the log is cleared, over a root on which nothing is logged.
+-- What holds once the first place of the log is cleared, over a root on which nothing is logged.
 use Rattle.std.proofs.Common.{◌≡◌, inl, ℕ, ◌+◌, Bool, List, [], ◌∷◌, ◌++◌, None, length, slice_index, Result, refl, sym, ap, subst, ◌∙◌, arith}
 use Rattle.sn_alloc.specs.Taking.{free_data}
 use Rattle.sn_changed.specs.Changed.{HasChanged}
@@ -58,7 +58,7 @@ none_spelled : (changes : List Change) → payloads_of changes ≡ [] → change
 none_spelled [] none = refl
 none_spelled (change ∷ changes) none = absurd cc
 
--- no record stands at the first place
+-- no record is at the first place
 nothing_at : (c : Contents) (base epoch : ℕ) (changes : List Change) → changes ≡ [] → Replays c base epoch (payloads_of changes) → ReplaysTo c base epoch [] 0
 nothing_at c base epoch changes none replays =
     let here : Replays c base epoch (payloads_of []) = subst (λ (xs : List Change). Replays c base epoch (payloads_of xs)) none replays in

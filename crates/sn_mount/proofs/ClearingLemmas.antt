@@ -39,7 +39,7 @@ leads_no_later n c epoch later change changes end disk before fits leads =
     let is = epoch_is c (base_of n epoch) epoch (half_lies n epoch c disk) 0 0 _ fits leads.1 in
     inr (omega (arith, is, before))
 
--- ---- a mount that clears the place behind the last record
+-- ---- a mount that clears the place after the last record
 
 module _ (mid new : Disk) (w : World) (im : IsImage (reads mid) w) (at : LogPosition) (within : at.place ≤ 255) (synced : IsSynced mid)
     {T E : Type 0} (result : Result T E) (clears : Clears (base_at at) at.place result mid new) where

@@ -38,7 +38,7 @@ sound_stays limits file old new before after idle same sound =
     subst (λ (s : Status). IsSoundRoot limits s.sectors (store_of (reads after)) file) (sym idle)
     (subst (λ (d : Disk). IsSoundRoot limits old.sectors (store_of (reads d)) file) (sym same) sound)
 
--- where memory was refused or the device failed, nothing is told of the disk
+-- where memory was refused or the device failed, nothing is said of the disk
 pub none_refuses : (f : MountFault) (sectors : ℕ) (c : Contents) → IsNoDamage f → Refuses f sectors c
 none_refuses f sectors c (inl memory) = subst (λ (x : MountFault). Refuses x sectors c) (sym memory) tt
 none_refuses f sectors c (inr device) = subst (λ (x : MountFault). Refuses x sectors c) (sym device) tt

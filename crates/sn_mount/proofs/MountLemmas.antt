@@ -1,4 +1,4 @@
--- A mount as a whole: what it has read, the root that it makes, and what stands once the first place of that root's log is cleared.
+-- A mount as a whole: what it has read, the root that it makes, and what holds once the first place of that root's log is cleared.
 use Rattle.std.proofs.Common.{◌≡◌, ℕ, ◌+◌, Bool, true, false, None, Result, Ok, refl, sym, ap, subst, ◌∙◌, arith}
 use Rattle.std.specs.Prelude.{IfOk}
 use Rattle.sn_alloc.specs.Taking.{free_data}

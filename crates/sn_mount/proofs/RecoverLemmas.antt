@@ -131,7 +131,7 @@ module _ (sectors : ℕ) (c : Contents) (k : Kept) (at : LogPosition) (shown : T
   abbrev pub newer : List Change
   newer = f.both.has_newer.all.replayed.changes
 
-  -- nobody is logged in over the tree without files that no name stands for, beside the frozen trees of a root
+  -- nobody is logged in over the tree without files that have no name, beside the frozen trees of a root
   abbrev settled_over : RootBody → World
   settled_over b = record new_world { live = settled shown; frozen = frozen_of s b.snapshots }
 

@@ -33,7 +33,7 @@ becomes_alike : (recovers : Bool) (old other : Kept) (next : PointBase) (l m : L
 becomes_alike false old other next l m slots roots words b = (b.0 ∙ slots, b.1 ∙ roots, b.2 ∙ words)
 becomes_alike true old other next l m slots roots words b = (b.0 ∙ ap other_slot slots, subst (λ (r : RootBody). IsFollowing Recovery r next.root) roots b.1)
 
--- the records that were found, one behind the other
+-- the records that were found, one after the other
 abbrev all_of : {limits : Limits} {c : Contents} {from : Tree} {n epoch : ℕ} {at : LogPosition} {tree : Tree} {charges : ℕ} → HasBoth limits c from n epoch at tree charges → List Change
 all_of both = both.has_older.all.replayed.changes ++ both.has_newer.all.replayed.changes
 

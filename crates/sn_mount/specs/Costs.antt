@@ -14,7 +14,7 @@ abbrev pub CostsNext : Bool → ℕ → Status → Status → Type 0
 CostsNext false n old new = new ≡ old
 CostsNext true n old new = (count : ℕ) × (count ≤ n) × (gate : Gate) × (new ≡ called (writes_of_steps n gate count) (syncs_of_steps gate) old)
 
--- So much it costs at `Ok`, and never more than a point that takes all blocks.
+-- At `Ok` it costs this much, and never more than a point that takes all blocks.
 pub record CostsRoot {T : Type 0} (result : Result T MountFault) (n : ℕ) (recovers : Bool) (old new : Status) : Type 0 where
   pub done : OnOk result (CostsNext recovers n old new)
   pub later : IsLater old new

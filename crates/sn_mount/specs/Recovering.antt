@@ -41,18 +41,20 @@ pub record LeavesTheWorld (old new : Disk) (world : World) : Type 0 where
   pub synced : IsSynced mid
   pub moments : LeavesOnly mid new (λ c. IsImage c world)
 
--- The world that the disk was an image of runs, ready for a point, over a root on which nothing is logged: with the room that its image has now. At no moment a crash would have left another.
+-- The world that the disk was an image of runs, ready for a point, over a root on which nothing is logged: with the room that its image has
+-- now. At no moment would a crash have left another.
 pub record IsRecovered (at : LogPosition) (found : World) (room : RoomCounts) (base : Kept) (old new : Disk) (world : World) : Type 0 where
   pub is : found ≡ world
   pub room_is : HasRoomOf (reads new) world room
   pub runs : (kept since : ℕ → Bool) (status : Status) → RunsReady (record { world = world; kept = kept; kept_since = since; room = room; at = at; base = base; point = None; disk = new; status = status }) world base
   pub leaves : LeavesTheWorld old new world
 
--- either nothing was written, or at no moment a crash would have left another world
+-- either nothing was written, or at no moment would a crash have left another world
 abbrev pub KeepsTheWorld : Disk → Disk → World → Type 0
 KeepsTheWorld old new world = Touches Nowhere old new ⊎ LeavesTheWorld old new world
 
--- A mount that finds that it can't be one has written nothing; one that was refused memory, or whose device failed, may have written beside the root.
+-- A mount that finds that it can't succeed has written nothing; one that was refused memory, or whose
+-- device failed, may have written outside the root.
 abbrev pub WritesAtFault : MountFault → ℕ → Disk → Disk → Type 0
 WritesAtFault fault.Memory sectors old new = Touches Nowhere old new ⊎ KeepsTheRoot sectors old new
 WritesAtFault fault.Device sectors old new = Touches Nowhere old new ⊎ KeepsTheRoot sectors old new

@@ -19,7 +19,8 @@ abbrev pub BecomesRoot : Bool → Kept → Kept → Type 0
 BecomesRoot false old new = (new.slot ≡ old.slot) × (new.root ≡ old.root) × (new.words ≡ old.words)
 BecomesRoot true old new = (new.slot ≡ other_slot old.slot) × IsFollowing Recovery old.root new.root
 
--- A mount of an image makes a point exactly where the root isn't of the written version, a record was replayed, or a file without names dropped, and that is what tells root and cost.
+-- A mount of an image makes a point exactly where the root isn't of the written version, a record was replayed, or a file without
+-- names dropped, and that determines root and cost.
 pub record MountsRoot (c : Contents) (world : World) (im : IsImage c world) (base : Kept) (old new : Status) : Type 0 where
   pub recovers : Bool
   pub tells : TellsRecovery recovers im.opens.root (im.opens.older ++ im.opens.newer) (image (store_of c) im.opens.root.inode_file)

@@ -1,4 +1,4 @@
--- What becomes of what was found: files without names go, and what is to recover becomes a root.
+-- What becomes of what was found: files without names are dropped, and what is to recover becomes a root.
 use Rattle.std.specs.Prelude.{◌≡◌, ℕ, Bool, false, Result, IfOk}
 use Rattle.sn_changed.specs.Changed.{HasChanged}
 use Rattle.sn_device.specs.Crash.{LeavesOnly}
@@ -25,14 +25,14 @@ use Rattle.sn_cp_whole.specs.declared.base.PointBase.{PointBase}
 use Rattle.sn_cp_whole.specs.declared.fault.PointFault.{PointFault}
 use Rattle.sn_cp_whole.specs.declared.fault.PointFault.TheVariants as point
 
--- The same root is kept, and what changed of its tree up to this live tree is on what changed up to the settled one.
+-- The same root is kept, and what changed of its tree up to this live tree has become what changed up to the settled one.
 pub record SettlesChanges (old : Kept) (live : Tree) (new : Kept) : Type 0 where
   pub slot : new.slot ≡ old.slot
   pub root : new.root ≡ old.root
   pub words : new.words ≡ old.words
   pub changed : (limits : Limits) (root : Tree) (charged : ℕ) → AreCharged limits → HasChanged limits old.changed root live charged → HasChanged limits new.changed root (settled live) charged
 
--- What a recovery that isn't made makes of a mount. That no age is left never comes, since it is looked for before.
+-- What a recovery that isn't made makes of a mount. That no age is left never happens, since that is checked before.
 abbrev pub mount_fault : PointFault → ℕ → MountFault
 mount_fault point.Memory map = fault.Memory
 mount_fault point.Read map = fault.Device

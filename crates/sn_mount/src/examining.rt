@@ -21,7 +21,7 @@ use sn_model::MountFault;
 use std::alloc::Global;
 
 /// Checks the whole disk, and finds the newest root with the log on top of it where that is sound. A fault is the one that
-/// the check tells.
+/// the check reports.
 pub(crate) fn examine<D: Device>(
     alloc: Global,
     blocks: &mut Blocks<D>,

@@ -78,7 +78,7 @@ pub(crate) fn settle(alloc: Global, found: FoundDisk) -> Result<Settled, AllocEr
     }
 }
 
-/// What a recovery that isn't made makes of a mount. What can't be used of a root and its map is told of the map.
+/// What a mount answers where its recovery isn't made. What can't be used of a root and its map is reported at the map.
 fn mount_fault(fault: PointFault, map: u32) -> MountFault
     requires { fault ≢ AgePoint }
     ensures { result ≡ mount_fault fault map }

@@ -1,4 +1,4 @@
--- What a call comes to over the tree in memory, and in a run of it.
+-- The outcome of a call over the tree in memory, and in a run of it.
 use Rattle.std.proofs.Common.{◌≡◌, ℕ, Bool, false, List, [], ◌∷◌, Option, Some, None, Result, Ok, Err, refl, sym, ap, subst, ◌∙◌}
 use Rattle.std.specs.Prelude.{IsOk}
 use Rattle.sn_limits.specs.Versions.{limits_written}

@@ -1,4 +1,4 @@
--- What the live tree in memory and the sessions stand for.
+-- What the live tree in memory and the sessions represent.
 use Rattle.std.specs.Prelude.{ℕ, Bool}
 use Rattle.std.specs.FinMap as map
 use Rattle.sn_model.specs.Tree.{Tree}
@@ -20,13 +20,13 @@ world_of w = record { live = live_of w.tree; frozen = map.empty; sessions = (in_
 abbrev pub kept_of : PlainWorld → ℕ → Bool
 kept_of w = kept_back_of w.tree
 
--- those of them that are kept back since the consistency point in progress began, or the durable root's where none is
+-- those of them that have been kept back since the consistency point in progress began, or the durable root's if there is none
 abbrev pub kept_since_of : PlainWorld → ℕ → Bool
 kept_since_of w = numbers.kept_since_of w.tree
 
 abbrev pub numbered_of : PlainWorld → Numbered
 numbered_of w = record { world = world_of w; kept = kept_of w }
 
--- so many more files can be opened without memory
+-- this many more files can be opened without memory
 abbrev pub room_of : PlainWorld → ℕ
 room_of w = (in_use_of w.sessions).room

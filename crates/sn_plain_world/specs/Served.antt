@@ -33,7 +33,7 @@ abbrev pub HasNone : WorldError → World → ℕ → Call → Type 0
 HasNone (Refused r) world session c = decision limits_written world session c ≡ Err r
 HasNone Memory world session c = TakesMemory c × IsOk (ready world session c)
 
--- what a call comes to
+-- the outcome of a call
 abbrev pub Decides : World → ℕ → Call → Result Outcome WorldError → Type 0
 Decides world session c (Ok o) = decision limits_written world session c ≡ Ok o
 Decides world session c (Err e) = HasNone e world session c

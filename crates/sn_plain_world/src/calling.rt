@@ -40,7 +40,7 @@ impl PlainWorld {
         }
     }
 
-    /// Sets what becomes of a caller's session and its descriptors, and tells the live files that no
+    /// Sets what becomes of a caller's session and its descriptors, and returns the live files that no
     /// descriptor has any more.
     fn turn(&mut self, session: u32, caller: Caller) -> Released
         requires opens { CanTurn (world_of self.old).descriptors (room_of self.old) session caller }
@@ -61,8 +61,8 @@ impl PlainWorld {
         self.tree.tree().is_nameless(number) && !self.sessions.is_held(number)
     }
 
-    /// Takes a live file away that lost its last descriptor, if no name stands for it, and tells it behind
-    /// the others: its number is kept back.
+    /// Removes a live file that lost its last descriptor, if no name stands for it, and reports it after the
+    /// others: its number is kept back.
     fn drop_if_closed(&mut self, number: u16, dropped: &mut DroppedFiles)
         requires numbers { AreNumbers (world_of self.old) }
         requires room { array_vec_len dropped.old < 65 }
@@ -100,8 +100,8 @@ impl PlainWorld {
         dropped
     }
 
-    /// Takes a live file away that lost a name, if no other stands for it and nobody has it open, and tells
-    /// it behind the others.
+    /// Removes a live file that lost a name, if no other stands for it and nobody has it open, and reports it after
+    /// the others.
     fn drop_if_lost(&mut self, number: u16, dropped: &mut DroppedFiles)
         requires numbers { AreNumbers (world_of self.old) }
         requires room { array_vec_len dropped.old < 65 }
@@ -135,7 +135,7 @@ impl PlainWorld {
 
     /// Sets what becomes of a caller's session and its descriptors. A live file that no name stands for
     /// goes where nobody has it open any more: one that lost its last descriptor, or its name by the
-    /// change that was made. Only those are looked at. The numbers of the former are kept back. It tells
+    /// change that was made. Only those are looked at. The numbers of the former are kept back. It returns
     /// the files that went, each once, and whether with the last descriptor.
     ///
     /// Proved: A file without a name goes exactly when nobody has it open any more; those that go are returned, each once

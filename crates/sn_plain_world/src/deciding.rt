@@ -1,4 +1,4 @@
-//! What calls come to over the tree in memory and the sessions.
+//! The outcomes of calls over the tree in memory and the sessions.
 ghost use Rattle.std.specs.Prelude.{IfOk};
 ghost use Rattle.sn_model.specs.Worlds.{IsCall};
 ghost use Rattle.sn_plain_world.specs.Served.{Decides};
@@ -12,8 +12,8 @@ use std::alloc::Global;
 impl PlainWorld {
     ghost use Rattle.sn_plain_world.specs.Plain.{world_of};
 
-    /// What a call comes to, or its first refusal. `Memory` comes only once its session and arguments
-    /// have passed. Nothing changes.
+    /// The outcome of a call, or its first refusal. `Memory` is returned only once its session and
+    /// arguments have passed. Nothing changes.
     ///
     /// Proved: The outcome of a call is what the model decides.
     pub fn decide<'a>(

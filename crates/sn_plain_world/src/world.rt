@@ -24,7 +24,7 @@ use std::alloc::{AllocError, Global};
 pub struct PlainWorld {
     pub(crate) tree: NumberedTree,
     pub(crate) sessions: Sessions,
-    // In a name tree alone the way up tells whether a directory is below another, as a rename asks.
+    // Only in a name tree does the way up decide whether a directory is below another, as a rename asks.
     ghost whole: { ∥ IsTree limits_written (live_of tree) ∥₁ },
 }
 
@@ -73,7 +73,7 @@ impl PlainWorld {
         self.tree.apply(alloc, &Limits::WRITTEN, change)
     }
 
-    /// Logs all out, and takes all files away that no name stands for. No number is kept back any more.
+    /// Logs everybody out, and removes all files that no name stands for. No number is kept back any more.
     pub fn settle(&mut self)
         ensures world { world_of self.new ≡ settle (world_of self.old) }
         ensures kept { (n : ℕ) → kept_of self.new n ≡ false }
@@ -105,7 +105,7 @@ impl PlainWorld {
         match change {
             Some(change) => match self.apply(alloc, &change) {
                 Ok(()) => {}
-                // What was decided can be applied, so that memory alone can lack.
+                // What was decided can be applied, so that only memory can be lacking.
                 Err(_) => return Err(WorldError::Memory),
             },
             None => {}

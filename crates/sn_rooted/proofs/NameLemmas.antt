@@ -29,7 +29,7 @@ use Rattle.sn_model.specs.Tree.{link_cmp, link_to}
 use Rattle.sn_model.proofs.LinkLemmas.{exact_links, links_total}
 use Rattle.sn_ondisk.specs.Trees.{Store}
 
--- ---- names of which none stands twice
+-- ---- names of which none occurs twice
 
 once_behind : (l : Link) (ls : List Link) → AreOnce (l ∷ ls) → AreOnce ls
 once_behind l ls once name = omega (arith, once name, sum_by-cons (λ y. cond (bytes_eq y.name name) 1 0) l ls)
@@ -42,7 +42,7 @@ first_apart x y ls once same =
     let next : f y ≡ 1 = ap (λ (b : Bool). cond b 1 0) ((bytes_eq-Decides y.name x.name).1 (sym same)) in
     omega (arith, once x.name, sum_by-cons f x (y ∷ ls), sum_by-cons f y ls, here, next)
 
--- a name has the same number wherever it stands
+-- a name has the same number wherever it is
 module _ (old new : List Link) (moved : IsPermutation old new) (once : AreOnce old) where
   once_moved : AreOnce new
   once_moved name = omega (arith, once name, sum_by-IsPermutation (λ (l : Link). cond (bytes_eq l.name name) 1 0) old new moved)
@@ -63,7 +63,7 @@ module _ (old new : List Link) (moved : IsPermutation old new) (once : AreOnce o
 
 -- ---- in order
 
--- in one directory the names alone tell the order
+-- in one directory the names alone determine the order
 less_names : (d : ℕ) (a b : List ℕ) → link_cmp (link_to d a) (link_to d b) ≡ slice_cmp nat_cmp a b
 less_names d a b = ap (λ (o : Ordering). ordering_then o (slice_cmp nat_cmp a b)) (tied_itself nat_cmp_total d)
 

@@ -1,4 +1,4 @@
--- What a sound root on a device comes to for one who reads it.
+-- What a sound root on a device gives one who reads it.
 use Rattle.std.proofs.Common.{◌≡◌, ℕ, ◌+◌, ◌*◌, ◌/◌, ◌<◌, ◌≤◌, ◌==◌, Bool, IsTrue, false, List, [], length, take, drop, Option, Some, None, IfOk, IfSome, Result, Ok, Err, refl, sym, ap, subst, ◌∙◌, arith, Contains}
 use Rattle.std.specs.Prelude.{IsErrAnd, nat_le, nat_lt}
 use Rattle.std.specs.Option.{option_map, option_and_then}
@@ -69,7 +69,7 @@ at_now tells old new before now status same P told h =
 pub at_start : (tells : Bool) (old new : Status) (before now : Disk) → new ≡ old → (IsTrue tells → now ≡ before) → (P : ℕ → Store → Type 0) → IsTrue tells → P new.sectors (store_of (reads now)) → P old.sectors (store_of (reads before))
 at_start tells old new before now status same P told h = at_now tells new old now before (sym status) (λ t. sym (same t)) P told h
 
--- ---- what inodes tell
+-- ---- what inodes say
 
 pub node_is : (s : Store) (file : BlockTree) (number : ℕ) (inode : Inode) → inode_at s file number ≡ Some inode → fin.get (image s file).nodes number ≡ Some (node_of s inode)
 unfolding node_at

@@ -1,4 +1,4 @@
--- What an inode tells of its node.
+-- What an inode says of its node.
 use Rattle.std.specs.Prelude.{ℕ, Bool, false, ◌==◌, List, [], Option, None, Some}
 use Rattle.sn_acl.specs.declared.entries.Entry.{Entry}
 use Rattle.sn_layout.specs.declared.tree.BlockTree.{BlockTree}
@@ -49,7 +49,7 @@ abbrev pub names_tree_if : Option Inode → Option BlockTree
 names_tree_if None = None
 names_tree_if (Some inode) = names_tree inode.kind inode.content
 
--- the names that stand in such a tree
+-- the names in such a tree
 abbrev pub names_if : Store → Option BlockTree → List Link
 names_if s None = []
 names_if s (Some tree) = names_of s (Tree tree)
@@ -64,7 +64,7 @@ abbrev pub file_content_if : Option Inode → Option Content
 file_content_if None = None
 file_content_if (Some inode) = file_content inode.kind inode.content
 
--- the bytes that stand in such a content
+-- the bytes of such a content
 abbrev pub bytes_if : Store → Option Content → List ℕ
 bytes_if s None = []
 bytes_if s (Some content) = bytes_of s content

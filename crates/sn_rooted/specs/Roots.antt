@@ -26,21 +26,21 @@ use Rattle.sn_walk.specs.declared.object.Home.TheVariants.{Live, Frozen}
 
 -- ---- one tree
 
--- A root is sound on a disk whose blocks lie on a device of so many sectors, and its version is known.
+-- A root is sound on a disk whose blocks lie on a device of this many sectors, and its version is known.
 pub record IsSoundRoot (limits : Limits) (sectors : ℕ) (s : Store) (file : BlockTree) : Type 0 where
   pub version : limits_of limits.version ≡ Some limits
   pub blocks : ℕ
   pub fits : 8 * blocks ≤ sectors
   pub sound : IsSound limits blocks s file
 
--- The blocks of a content lie on a device of so many sectors, and hold as many bytes as its size says.
+-- The blocks of a content lie on a device of this many sectors, and hold as many bytes as its size says.
 pub record IsWhole (sectors : ℕ) (s : Store) (content : Content) : Type 0 where
   pub inside : (offset n : ℕ) → IsOutside sectors s content offset n → ⊥
   pub blocks : (block : ℕ) → Contains (content_reach s content) block → length (s block) ≡ 4096
   pub size : length (bytes_of s content) ≡ size_of content
 
 module _ {D : Type 0} {g : Ghosts D} where
-  -- what stands in the blocks of the device
+  -- what is in the blocks of the device
   abbrev pub store_on : Blocks D g → Store
   store_on blocks = store_of (reads (g.disk (device_of blocks)))
 

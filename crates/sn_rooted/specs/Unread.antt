@@ -1,4 +1,4 @@
--- What can't be read of a root's tree, and the block that this is told of.
+-- What can't be read of a root's tree, and the block that is reported for it.
 use Rattle.std.specs.Prelude.{◌⊎◌, ℕ, List, Option, IsSomeAnd}
 use Rattle.sn_limits.specs.declared.limits.Limits.{Limits}
 use Rattle.sn_layout.specs.declared.tree.BlockTree.{BlockTree}
@@ -18,6 +18,6 @@ IsUnreadInode limits sectors s file number block = IsUnreadRecord limits sectors
 abbrev pub HasUnreadNames : (List Link → Type 0) → ℕ → Store → BlockTree → ℕ → Option ℕ → Type 0
 HasUnreadNames IsOpen sectors s file number block = IsSomeAnd (names_tree_if (inode_at s file number)) (λ tree. IsDamagedAt IsOpen sectors s tree block)
 
--- Bytes of a file can't be read, among so many from an offset on.
+-- Bytes of a file can't be read, among this many from an offset on.
 abbrev pub HasUnreadBytes : ℕ → ℕ → ℕ → Store → BlockTree → ℕ → Option ℕ → Type 0
 HasUnreadBytes offset n sectors s file number block = IsSomeAnd (file_content_if (inode_at s file number)) (λ content. IsOutsideAt sectors s content offset n block)

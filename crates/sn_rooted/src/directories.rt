@@ -62,9 +62,9 @@ fn directory_at<D: Device>(
 }
 
 /// The number that a name has in a directory of a root's tree, and `None` where the number isn't a
-/// directory's. Its blocks are read in turn, up to the one that has the name. `Damaged` comes only where its
-/// record or one of these blocks can't be read, with that block, and never where the root is sound. Memory is
-/// taken for blocks that aren't kept.
+/// directory's. Its blocks are read in turn, up to the one that has the name. `Damaged` is returned only where
+/// its record or one of these blocks can't be read, with that block, and never where the root is sound. Memory
+/// is taken for blocks that aren't kept.
 pub fn link<D: Device>(
     blocks: &mut Blocks<D>,
     limits: &Limits,
@@ -88,9 +88,9 @@ pub fn link<D: Device>(
 }
 
 /// The names of a directory of a root's tree in the order of their bytes, with their numbers, and none
-/// where the number isn't a directory's. `Damaged` comes only where its record or one of its blocks can't be
-/// read, with that block, and never where the root is sound. Memory is taken for the answer, and for blocks
-/// that aren't kept.
+/// where the number isn't a directory's. `Damaged` is returned only where its record or one of its blocks
+/// can't be read, with that block, and never where the root is sound. Memory is taken for the answer, and
+/// for blocks that aren't kept.
 pub fn names<D: Device>(
     alloc: Global,
     blocks: &mut Blocks<D>,

@@ -56,9 +56,9 @@ fn file_at<D: Device>(
 }
 
 /// The bytes of a file of a root's tree from an offset on: so many, or as many as there are before its end,
-/// and none where the number isn't a file's. Holes read as zeros. `Damaged` comes only where its record or one
-/// of these bytes can't be read, with their block, and never where the root is sound. Memory is taken for the
-/// answer, and for blocks that aren't kept.
+/// and none where the number isn't a file's. Holes read as zeros. `Damaged` is returned only where its record
+/// or one of these bytes can't be read, with their block, and never where the root is sound. Memory is taken
+/// for the answer, and for blocks that aren't kept.
 pub fn read<D: Device>(
     alloc: Global,
     blocks: &mut Blocks<D>,

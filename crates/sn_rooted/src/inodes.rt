@@ -24,13 +24,13 @@ use sn_tree_read::TreeFault;
 #[derive(Drop)]
 pub struct StoredInode {
     pub inode: Inode,
-    /// What stands in its ACL block, nothing where it has none.
+    /// What its ACL block holds, nothing where it has none.
     pub acls: AclBlock,
 }
 
 /// The inode that a number has in a root's tree, `None` where no node has it. `file` is the root's inode file, and of
-/// the number only the inode is read. `Damaged` comes only where its record can't be read, and never where the root is
-/// sound. Memory is taken for blocks that aren't kept.
+/// the number only the inode is read. `Damaged` is returned only where its record can't be read, and never where the
+/// root is sound. Memory is taken for blocks that aren't kept.
 ///
 /// Proved, also of `stored_inode`: The inode of a number is the one that a root has, on any image, and its ACLs are those of
 /// its block.
@@ -53,8 +53,8 @@ pub fn inode_of<D: Device>(
 }
 
 /// The inode that a number has in a root's tree, with its ACLs, `None` where no node has it. `file` is the
-/// root's inode file. `Damaged` comes only where its record or its ACLs can't be read, with their block, and
-/// never where the root is sound. Memory is taken for blocks that aren't kept.
+/// root's inode file. `Damaged` is returned only where its record or its ACLs can't be read, with their block,
+/// and never where the root is sound. Memory is taken for blocks that aren't kept.
 pub fn stored_inode<D: Device>(
     blocks: &mut Blocks<D>,
     limits: &Limits,

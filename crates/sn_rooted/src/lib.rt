@@ -4,11 +4,11 @@
 //! `sn_model`, which says what is seen of a tree. Over a device that tells its bytes, and where the root is
 //! sound there (`IsSoundOn`), each answer is what that tree says: a node's attributes, whether it is a file
 //! without a name, a default ACL, the number under a name, the names of a directory in order, bytes of a file.
-//! `Damaged` never comes then. The number under a name and a default ACL are exact on any image, and on any image
-//! `Damaged` carries the block of what can't be read (`specs/Unread`). Whatever the device tells, the calls are safe
-//! and end, and write nothing.
+//! `Damaged` is never returned then. The number under a name and a default ACL are exact on any image, and on any
+//! image `Damaged` carries the block of what can't be read (`specs/Unread`). Whatever the device answers, the
+//! calls are safe and end, and write nothing.
 //!
-//! Nothing is kept of a tree. A look-up reads the inode of the number and what it needs behind that: the ACL
+//! Nothing is kept of a tree. A look-up reads the inode of the number and what it needs after that: the ACL
 //! block, the blocks of names up to the one that has the name, the blocks of the bytes. It reads them in
 //! place, in the cache of `sn_block`, and takes memory for names and bytes that it answers, and for blocks
 //! that aren't kept.

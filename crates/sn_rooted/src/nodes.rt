@@ -50,7 +50,7 @@ fn attributes_in(inode: &Inode, access: &NamedEntries) -> Attributes
     }
 }
 
-// What is known of an inode's node whose access ACL is told by its mode bits alone.
+// What is known of an inode's node whose access ACL is given by its mode bits alone.
 fn plain_attributes(inode: &Inode) -> Attributes
     ensures { result ≡ attributes_in inode.now [] }
 {
@@ -88,9 +88,9 @@ fn whole_attributes<D: Device>(
 }
 
 /// What is known of the node that a number has in a root's tree, `None` where none has it. `file` is the
-/// root's inode file. `Damaged` comes only where its record or its ACLs can't be read, with their block, and
-/// never where the root is sound. Memory is taken for blocks that aren't kept. Most nodes have no ACL block, and take no
-/// more than their mode bits tell.
+/// root's inode file. `Damaged` is returned only where its record or its ACLs can't be read, with their block,
+/// and never where the root is sound. Memory is taken for blocks that aren't kept. Most nodes have no ACL
+/// block, and need no more than their mode bits.
 ///
 /// Proved, also of `names` and `read`: What is read on demand is what the tree has that a sound root denotes: a node's
 /// attributes with its links, size and ACL, the names of a directory in order, with their numbers, and the bytes of a file
@@ -98,8 +98,8 @@ fn whole_attributes<D: Device>(
 /// Proved, also of `default_acl`, `inode_of`, `is_nameless`, `link`, `names`, `read` and `stored_inode`: On a sound root
 /// whose blocks the device has `Damaged` is never answered.
 /// Proved, also of `default_acl`, `inode_of`, `is_nameless`, `link`, `names`, `read` and `stored_inode`: On any image
-/// `Damaged` comes only where what is needed can't be read: the number's record, its ACLs, or a block of its names or bytes,
-/// which it carries, if there is one.
+/// `Damaged` is returned only where what is needed can't be read: the number's record, its ACLs, or a block of its names or
+/// bytes, which it carries, if there is one.
 /// Proved, also of each other function: Nothing is written, and nothing is counted but the failure of a read.
 pub fn attributes<D: Device>(
     blocks: &mut Blocks<D>,
@@ -125,8 +125,8 @@ pub fn attributes<D: Device>(
 }
 
 /// The default ACL of the node that a number has in a root's tree, `None` where it has none, as a file, or
-/// where no node has the number. `Damaged` comes only where its record or its ACLs can't be read, with their
-/// block, and never where the root is sound. Memory is taken for blocks that aren't kept.
+/// where no node has the number. `Damaged` is returned only where its record or its ACLs can't be read, with
+/// their block, and never where the root is sound. Memory is taken for blocks that aren't kept.
 ///
 /// Proved, also of `link`: A default ACL and the number under a name are what a root has, on any image.
 pub fn default_acl<D: Device>(
@@ -160,8 +160,8 @@ fn is_unlinked(inode: &Inode) -> bool
 }
 
 /// Whether a number has a file in a root's tree that has no name. `file` is the root's inode file, and of the
-/// number only the inode is read. `Damaged` comes only where its record can't be read, with its block, and
-/// never where the root is sound. Memory is taken for blocks that aren't kept.
+/// number only the inode is read. `Damaged` is returned only where its record can't be read, with its block,
+/// and never where the root is sound. Memory is taken for blocks that aren't kept.
 ///
 /// Proved: Whether a number has a file without a name, by its inode alone, is so in the tree that a sound root denotes.
 pub fn is_nameless<D: Device>(

@@ -37,7 +37,7 @@ module _ (s : Store) (root : RootBody) (name : List ℕ) (found : Option BlockTr
 
 -- ---- how many bytes a node has
 
--- of a node that is seen it is told
+-- of a node that is seen it is known
 pub seen_long : (tree : Tree) (number : ℕ) (node : SeenNode) → Some node ≡ seen_node tree number → node.size ≡ length (bytes_of (fin.get tree.nodes number))
 seen_long tree number node is = told (fin.get tree.nodes number) is
   where
@@ -73,7 +73,7 @@ module _ {X Y : Type 0} where
   put_first k v w e f es fs Equal first same rest = λ i. first i ∷ same i
   put_first k v w e f es fs Greater first same rest = λ i. first i ∷ rest i
 
-  -- which keys there are is told by those that were put there, whatever stands with them
+  -- which keys there are is determined by those that were put there, whatever is with them
   keys-put : (k : List ℕ) (v : X) (w : Y) (es : List (List ℕ × X)) (fs : List (List ℕ × Y)) → keys_of es ≡ keys_of fs → keys_of (put by_bytes k v es) ≡ keys_of (put by_bytes k w fs)
   keys-put k v w [] [] same = refl
   keys-put k v w [] (f ∷ fs) same = absurd (omega (arith, ap length same))
@@ -84,7 +84,7 @@ module _ {X Y : Type 0} where
       put_first k v w e f es fs (by_bytes k e.0) first rest (keys-put k v w es fs rest)
       ∙ ap (λ r. keys_of (by_order r ((k, w) ∷ f ∷ fs) ((f.0, w) ∷ fs) (f ∷ put by_bytes k w fs))) (ap (by_bytes k) first)
 
-  -- the names of snapshots are the same, whatever is told of each
+  -- the names of snapshots are the same, whatever is said of each
   pub same_names : (a : Snapshot → X) (b : Snapshot → Y) (snapshots : List Snapshot) → fin.keys (by_name a snapshots) ≡ fin.keys (by_name b snapshots)
   same_names a b [] = no_keys X ∙ sym (no_keys Y)
   same_names a b (s ∷ more) =

@@ -12,7 +12,7 @@ use Rattle.sn_model.proofs.ChainLemmas.{some_same}
 use Rattle.sn_rooted_tree.proofs.CountLemmas.{later}
 
 module _ (directory : ℕ) (number_of : Link → Option ℕ) where
-  -- names that are those of some entries, with the numbers that both are told by
+  -- names that are those of some entries, with the numbers that both have
   named : (names : List ListedName) (es : List (Link × ℕ)) → map (λ (x : ListedName). x.name) names ≡ map (λ (e : Link × ℕ). e.0.name) es
       → ((x : ListedName) → Contains names x → number_of (link_to directory x.name) ≡ Some x.number)
       → AllByRecursion (λ (e : Link × ℕ). (e.0.directory ≡ directory) × (number_of e.0 ≡ Some e.1)) es

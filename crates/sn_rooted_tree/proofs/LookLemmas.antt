@@ -1,4 +1,4 @@
--- A look-up, and the fault that stands behind it.
+-- A look-up, and the fault that remains after it.
 use Rattle.std.proofs.Common.{◌≡◌, ℕ, Bool, IsTrue, Option, None, Some, Result, Ok, Err, IfErr, refl, sym, subst}
 use Rattle.sn_block.specs.declared.fault.ReadFault.TheVariants.{Device, Memory}
 use Rattle.sn_device.specs.Disk.{Disk, reads}
@@ -19,7 +19,7 @@ looked told (Err (Read Device)) old new counts never = counts.device refl
 looked told (Err (Read Memory)) old new counts never = counts.memory refl
 looked told (Err (Damaged block)) old new counts never = (counts.damaged block refl, λ is. never is block refl)
 
--- behind an answer, where no fault stood
+-- after an answer, where there was no fault
 pub looks_behind : {T : Type 0} (told : Bool) (old new : Status) (before now : Disk) (root : RootBody) (stood stands : Option TreeFault) (answer : Result T TreeFault) → stood ≡ None → stands ≡ fault_of answer → CountsTree answer old new → (IsTrue told → now ≡ before)
     → (IsTrue told → (block : Option ℕ) → answer ≡ Err (Damaged block) → ⊥) → Looks told old new before now root root stood stands
 looks_behind told old new before now root stood stands answer none is counts same never = record {
@@ -40,12 +40,12 @@ looks_aside told status disk root stood stands answer none is memory = record {
     aside (Ok x) e = refl
     aside (Err f) e = subst (λ (x : TreeFault). Stands told status status None (Some x)) (sym e) refl
 
--- the fault that is answered stands
+-- the fault that is answered remains
 pub stood : {T : Type 0} (answer : Result T TreeFault) (fault : Option TreeFault) → fault ≡ fault_of answer → IfErr answer (λ f. fault ≡ Some f)
 stood (Ok x) fault is = tt
 stood (Err f) fault is = is
 
--- a root is sound behind a look-up where it was before
+-- a root is sound after a look-up where it was before
 pub stays_sound : (told : Bool) (k n : ℕ) (before now : Disk) (limits : Limits) (file : BlockTree) → n ≡ k → (IsTrue told → now ≡ before)
     → (IsTrue told → IsSoundRoot limits k (store_of (reads before)) file) → IsTrue told → IsSoundRoot limits n (store_of (reads now)) file
 stays_sound told k n before now limits file sectors same sound is =

@@ -38,7 +38,7 @@ module _ {X : Type 0} (passes : ℕ × X → Bool) where
   abbrev passes_below : ℕ → ℕ × X → Bool
   passes_below end e = nat_lt e.0 end && passes e
 
-  -- behind the end, an entry doesn't count
+  -- past the end, an entry doesn't count
   not_below : (end k : ℕ) (v : X) → end ≤ k → passes_below end (k, v) ≡ false
   not_below end k v high = ap (λ b. b && passes (k, v)) (false_from_ne_true (nat_lt k end) (λ t. absurd (let low : k < end = ltb-true k end t in omega (arith, low, high))))
 

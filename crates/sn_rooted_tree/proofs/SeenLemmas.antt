@@ -70,12 +70,12 @@ module _ (limits : Limits) (sectors : ℕ) (c : Contents) (file : BlockTree) (ar
   root_tree = tree_stays limits limits_written (written_allows limits.version limits root.version) (image (store_of c) file)
       (sound_tree limits root.blocks (store_of c) file root.version (λ block lies. data_whole c root.blocks block are (omega (arith, root.fits, count)) lies) root.sound)
 
--- a directory has no bytes, so what a walk is told of its size is how many are seen
+-- a directory has no bytes, so the size that a walk gets is how many are seen
 size_is : (kind : Kind) (bytes : List ℕ) → (kind ≡ Directory → bytes ≡ []) → listed_size kind bytes ≡ length bytes
 size_is File bytes none = refl
 size_is Directory bytes none = sym (ap length (none refl))
 
--- what a walk is told of a node of a name tree is told of the node that is seen
+-- what a walk gets of a node of a name tree it gets of the node that is seen
 pub viewed_seen : (tree : Tree) (number : ℕ) → IsTree limits_written tree → (viewed tree).node number ≡ option_map attributes_of (seen_node tree number)
 viewed_seen tree number whole = told (fin.get tree.nodes number) refl
   where
@@ -106,7 +106,7 @@ pub same_bytes : (found : Option Node) → bytes_of found ≡ shown_bytes found
 same_bytes None = refl
 same_bytes (Some node) = refl
 
--- a place past the largest number is behind the end of any file
+-- a place past the largest number is past the end of any file
 pub past_alike : (all : List ℕ) (index k at : ℕ) → length all ≤ 68719476736 → k ≡ min (index * 4096) (2 ^ 64 - 1) → get_or all (k + at) 0 ≡ get_or all (index * 4096 + at) 0
 past_alike all index k at short is = told (cases_lt (index * 4096) (2 ^ 64 - 1))
   where
@@ -114,7 +114,7 @@ past_alike all index k at short is = told (cases_lt (index * 4096) (2 ^ 64 - 1))
     told (inl low) = ap (λ (n : ℕ). get_or all (n + at) 0) (let same : k ≡ index * 4096 = omega (arith, is, low) in same)
     told (inr high) = get_or_past all (k + at) 0 (omega (arith, is, high, short)) ∙ sym (get_or_past all (index * 4096 + at) 0 (omega (arith, high, short)))
 
--- bytes that were read, and zeros behind them
+-- bytes that were read, and zeros after them
 pub read_piece : (all read : List ℕ) (index k : ℕ) → ((at : ℕ) → get_or all (k + at) 0 ≡ get_or all (index * 4096 + at) 0) → read ≡ take 4096 (drop k all) → read ++ drop (length read) (replicate 4096 0) ≡ piece 4096 all index
 read_piece all read index k alike is = ext_get_or 0 _ _ (long ∙ sym (length-piece 4096 all index)) (λ at within. told at (omega (arith, within, long)) (cases_lt at (length read)))
   where

@@ -1,4 +1,4 @@
--- One look-up behind the other.
+-- One look-up after the other.
 use Rattle.std.specs.Prelude.{Bool, Option, None, Some}
 use Rattle.std.proofs.Common.{refl, sym, subst, ◌∙◌}
 use Rattle.sn_device.specs.Disk.{Disk}

@@ -1,4 +1,4 @@
--- What look-ups in the tree of a root do to a device, and how a fault stands.
+-- What look-ups in the tree of a root do to a device, and how a fault stays.
 use Rattle.std.specs.Prelude.{◌≡◌, Bool, IsTrue, Option, None, Some, Result, Ok, Err}
 use Rattle.sn_block.specs.Counts.{FailsRead}
 use Rattle.sn_block.specs.declared.fault.ReadFault.TheVariants.{Device, Memory}
@@ -14,7 +14,7 @@ FailsSo told old new (Read Device) = FailsRead old new
 FailsSo told old new (Read Memory) = new ≡ old
 FailsSo told old new (Damaged block) = (new ≡ old) × (IsTrue told → ⊥)
 
--- No look-up has failed, and nothing is counted; or the fault of the first that did stands.
+-- No look-up has failed, and nothing is counted; or the fault of the first that did remains.
 abbrev pub Stands : Bool → Status → Status → Option TreeFault → Option TreeFault → Type 0
 Stands told old new None None = new ≡ old
 Stands told old new None (Some fault) = FailsSo told old new fault

@@ -1,4 +1,4 @@
--- What an inode and its ACLs tell of a node.
+-- What an inode and its ACLs say of a node.
 use Rattle.sn_layout_acl.specs.AclBlock.{joined}
 use Rattle.sn_layout_acl.specs.declared.acl_block.AclBlock.{AclBlock}
 use Rattle.sn_layout_node.specs.Inode.{size_of}

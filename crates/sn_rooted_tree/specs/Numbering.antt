@@ -21,7 +21,7 @@ lacks_name Unused = false
 lacks_name Named = false
 lacks_name Nameless = true
 
--- what an inode of a kind is of, that has so many links
+-- what an inode of this kind with this many links belongs to
 abbrev pub use_of : Kind → ℕ → NumberUse
 use_of File links = if links == 0 then Nameless else Named
 use_of Directory links = Named

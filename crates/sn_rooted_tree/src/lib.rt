@@ -3,15 +3,15 @@
 //!
 //! The model is that of `sn_rooted`: the trees that the root denotes. Over a device that tells its bytes, and where
 //! the root is sound there, each look-up answers what the live tree says; one in a frozen tree needs that the snapshots
-//! are sound too. Nothing is kept of a tree: a look-up reads the inode of the number and what it needs behind that, in
+//! are sound too. Nothing is kept of a tree: a look-up reads the inode of the number and what it needs after that, in
 //! the cache of `sn_block`.
 //!
 //! Once a look-up has failed, each later one answers its fault and reads nothing. So whoever makes many of them, and
 //! is answered at last, knows by [`RootedTree::fault`] that the device is as it was.
 //!
-//! The way through it:
+//! The way through:
 //!
-//! 1. `specs/Looks`: what look-ups do to the device, and how a fault stands.
+//! 1. `specs/Looks`: what look-ups do to the device, and how a fault persists.
 //! 2. `seeing` reads a node with its ACLs and a block of a file, as overlays show them.
 //! 3. [`RootedTree`], which is a `Below` of `sn_overlay`, and keeps names for `sn_directories`; `listing` reads bytes of a
 //!    file and lists the names of a directory for `sn_live_files`. `frozen` finds a snapshot by its name and looks up in

@@ -1,4 +1,4 @@
-//! What walks are told of a node of a root's tree, bytes of a file, and the names of a directory as overlays list them.
+//! What walks learn of a node of a root's tree, bytes of a file, and the names of a directory as overlays list them.
 ghost use Rattle.std.specs.Prelude.{◌≡◌, IfOk, map};
 ghost use Rattle.sn_dir.specs.declared.listings.ListedName.{ListedName as TheName};
 ghost use Rattle.sn_model.specs.Tree.{link_to};

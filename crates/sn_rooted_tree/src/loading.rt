@@ -81,8 +81,8 @@ fn count_names<D: Device>(
 }
 
 /// Counts the names of each directory of a root's tree, and notes which directory each is in. `file` is the root's inode
-/// file. Each directory is read once. Where the root is sound, `Damaged` never comes. Memory is taken for the answer, for the
-/// names of one directory at a time, and for blocks that aren't kept.
+/// file. Each directory is read once. Where the root is sound, `Damaged` is never returned. Memory is taken for the answer,
+/// for the names of one directory at a time, and for blocks that aren't kept.
 ///
 /// Proved: How many names each directory has, and which directory each is in, is counted once, each directory being read
 /// once, and is that of the tree that a sound root denotes; `Damaged` is never answered then.

@@ -15,7 +15,7 @@ use sn_rooted::is_nameless;
 use sn_tree_read::TreeFault;
 
 /// How many files of a root's tree have no name. `file` is the root's inode file, and each of its inodes is read
-/// once. Where the root is sound, `Damaged` never comes. Memory is taken for blocks that aren't kept.
+/// once. Where the root is sound, `Damaged` is never returned. Memory is taken for blocks that aren't kept.
 ///
 /// Proved: The files of a root's tree without names are counted by one pass over the inode file's records: as many as the
 /// tree that a sound root denotes has, and `Damaged` is never answered then.

@@ -20,7 +20,7 @@ use sn_number_table::{NamelessFiles, NumberTable};
 use sn_tree_read::TreeFault;
 use std::alloc::{AllocError, Global};
 
-/// What is told of the numbers of a root's tree.
+/// What is known of the numbers of a root's tree.
 #[derive(Drop)]
 pub struct RootNumbers {
     /// The numbers that have a node.

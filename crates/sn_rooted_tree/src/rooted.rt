@@ -72,7 +72,7 @@ impl<'a, D: Device> Below for RootedTree<'a, D> {
     // where bytes are told, the root is sound
     ghost holds = { λ v. IsTrue D.tells_bytes → IsSoundOn v.blocks.now v.root.now.limits v.root.now.inode_file };
 
-    // nothing is written, and nothing is counted but the failure that stands
+    // nothing is written, and nothing is counted but the failure that is kept
     ghost follows = { λ u v. Looks D.tells_bytes (D.status (device_of u.blocks.now)) (D.status (device_of v.blocks.now))
         (D.disk (device_of u.blocks.now)) (D.disk (device_of v.blocks.now)) u.root.now v.root.now u.fault v.fault
         × (v.blocks.ghost_name ≡ u.blocks.ghost_name) };

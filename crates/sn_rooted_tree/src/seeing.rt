@@ -52,7 +52,7 @@ fn seen(stored: StoredInode) -> SeenNode
     }
 }
 
-// A node whose access ACL is told by its mode bits alone, and which has no default ACL.
+// A node whose access ACL is given by its mode bits alone, and which has no default ACL.
 fn seen_plain(inode: &Inode) -> SeenNode
     ensures { result ≡ seen_in inode.now no_acls }
 {
@@ -91,7 +91,7 @@ fn seen_whole<D: Device>(
 }
 
 /// The node that a number has in a root's tree, without its bytes and names, `None` where none has it. Where the
-/// root is sound, `Damaged` never comes. Most nodes have no ACL block, and take no more than their mode bits tell.
+/// root is sound, `Damaged` is never returned. Most nodes have no ACL block, and need no more than their mode bits.
 pub(crate) fn seen_node<D: Device>(
     blocks: &mut Blocks<D>,
     limits: &Limits,
@@ -129,7 +129,7 @@ fn put(block: &mut Block, bytes: &[u8])
 }
 
 /// Reads a block of a file of a root's tree, which is zeros where the file has ended. At `Err` the block may be any.
-/// Where the root is sound, `Damaged` never comes.
+/// Where the root is sound, `Damaged` is never returned.
 pub(crate) fn read_block<D: Device>(
     alloc: Global,
     blocks: &mut Blocks<D>,

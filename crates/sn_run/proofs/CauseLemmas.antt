@@ -103,7 +103,7 @@ has_no_memory reply replies h = Contains-append_right (reply ∷ []) replies (an
 found_none : (reply : Reply) (replies : List Reply) → reply ≡ answer.Unmounted mount.Memory → HasNoMemory (reply ∷ replies)
 found_none reply replies is = (0, omega arith, is)
 
--- what stopped a machine in an event is told behind it, or it had been before
+-- what stopped a machine in an event shows after it, or it had stopped before
 module _ (old new : Standing) (e : Event) (reply : Reply) (goes : GoesOrEnds old e reply new) where
   one_cause : (Before : Type 0) → (HasStopped old.state → IsTrue (has_ended old.held.status) ⊎ Before) → HasStopped new.state → IsTrue (has_ended new.held.status) ⊎ (Before ⊎ (reply ≡ answer.Unmounted mount.Memory))
   one_cause Before had stopped =

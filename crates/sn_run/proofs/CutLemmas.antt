@@ -189,7 +189,7 @@ machine_run first last [] (reply ∷ replies) run = absurd run
 machine_run first last (e ∷ events) [] run = absurd run
 machine_run first last (e ∷ events) (reply ∷ replies) run = (run.0.state, step_of first run.0 e reply run.1, machine_run run.0 last events replies run.2)
 
--- a crash in the event behind these
+-- a crash in the event after these
 pub cut_in : (first mid next : Standing) (done todo : List Event) (e : Event) (said : List Reply) (reply : Reply) → AreSettled first.state → RunBy Goes first done said mid → Goes mid e reply next
     → LeavesOnly mid.held.disk next.held.disk (ShowsCut first.state (done ++ e ∷ todo) said)
 cut_in first mid next [] todo e [] reply here run goes =
@@ -202,7 +202,7 @@ cut_in first mid next (d ∷ done) todo e (r ∷ said) reply here run goes =
     (λ c h. (h.0, h.1, (run.0.state, step_of first run.0 d r run.1, h.2)))
     (cut_in run.0 mid next done todo e said reply (goes_settled first run.0 d r here run.1) run.2 goes)
 
--- a crash behind the last event
+-- a crash after the last event
 cut_behind : (first last : Standing) (events : List Event) (said : List Reply) (w : World) → RunBy Goes first events said last → Left last.state w → CutRun Anything limits_written first.state (events ++ []) said w
 cut_behind first last [] [] w run here = subst (λ (x : Standing). Left x.state w) run here
 cut_behind first last [] (reply ∷ said) w run here = absurd run
@@ -213,7 +213,7 @@ list_joined : (xs : List Event) (y : Event) (ys : List Event) → (xs ++ y ∷ [
 list_joined [] y ys = refl
 list_joined (x ∷ xs) y ys = ap (λ (zs : List Event). x ∷ zs) (list_joined xs y ys)
 
--- a crash at any moment of what is left of a run, behind the events that were answered, and of the last unmount
+-- a crash at any moment of what is left of a run, after the events that were answered, and of the last unmount
 pub run_leaves : (first mid last : Standing) (done todo : List Event) (said replies : List Reply) (new : Disk) → AreSettled first.state → RunBy Goes first done said mid → RunBy Goes mid todo replies last → LeavesOnly last.held.disk new (ShowsState last.state)
     → LeavesFrom first.state (done ++ todo) said replies mid.held.disk new
 run_leaves first mid last done [] said [] new here before run lasts =

@@ -40,20 +40,20 @@ use Rattle.sn_events.proofs.UnmountLemmas.{settles_twice}
 done_is_refused : (errno : Errno) → refused errno ≡ answer.Done → ⊥
 done_is_refused errno e = cc
 
--- another error than want of memory
+-- an error other than a lack of memory
 is_memory : (errno : Errno) → (errno ≡ Enomem → ⊥) → refused errno ≡ refused Enomem → ⊥
 is_memory errno apart e =
     let same : plain errno ≡ plain Enomem = cc in
     apart (ap (λ (r : Refusal). r.errno) same)
 
--- what is so of the world that is held is so of the one that is meant
+-- what holds of the world that is held holds of the one that is meant
 in_its_world : (last : Held) (end : End) (disk : Disk) (status : Status) → (RunsWith last.point last last.world → IsEnded (Running last.world) last end disk status) → EndsSo end last false disk status
 in_its_world last end disk status f (Running w) m =
     let is = (runs_with last w last.point m.1).is in
     subst (λ (x : World). IsEnded (Running x) last end disk status) is (f (subst (λ (x : World). RunsWith last.point last x) (sym is) m.1))
 in_its_world last end disk status f (Stopped before after) m = absurd (true≢false (sym m.0))
 
--- what ends behind the point in progress, once that is finished
+-- what ends after the point in progress, once that is finished
 ended_behind : (last fin : Held) → IsFin last fin → (end : End) (disk : Disk) (status : Status) → IsEnded (Running fin.world) fin end disk status → IsEnded (Running last.world) last end disk status
 ended_behind last fin f end disk status e = subst (λ (w : World). IsEnded (Running w) last end disk status) f.world (record {
   met = e.met;
@@ -92,7 +92,7 @@ ends_stopped last (Stopped before after) m = record {
   leaves = refl;
 }
 
--- at no moment of its point a crash leaves another world
+-- at no moment of its point does a crash leave another world
 settled_last : (old new : Held) → LeavesOnly old.disk new.disk (EitherImage old.world (settle old.world)) → LeavesOnly old.disk new.disk (λ c. IsImage c (settle old.world))
 settled_last old new moments = LeavesOnly-weaker old.disk new.disk (EitherImage old.world (settle old.world)) (λ c. IsImage c (settle old.world)) (λ c either. settles_same old.world either) moments
 
@@ -123,7 +123,7 @@ ends_clean last disk status unmounts = in_its_world last ending.Clean disk statu
 
 -- ---- one that is cut off
 
--- the device failed while a point was made or finished, at no moment of which a crash leaves another world
+-- the device failed while a point was made or finished, at no moment of which does a crash leave another world
 ends_cut_off : (last new : Held) → MayMeet last last event.Restart (Some Write) new.status → LeavesOnly last.disk new.disk (λ c. IsImage c (settle last.world))
     → IsLater last.status new.status → IsCutLast last new.disk new.status → IsEnded (Running last.world) last ending.Stopped new.disk new.status
 ends_cut_off last new may moments later costs = record {

@@ -1,4 +1,4 @@
--- Failures that a run tells are the device's.
+-- Failures that a run reports are the device's.
 use Rattle.std.proofs.Common.{◌≡◌, inl, inr, Bool, true, false, List, [], ◌∷◌, Option, None, Some, sym, ap, subst, ◌∙◌, refl, arith}
 use Rattle.std.proofs.lemmas.Bool.{true≢false}
 use Rattle.sn_device.specs.Status.{has_ended}

@@ -41,7 +41,7 @@ module _ (old new : Held) (had has : Bool) (session : ℕ) (c : Call) (asks : As
   abbrev e : Event
   e = event.Call session c
 
-  -- the point in progress makes no difference of the world
+  -- the point in progress makes no difference to the world
   world_there : (w : World) (fin : Held) → IsBehindFinish (Running w) e old fin → RunsWith old.point old w → fin.world ≡ w
   world_there w fin (inl same) r = ap (λ (h : Held). h.world) same ∙ (runs_with old w old.point r).is
   world_there w fin (inr f) r = f.2.world ∙ (runs_with old w old.point r).is

@@ -110,7 +110,7 @@ module _ (old new : Held) (whole : AreSectors (reads old.disk)) where
       told (inl h) = answers before (inl refl) h
       told (inr h) = answers after (inr refl) h
 
--- ---- mounts behind the point of an unmount
+-- ---- mounts after the point of an unmount
 
 module _ (old mid new : Held) (whole : AreSectors (reads mid.disk)) (p : IsPointedLast old mid) where
   settled_here : LeavesOnly old.disk mid.disk (λ c. IsImage c (settle old.world))
@@ -183,7 +183,7 @@ writes_to_mount fault.NoRoot sectors old new touched = inl touched
 writes_to_mount fault.Memory sectors old new touched = touched
 writes_to_mount fault.Device sectors old new touched = touched
 
--- and behind the point of an unmount
+-- and after the point of an unmount
 met_behind : (f : MountFault) (c : Contents) (world : World) (sectors : ℕ) (old mid new : Held) (before after : World) → IsImage c world → IsOfDevice sectors c → IsCause sectors c f → IsSoOf f mid.status new.status → mid.status.failures ≡ old.status.failures → HasMadeLast old mid → HasNotMounted mid new
     → (m : Mishap) × (mount_fault_of m ≡ Some f) × MayMeet old mid event.Restart (Some m) new.status × LeavesRestart old mid (Some m) (Stopped before after) new
 met_behind (fault.Damaged damage block) c world sectors old mid new before after is device cause failed same made unmounted = absurd (never_faulty damage sectors c block world device is cause)

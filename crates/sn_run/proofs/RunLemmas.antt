@@ -151,7 +151,7 @@ module _ (events : List Event) (replies : List Reply) (disk last_disk : Disk) (s
   never_served : (end : End) → Served events replies end disk status last_disk last_status → ⊥
   never_served end s = let t = s.touched in lacks_none f status.sectors (reads disk) t.blocks t.slot t.root t.formatted t.newest lacks
 
-  -- the mount has told why, or has failed
+  -- the mount has reported why, or has failed
   pub is_unfit : (end : End) → RunsTo end events replies disk status last_disk last_status → WholeRun Anything limits_written (Lacks f) events replies end
   is_unfit ending.Clean h = absurd (never_served ending.Clean h)
   is_unfit ending.Stopped h = absurd (never_served ending.Stopped h)

@@ -54,7 +54,7 @@ no_fault f damage sectors c block faulty lacks = told faulty.why
     told (inl is) = known_damage f sectors c is.which (faulty.blocks, faulty.formatted) is.known is.damaged lacks
     told (inr (slot, root, first)) = lacks_none f sectors c faulty.blocks slot root faulty.formatted first.newest lacks
 
--- The mount tells the same of it, or lacks memory, or the device has failed.
+-- The mount reports the same of it, or lacks memory, or the device has failed.
 pub unfit_fault : (f g : MountFault) (sectors : ℕ) (c : Contents) (events : List Event) (replies : List Reply) → replies ≡ [] → LacksRoot sectors c f → IsCause sectors c g
     → HasNoMount Anything replies (ending.Mount g) ⊎ Serves Anything limits_written (Lacks f) events replies (ending.Mount g)
 unfit_fault f fault.Memory sectors c events replies none lacks cause = inl (record { met = Memory; may = tt; fault = fault.Memory; is = refl; none = none; ends = refl })

@@ -1,4 +1,5 @@
--- Why events are refused, mounts fail and runs stop over a device that counts no failure: only since it came to its end, or memory was refused.
+-- Why events are refused, mounts fail and runs stop over a device that counts no failure: only
+-- because it reached its end, or memory was refused.
 use Rattle.std.specs.Prelude.{◌≡◌, ◌⊎◌, List, Contains, IsTrue, Option, Some}
 use Rattle.sn_device.specs.Disk.{Disk, reads}
 use Rattle.sn_device.specs.Status.{has_ended}
@@ -21,7 +22,7 @@ IsFailure (Some Read) = Unit {0}
 IsFailure (Some Write) = Unit {0}
 IsFailure met = ⊥
 
--- An event leads from one standing to the next, and where it met with a failure the device has come to its end.
+-- An event leads from one standing to the next, and where it encountered a failure the device has reached its end.
 pub record GoesOrEnds (old : Standing) (e : Event) (reply : Reply) (new : Standing) : Type 0 where
   pub goes : Goes old e reply new
   pub ended : IsFailure goes.answers.met → IsTrue (has_ended new.held.status)
@@ -30,7 +31,7 @@ pub record GoesOrEnds (old : Standing) (e : Event) (reply : Reply) (new : Standi
 abbrev pub HasNoMemory : List Reply → Type 0
 HasNoMemory replies = Contains replies (answer.Unmounted mount.Memory)
 
--- A first mount fails for the device only where that has come to its end.
+-- A first mount fails for the device only where that has reached its end.
 abbrev pub FailsAtItsEnd : MountFault → Status → Type 0
 FailsAtItsEnd mount.Device last_status = IsTrue (has_ended last_status)
 FailsAtItsEnd fault last_status = Unit {0}
@@ -39,7 +40,8 @@ FailsAtItsEnd fault last_status = Unit {0}
 abbrev pub ServedToItsEnd : (end : End) (events : List Event) (replies : List Reply) (disk : Disk) (status : Status) (last_disk : Disk) (last_status : Status) → Served events replies end disk status last_disk last_status → Type 0
 ServedToItsEnd end events replies disk status last_disk last_status s = (world : World) (image : IsImage (reads disk) world) → RunBy GoesOrEnds (start world s.mounted) events replies (s.served world image).last
 
--- Each failure in a run was the device's end, and where the run stopped it was for one, for memory at a restart, or since no root can follow that the last unmount makes.
+-- Each failure in a run was the device's end, and where the run stopped it was for one, for memory at a restart, or because no
+-- root can follow for the last unmount to make.
 abbrev pub HasCauses : (end : End) (events : List Event) (replies : List Reply) (disk : Disk) (status : Status) (last_disk : Disk) (last_status : Status) → RunsTo end events replies disk status last_disk last_status → Type 0
 HasCauses ending.Clean events replies disk status last_disk last_status served = ServedToItsEnd ending.Clean events replies disk status last_disk last_status served
 HasCauses ending.Stopped events replies disk status last_disk last_status served = ServedToItsEnd ending.Stopped events replies disk status last_disk last_status served

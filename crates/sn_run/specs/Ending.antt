@@ -17,14 +17,16 @@ use Rattle.sn_events.specs.Answers.{HasMadeLast, IsBehindFinish, IsBehindPoint, 
 use Rattle.sn_model.specs.Settling.{settle}
 use Rattle.sn_events.specs.Durable.{IsInItsRoot}
 
--- What the last unmount leaves, behind the point in progress: its own whole point, whose root has all, or where that isn't made, what was held. One that has stopped calls nothing.
+-- What the last unmount leaves, after the point in progress: its own whole point, whose root has all, or where that isn't made, what
+-- was held. One that has stopped calls nothing.
 abbrev pub LeavesLast : State → Held → Held → Option Mishap → Held → Type 0
 LeavesLast (Running w) fin mid None new = HasMadeLast fin mid × (new ≡ mid) × Always new.disk (IsInItsRoot (settle fin.world).live (settle fin.world))
 LeavesLast (Running w) fin mid (Some Write) new = IsCutLast fin new.disk new.status
 LeavesLast (Running w) fin mid (Some m) new = IsUnchanged m fin new
 LeavesLast (Stopped before after) fin mid met new = new ≡ mid
 
--- The last unmount is answered, which makes this end, and at no moment does a crash leave anything else than before it. The point in progress is finished first. What it met with has a cause.
+-- The last unmount is answered, which makes this end, and at no moment does a crash leave anything else than before it. The point in
+-- progress is finished first. What it encountered has a cause.
 pub record IsEnded (s : State) (last : Held) (end : End) (last_disk : Disk) (last_status : Status) : Type 0 where
   pub met : Option Mishap
   pub ends : Ends s met end
@@ -49,7 +51,7 @@ abbrev pub end_for : Errno → End
 end_for Enomem = ending.Memory
 end_for _ = ending.Stopped
 
--- an unmount tells of no mount that failed
+-- an unmount reports no mount that failed
 abbrev pub IsLastEnd : End → Type 0
 IsLastEnd (ending.Mount fault) = ⊥
 IsLastEnd end = Unit {0}

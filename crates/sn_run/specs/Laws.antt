@@ -27,7 +27,8 @@ use Rattle.sn_events.specs.Answers.{HasBegun, counts_down, is_fitting, left_of, 
 use Rattle.sn_events.specs.Durable.{IsInItsRoot}
 use Rattle.sn_model.specs.Worlds.{IsWorld}
 
--- a run from what the contents are an image of, of which a crash behind these replies left the others, as the contract of a run says
+-- a run from the world that the contents are an image of, of which a crash after these replies
+-- left the others, as the contract of a run says
 pub record Cuts (c : Contents) (events : List Event) (said : List Reply) (left : Contents) : Type 0 where
   pub world : World
   pub image : IsImage c world
@@ -49,7 +50,7 @@ Unfailing (Some Read) = ⊥
 Unfailing (Some Write) = ⊥
 Unfailing met = Unit {0}
 
--- Where the device failed in none of the events, and isn't at its end, they are a run in which no failure was met with: none is invented.
+-- Where the device failed in none of the events, and isn't at its end, they are a run in which no failure occurred: none is invented.
 abbrev pub NoFailureIsInvented : Type 0
 NoFailureIsInvented = (first last : Standing) (events : List Event) (replies : List Reply) → RunBy Goes first events replies last
     → last.held.status.failures ≡ first.held.status.failures → has_ended last.held.status ≡ false
@@ -57,7 +58,8 @@ NoFailureIsInvented = (first last : Standing) (events : List Event) (replies : L
 
 -- ---- points
 
--- Behind a call that asks for a point, as `sync`, and is answered so that it is done, the newest root has all of the world, whatever a crash leaves: its tree is the live one, and nothing is logged on top of it.
+-- After a call that asks for a point, as `sync`, and is answered so that it is done, the newest root has all of the world, whatever a crash
+-- leaves: its tree is the live one, and nothing is logged on top of it.
 abbrev pub SyncsLeaveAll : Type 0
 SyncsLeaveAll = (old new : Standing) (session : ℕ) (c : Call) → AsksForPoint c → Means old.held old.has_stopped old.state → Goes old (event.Call session c) answer.Done new
     → Always new.held.disk (IsInItsRoot new.held.world.live (settle new.held.world))
@@ -79,11 +81,12 @@ StepsAreSmall = (old new : Standing) (reply : Reply) → Goes old event.Step rep
 abbrev pub StepsWrite : Type 0
 StepsWrite = (old new : Standing) → Means old.held false old.state → Goes old event.Step (answer.Progress progress.More) new → old.held.status.writes < new.held.status.writes
 
--- With the step that begins it a point has at most as many steps as what has changed needs new blocks and as the map has blocks, and four.
+-- With the step that begins it a point has at most one for each new block that what has changed
+-- needs, one for each block of the map, and four.
 abbrev pub PointsAreFewSteps : Type 0
 PointsAreFewSteps = (old new : Held) → HasBegun old new → left_of new.point + 1 ≤ need old.base.root.limits old.base.changed + map_blocks old.at.blocks + 4
 
--- an event is answered, and behind it the mount runs, with a point in progress
+-- an event is answered, and after it the mount runs, with a point in progress
 pub record GoesUnder (old : Standing) (e : Event) (reply : Reply) (new : Standing) : Type 0 where
   pub goes : Goes old e reply new
   pub runs : new.has_stopped ≡ false

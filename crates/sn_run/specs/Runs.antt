@@ -29,7 +29,7 @@ use Rattle.sn_events.specs.Mounting.{IsLeft, IsFresh}
 use Rattle.sn_run.specs.Ending.{IsEnded}
 use Rattle.sn_mount.specs.Rooting.{MountsRoot}
 
--- where a run stands between two events: the state of the machine, and what is held
+-- where a run is between two events: the state of the machine, and what is held
 pub record Standing : Type 0 where
   pub state : State
   pub held : Held
@@ -54,7 +54,8 @@ AnswersAll events replies old had_stopped new has_stopped = (s : State) → Mean
 abbrev pub start : World → Held → Standing
 start world h = record { state = Running world; held = h; has_stopped = false }
 
--- The world that the disk was an image of was mounted, with the room of the image that was there then, and at no moment a crash would have left another. The events were answered, and then the last unmount.
+-- The world that the disk was an image of was mounted, with the room of the image that was there then, and at no moment would a crash have
+-- left another. The events were answered, and then the last unmount.
 pub record IsServed (world : World) (events : List Event) (replies : List Reply) (end : End) (disk : Disk) (status : Status) (mounted : Held) (last_disk : Disk) (last_status : Status) : Type 0 where
   pub means : Means mounted false (Running world)
   pub room : HasRoomOf (reads mounted.disk) world mounted.room
@@ -100,7 +101,8 @@ RunsTo (ending.Mount fault) events replies disk status last_disk last_status = N
 abbrev pub ShowsCut : State → List Event → List Reply → Contents → Type 0
 ShowsCut s events said c = (world : World) × IsImage c world × CutRun Anything limits_written s events said world
 
--- From a disk on the events that are left get these replies, behind those that were given: in the course of each a crash leaves a run that was cut short in it or behind it, and once all are answered one that was cut short behind the last, in the course of the last unmount too.
+-- From a disk on the events that are left get these replies, after those that were given: in the course of each a crash leaves a run that
+-- was cut short in it or after it, and once all are answered one that was cut short after the last, in the course of the last unmount too.
 abbrev pub LeavesFrom : State → List Event → List Reply → List Reply → Disk → Disk → Type 0
 LeavesFrom s events said [] old new = LeavesOnly old new (ShowsCut s events said)
 LeavesFrom s events said (reply ∷ replies) old new = (mid : Disk) × LeavesOnly old mid (ShowsCut s events said) × LeavesFrom s events (said ++ reply ∷ []) replies mid new

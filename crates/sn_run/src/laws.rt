@@ -19,7 +19,7 @@ pub fn no_failure_is_invented()
     ensures { NoFailureIsInvented }
 {}
 
-/// Where the device counted no failure in a run, each event that met with one found the device at its
+/// Where the device counted no failure in a run, each event that encountered one found the device at its
 /// end. So did a first mount that failed for it, and a run that stopped, unless a restart lacked memory.
 ///
 /// Proved: Where the device's count of failures is unchanged over a run, each failure that an event met was the device's
@@ -29,8 +29,8 @@ pub fn only_its_end_fails()
     ensures { OnlyItsEndFails }
 {}
 
-/// Behind a `sync` that is answered the newest root has all of the world, and so it is behind a call on
-/// snapshots: a crash loses nothing of it even where nothing of the log could be read.
+/// After a `sync` that is answered the newest root has all of the world, and so it is after a call on snapshots:
+/// a crash loses nothing of it even where nothing of the log could be read.
 ///
 /// Proved: After a `sync` that is answered, or a call on snapshots, the newest root has all of the world, whatever a crash
 /// leaves: its tree is the live one, and nothing is logged on top of it.

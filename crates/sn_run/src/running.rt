@@ -71,7 +71,7 @@ fn answer_all<D: Device, W: Watch>(
 /// Where there is no mount the end has its cause, and no event is answered. It is `Stopped` where a
 /// failure of the device has stopped the mount, or a restart found none, and else what the last unmount makes
 /// it, which is a whole consistency point: `Clean`, `Memory`, or `Stopped` where the device fails or no root
-/// can follow. Behind each event `watch` is told how many were answered.
+/// can follow. After each event `watch` is told how many were answered.
 ///
 /// Proved: For every list of events, restarts among them, the replies and the end are a whole run of the machine from the
 /// world that the disk is an image of, whose frozen trees are those of the newest root's snapshots.
@@ -81,7 +81,7 @@ fn answer_all<D: Device, W: Watch>(
 /// unless there was no mount.
 /// Proved: Where the run ends `Clean` the newest root has all of the world, settled.
 /// Proved: A crash in an event leaves what a run leaves that is cut short there or later, after all replies given before:
-/// what was answered is in it, and at most that event beside.
+/// what was answered is in it, and at most that event besides.
 /// Proved: From the mount's first sync to the first event a crash leaves the world that was found, and only where no event
 /// was answered may nothing have been written.
 /// Proved: The device's counts begin with those of the device that came in and end with those of the one that goes out; the

@@ -49,7 +49,7 @@ fn remount<D: Device>(alloc: Global, device: D) -> (Reply, Server<D>)
 }
 
 impl<D: Device> Server<D> {
-    /// Whether it has stopped: what stands on the disk isn't known, or it isn't mounted.
+    /// Whether it has stopped: what is on the disk isn't known, or it isn't mounted.
     pub fn is_stopped(&self) -> bool
         ensures { result ≡ is_stopped self.now }
     {
@@ -59,8 +59,8 @@ impl<D: Device> Server<D> {
         }
     }
 
-    /// Unmounts for the last time: hands the device back, and tells how the run ends. `Clean` where it is unmounted, `Memory`
-    /// where memory was refused for that, and `Stopped` where it was refused otherwise, had stopped, or isn't mounted.
+    /// Unmounts for the last time: hands the device back, and says how the run ends. `Clean` where it is unmounted, `Memory` where
+    /// memory was refused for that, and `Stopped` where it was refused otherwise, had stopped, or isn't mounted.
     pub fn finish(self) -> (End, D)
         requires { IsServer self }
         ensures ended { IsTrue D.tells_bytes → EndsSo result.0 (standing self) (is_stopped self) (D.disk result.1) (D.status result.1) }

@@ -1,4 +1,4 @@
-//! Who looks on while a run is in progress.
+//! Who watches a run in progress.
 
 /// Is told how far a run has come. What it does with that changes nothing of the run.
 pub trait Watch {
@@ -6,7 +6,7 @@ pub trait Watch {
     fn answered(&mut self, done: usize, all: usize);
 }
 
-/// Nobody looks on.
+/// Nobody watches.
 #[derive(Clone, Copy)]
 pub struct Unwatched;
 

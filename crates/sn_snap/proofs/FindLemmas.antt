@@ -1,4 +1,4 @@
--- What the first index of a name tells.
+-- What the first index of a name says.
 use Rattle.std.proofs.Common.{◌≡◌, ℕ, suc, ◌+◌, Bool, true, false, cond, not, ◌||◌, List, [], ◌∷◌, length, get_or, Some, None, refl, sym, ap, ◌∙◌, arith}
 use Rattle.std.specs.Prelude.{nat_lt, position, remove}
 use Rattle.std.specs.List.{list_any, position_or_len}

@@ -61,7 +61,7 @@ module _ {X : Type 0} (f : Snapshot → X) where
   named [] q = refl
   named (s ∷ more) q = ap₂ (λ a b. a || b) (texts_ties q s.name) (named more q) ∙ joined (eq_by_cmp by_bytes q s.name) (f s) (find by_bytes q (told_by more))
 
-  -- a name that stands for nothing is no snapshot's
+  -- a name without an entry is no snapshot's
   pub absent : (snapshots : List Snapshot) (q : List ℕ) → fin.get (by_name f snapshots) q ≡ None → has_name q snapshots ≡ false
   absent snapshots q e = named snapshots q ∙ ap is_some (sym (get_is snapshots q) ∙ e)
 
@@ -107,7 +107,7 @@ module _ {X : Type 0} (f : Snapshot → X) where
       ∙ swapped (eq_by_cmp by_bytes q first.name) (eq_by_cmp by_bytes q s.name) (Some (f first)) (Some (f s)) (find by_bytes q (told_by more)) (not_both q first.name s.name apart.0))
       (λ _. refl)
 
-  -- to put a snapshot there whose name is new is to insert what it tells
+  -- to put a snapshot there whose name is new is to insert what it says
   pub by_name-with : (s : Snapshot) (snapshots : List Snapshot) → has_name s.name snapshots ≡ false
       → by_name f (with_snapshot s snapshots) ≡ fin.insert (by_name f snapshots) s.name (f s)
   by_name-with s snapshots new = fin.same_map names_total same_names _ _ (λ q.

@@ -53,7 +53,7 @@ module _ {X : Type 0} where
       let apart = or_parts (eq_by_cmp by_bytes k e.0) (list_any (eq_by_cmp by_bytes k) (map (λ x. x.0) es)) new in
       put_first k v e es (by_bytes k e.0) refl apart.0 (names-put k v es apart.1)
 
--- ---- a name that stands before
+-- ---- a name that comes before
 
 module _ {X : Type 0} (f : Snapshot → X) where
   find-behind : (es : List (List ℕ × X)) (k : List ℕ) (v : X) (q : List ℕ) → find by_bytes q (es ++ (k, v) ∷ []) ≡ option_or (find by_bytes q es) (cond (eq_by_cmp by_bytes q k) (Some v) None)
@@ -65,7 +65,7 @@ module _ {X : Type 0} (f : Snapshot → X) where
       told true rest = refl
       told false rest = rest
 
-  -- what stands behind is not found by it
+  -- what comes after is not found by it
   found_before : (front : List Snapshot) (s : Snapshot) (q : List ℕ) → has_name s.name front ≡ true → option_or (find by_bytes q (told_by f front)) (cond (eq_by_cmp by_bytes q s.name) (Some (f s)) None) ≡ find by_bytes q (told_by f front)
   found_before front s q again = told (find by_bytes q (told_by f front)) refl (eq_by_cmp by_bytes q s.name) refl
     where
@@ -84,7 +84,7 @@ module _ {X : Type 0} (f : Snapshot → X) where
       ∙ found_before front s q again
       ∙ sym (get_is f front q))
 
-  -- whether a snapshot's name stands before is told by the keys
+  -- whether a snapshot's name comes before is determined by the keys
   among_keys : (front : List Snapshot) (name : List ℕ) → list_any (bytes_eq name) (fin.keys (by_name f front)) ≡ has_name name front
   among_keys front name =
       (λ i. list_any (λ other. texts_ties name other i) (fin.keys (by_name f front)))

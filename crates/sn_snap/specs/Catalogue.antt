@@ -16,7 +16,7 @@ pub record Entry : Type 0 where
 abbrev pub entry_of : Snapshot → Entry
 entry_of s = record { bit = s.bit; tree = s.tree }
 
--- What a snapshot tells, by its name. Of a name that stands twice it is what the first tells.
+-- What a snapshot says, by its name. Of a name that occurs twice it is what the first says.
 abbrev pub by_name : {X : Type 0} → (Snapshot → X) → List Snapshot → map.FinMap (slice_cmp nat_cmp) X
 by_name f snapshots = map.from_entries (map_list (λ s. (s.name, f s)) snapshots)
 

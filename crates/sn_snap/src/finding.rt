@@ -22,7 +22,7 @@ pub fn find<'a>(snapshots: &'a Snapshots, name: &SnapshotName) -> Option<&'a Sna
     Some(&list[index])
 }
 
-/// The least bit from 1 up that no snapshot has. `None` comes exactly where there are as many snapshots as the version
+/// The least bit from 1 up that no snapshot has. `None` is returned exactly where there are as many snapshots as the version
 /// allows.
 ///
 /// Proved, also of `versions_fit`: The bit for a new snapshot is the least from 1 up that none has, missing exactly where
@@ -40,7 +40,7 @@ pub fn free_bit(snapshots: &Snapshots, limits: &Limits) -> Option<u8>
     Some(first_gap(list))
 }
 
-/// Where the first snapshot stands that has the name.
+/// Where the first snapshot is that has the name.
 pub(crate) fn index_of(snapshots: &[Snapshot], name: &SnapshotName) -> Option<usize>
     ensures { result ≡ position (λ snapshot. bytes_eq name.now snapshot.name) snapshots.now }
 {

@@ -20,8 +20,8 @@ pub fn versions_fit()
 
 /// A change leaves what other names stand for, and their bits; one that is taken back leaves all as it was.
 ///
-/// Proved: The snapshots of other names and their bits are unchanged, and a snapshot that is put there and taken away leaves
-/// what was there.
+/// Proved: The snapshots of other names and their bits are unchanged, and a snapshot that is added and removed leaves what was
+/// there.
 pub fn changes_leave_the_others()
     ensures with { OtherNamesStay }
     ensures without { OtherNamesOutlive }

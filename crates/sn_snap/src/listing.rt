@@ -36,7 +36,7 @@ fn is_among(names: &[SnapshotName], name: &SnapshotName) -> bool
     names.iter().any(|other| name == other.as_bytes())
 }
 
-// Where the first of the names stands that is greater.
+// Where the first of the names is that is greater.
 fn first_greater(names: &[SnapshotName], name: &SnapshotName) -> Option<usize>
     ensures { result ≡ position (λ other. is_gt (slice_cmp nat_cmp other name.now)) names.now }
 {

@@ -152,7 +152,7 @@ fn path_under(alloc: Global, tree: &Tree<'_>, link: Link<'_>) -> Result<String> 
     Ok(format!(in alloc; "{above}/{last}")?)
 }
 
-/// Whether what is mounted is the tree, as far as the user 0 is told.
+/// Whether what is mounted is the tree, as far as the user 0 can see.
 pub fn is_tree(alloc: Global, disk: &mut Disk, tree: &Tree<'_>) -> Result<bool> {
     disk.login()?;
     for node in tree.nodes() {
@@ -174,7 +174,7 @@ fn is_node_there(alloc: Global, disk: &mut Disk, tree: &Tree<'_>, node: &Node<'_
     Ok(true)
 }
 
-/// The least number that no name stands for, behind that of the root directory.
+/// The least number that no name stands for, after that of the root directory.
 fn free_number(tree: &Tree<'_>) -> Option<u16> {
     for number in 3..u16::MAX {
         if tree.name_for(number).is_none() {
@@ -193,8 +193,8 @@ fn made_line(reading: &Reading<'_>) -> &'static str {
     }
 }
 
-/// Whether a directory is made behind the records, and gets the least number that is free: files without names
-/// have gone.
+/// Whether a directory is made after the records, and gets the least number that is free: files without names have
+/// gone.
 pub fn is_made(disk: &mut Disk, reading: &Reading<'_>) -> Result<bool> {
     let wanted = made_line(reading);
     if !is_answered(disk, wanted)? {

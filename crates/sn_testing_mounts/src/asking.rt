@@ -30,7 +30,7 @@ pub fn getacl(alloc: Global, path: &str, kind: AclKind) -> Result<Call> {
     })
 }
 
-/// The number of the node of which a stat tells, and none of any other reply.
+/// The number of the node that a stat reports, and none of any other reply.
 pub fn number_of(reply: &Reply) -> Option<u16> {
     match reply {
         Reply::Status(status) => Some(status.number),

@@ -60,7 +60,7 @@ impl Disk {
         Ok(Disk::of_device(alloc, MemDevice::from_bytes(alloc, bytes)?))
     }
 
-    /// The device, which is unmounted and not called. One of no sectors stands in its place until another is put there.
+    /// The device, which is unmounted and not called. One of no sectors is in its place until another is put there.
     fn take(&mut self) -> Result<MemDevice> {
         let none = State::Unmounted(MemDevice::new(self.alloc, 0)?);
         match mem::replace(&mut self.state, none) {
@@ -103,14 +103,14 @@ impl Disk {
         Ok(())
     }
 
-    /// A crash that fills or tears what wasn't synced as this number says, which `crashed` tells.
+    /// A crash that fills or tears what wasn't synced as this number says, which `crashed` says.
     pub fn crash_by(&mut self, number: u32) -> Result<()> {
         let device = crashed(self.alloc, self.take()?, number)?;
         self.state = State::Unmounted(device);
         Ok(())
     }
 
-    /// Lets so many more writes succeed, and no call behind them.
+    /// Lets so many more writes succeed, and no call after them.
     pub fn stop_at(&mut self, writes: u64) -> Result<()> {
         match &mut self.state {
             State::Unmounted(device) => device.stop_at(writes),
@@ -119,7 +119,7 @@ impl Disk {
         Ok(())
     }
 
-    /// Lets one call fail, that behind so many.
+    /// Lets one call fail, that after so many.
     pub fn fail_behind(&mut self, calls: u32) -> Result<()> {
         match &mut self.state {
             State::Unmounted(device) => device.fail_at(u64::from(calls) + 1),
@@ -225,7 +225,7 @@ impl Disk {
         }
     }
 
-    /// The line of the reply to a script's line, a call or a step. Each is given without its end, and told with it.
+    /// The line of the reply to a script's line, a call or a step. Each is given without its end, and returned with it.
     pub fn ask(&mut self, line: &str) -> Result<String> {
         let event = event_of(self.alloc, line)?;
         self.answer(&event)
@@ -263,7 +263,7 @@ impl Disk {
         self.told_first(getacl(self.alloc, path, kind)?)
     }
 
-    /// The number of the node at a path, as session 0 is told it.
+    /// The number of the node at a path, as session 0 sees it.
     pub fn number(&mut self, path: &str) -> Result<Option<u16>> {
         self.number_told(stat(self.alloc, path)?)
     }

@@ -57,7 +57,7 @@ fn tear(device: &mut MemDevice, at: u64, new: &Sector, random: &mut Pcg32) -> Re
     Ok(())
 }
 
-/// Where a sector is torn: behind its first byte, before its last, or anywhere between.
+/// Where a sector is torn: after its first byte, before its last, or anywhere between.
 fn cut_of(random: &mut Pcg32) -> usize
     ensures { result < 512 }
 {

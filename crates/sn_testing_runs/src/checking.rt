@@ -7,7 +7,7 @@ use sn_device::MemDevice;
 use sn_model::MountFault;
 use std::alloc::{AllocError, Global};
 
-/// What a check tells of a disk with these bytes. Too little memory is an error where the check isn't begun, and else its fault.
+/// What a check says of a disk with these bytes. Too little memory is an error where the check isn't begun, and else its fault.
 pub fn check_on(alloc: Global, image: &[u8]) -> Result<Result<Verdict, MountFault>> {
     let device = MemDevice::from_bytes(alloc, image)?;
     let mut blocks = Blocks::new(alloc, device).map_err(AllocError::from)?;

@@ -3,8 +3,8 @@
 //! The model: none. No clause promises what a run answers or leaves, since that is compared. What `sn_run` and `sn_check` promise is
 //! read by this crate alone: those above have lines and bytes, and their checks don't read it again.
 //!
-//! The way through: `events` runs a list of events on a device, `harm` says what is done to the device of a run, `told` runs a
-//! script on the bytes of a disk, and `checking` checks them.
+//! The way through: `events` runs a list of events on a device, `harm` says what is done to the device of a run, `told` runs a script
+//! on the bytes of a disk, and `checking` checks them.
 //!
 //! ```text
 //! let told = run_on(alloc, image.as_slice(), "0 login 0 0 -\n", Harm::None)?;

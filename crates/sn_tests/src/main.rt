@@ -1,9 +1,9 @@
-//! The cases of all that stands below the file system, in memory and on a disk.
+//! The cases of all that is below the file system, in memory and on a disk.
 //!
 //! Each part is a crate `sn_tests_..` of its own, which says what it compares, and `data/` has a folder of tables for each part
-//! that reads some. One program runs them all, since two compilers build each program with all that it stands on. What is
-//! printed is compared with `stdout`. The arguments are the folder of the tables, and behind it one part for that alone, with
-//! how many trees or points are drawn where it draws them, as in
+//! that reads some. One program runs them all, since two compilers build each program with all that it uses. What is printed is
+//! compared with `stdout`. The arguments are the folder of the tables, and after it one part for that alone, with how many trees
+//! or points are drawn where it draws them, as in
 //!
 //! ```text
 //! rt run -- data

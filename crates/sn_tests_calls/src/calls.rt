@@ -162,7 +162,7 @@ fn push_flags(text: &mut String, flags: OpenFlags) -> Result<()> {
     Ok(())
 }
 
-/// A call with a number beside the descriptor, by its name and that of the number.
+/// A call with a number besides the descriptor, by its name and that of the number.
 fn push_on_file(
     text: &mut String,
     (call, field): (&str, &str),

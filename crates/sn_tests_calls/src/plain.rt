@@ -20,7 +20,7 @@ const TABLES: [&str; 6] = [
 
 /// Compares the replies of the plain run to each script of `data/` with those beside its lines, which follow from
 /// `docs/RULES.md`; then makes one run in which a call that is refused memory is made again. An error is a table that
-/// can't be read, output that can't be written, or a run that ends for want of memory.
+/// can't be read, output that can't be written, or a run that ends for lack of memory.
 pub fn run(report: &mut Report<'_>) -> Result<()> {
     for table in TABLES {
         report.script(table, replies_to)?;
@@ -72,7 +72,7 @@ fn push_lines(lines: &str, replies: &[Reply], text: &mut String) -> Result<()> {
     Ok(())
 }
 
-/// A line with the number of the node, where the reply tells it.
+/// A line with the number of the node, where the reply gives it.
 fn push_line(line: &str, reply: &Reply, text: &mut String) -> Result<()> {
     match reply {
         Reply::Status(status) => writeln!(text, "{line} number {}", status.number)?,

@@ -7,8 +7,8 @@ use sn_testing_tables::{Case, Report, Tally};
 use std::alloc::Global;
 
 /// Compares what lines and scripts are read as with two tables, by hand from `docs/SCRIPT.md`, and the line that is
-/// told of scripts at the bound of their bytes and one byte over it. An error is a table that can't be read, output
-/// that can't be written, or a want of memory.
+/// reported for scripts at the bound of their bytes and one byte over it. An error is a table that can't be read,
+/// output that can't be written, or a lack of memory.
 pub fn run(report: &mut Report<'_>) -> Result<()> {
     report.table("calls/script_lines.txt", line)?;
     report.table("calls/scripts.txt", script)?;
@@ -42,7 +42,7 @@ fn line(alloc: Global, case: Case<'_>) -> Result<String> {
     }
 }
 
-/// A script with a line that is right, the words of a case behind it, and then what a table would spell so.
+/// A script with a line that is right, the words of a case after it, and then what a table would spell so.
 fn behind_another(alloc: Global, case: Case<'_>, end: &str) -> Result<Vec<u8>> {
     let text = format!(in alloc; "0 stat /%0a{}%0a{end}", case.text())?;
     Case::new(text.as_str()).bytes(alloc)

@@ -3,7 +3,7 @@
 //! A line of `commands.txt` is `WORDS => STATUS, LINE, LINE..`: the status that the words end with, and the lines that they
 //! write: those of standard output, of standard error, and those that a person is left with. Or it makes a file:
 //! `NAME << LINE|LINE..` a script of these lines, of which one may end in `HEX*COUNT` for so many such bytes, `NAME from OTHER
-//! LENGTH` the front of another file, `NAME with OTHER COUNT` another file and so many zeros behind it, `NAME set OFFSET BYTE`
+//! LENGTH` the front of another file, `NAME with OTHER COUNT` another file and so many zeros after it, `NAME set OFFSET BYTE`
 //! one byte of it anew, `NAME put OFFSET HEX` several. `examples/images.txt` and `examples/crashes.txt` have such lines too, for a
 //! gallery of images and for what crashes leave.
 
@@ -12,7 +12,7 @@ use anyhow::{Context, Result, bail};
 use sn_testing_tables::{Report, Tally};
 use std::{fs, str};
 
-/// The status of an end and its lines, behind commas.
+/// The status of an end and its lines, after commas.
 fn told(rt: &HostRuntime, ended: &Ended) -> Result<String> {
     let mut text = format!(in rt.alloc(); "{}", ended.status)?;
     let person = staying(str::from_utf8(ended.person.as_slice())?);
@@ -71,7 +71,7 @@ fn take_front(rt: &HostRuntime, name: &str, other: &str, length: usize) -> Resul
     Ok(fs::write(rt, name, front)?)
 }
 
-/// Another file, and so many zeros behind it.
+/// Another file, and so many zeros after it.
 fn take_with(rt: &HostRuntime, name: &str, other: &str, count: usize) -> Result<()> {
     let mut bytes = fs::read(rt, other)?;
     bytes.resize(bytes.len().saturating_add(count), 0)?;

@@ -3,7 +3,7 @@
 //!
 //! The files of the cases are in the data of `sn_tests_program`, where `examples` is a copy of the repository's folder of that
 //! name. `examples`, `rows` and `words` have each folder's cases, and `commands` the steps of `commands.txt`, of the images
-//! with what a check tells of them, and of what crashes leave. `ended` is a run that has ended.
+//! with what a check says of them, and of what crashes leave. `ended` is a run that has ended.
 //!
 //! No clause promises what comes out, since it is compared: `sn_tests_program` runs it.
 #![tactic(auto)]
@@ -29,7 +29,7 @@ fn wrong_cases(rt: &HostRuntime) -> io::Result<u64> {
 }
 
 /// Prints what isn't as the files say, and how many cases each of them had. An error is a file that can't be read or made, a
-/// want of memory, or a wrong case of those that print themselves, behind all others.
+/// lack of memory, or a wrong case of those that print themselves, after all others.
 pub fn run(report: &mut Report<'_>) -> Result<()> {
     let wrong = wrong_cases(report.runtime())?;
     commands::run(report, "commands.txt")?;

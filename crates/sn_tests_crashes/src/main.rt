@@ -1,8 +1,8 @@
 //! The cases of crashes of a mounted file system, which `sn_tests_cuts` and `sn_tests_schedules` have.
 //!
 //! They are a program of their own for the time that they take. They read no tables. What is printed is compared with
-//! `stdout`. The argument is a folder. With a number and a count behind it, so many schedules from that number on are cut
-//! short wherever they can be.
+//! `stdout`. The argument is a folder. With a number and a count after it, so many schedules from that number on are cut short
+//! wherever they can be.
 //!
 //! ```text
 //! rt run -- .

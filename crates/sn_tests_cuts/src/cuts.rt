@@ -1,7 +1,7 @@
 //! Lists of calls that a failure of the device cuts short, and crashes.
 //!
-//! What is wanted is that all is there that was acknowledged, and beside it at most what was in flight;
-//! that a mount that is cut short and crashes leaves that as it is; and that the calls go on behind it.
+//! What is expected is that all is there that was acknowledged, and besides it at most what was in flight;
+//! that a mount that is cut short and crashes leaves that as it is; and that the calls go on after it.
 //! Each record takes two sectors, so that a crash may leave one of them without the other. The sixth call of the list
 //! doesn't fit, and makes a root first; so do the mounts, of what they find in the log.
 
@@ -16,7 +16,7 @@ use std::alloc::Global;
 use std::ops::Range;
 
 /// The writes of a mount, of the records, and of the root but for its new blocks. Of a record: the directory's body in two
-/// sectors, the gate behind it, and its own gate. Of the root: one that clears the other half of the log, eight of the map, one
+/// sectors, the gate after it, and its own gate. Of the root: one that clears the other half of the log, eight of the map, one
 /// that closes the gate of the slot, eight of the body, and the gate's.
 const WRITES: u64 = 1 + 4 * ALL as u64 + 19;
 
@@ -32,7 +32,7 @@ const MOST_CALLS: u32 = 1_000;
 /// Of a mount: a sync, the write that clears the first place of the log, and a sync of that.
 const LEAST_CALLS: u32 = 3;
 
-/// The crashes behind each number of writes: the fills of one kind, and those that tear sectors.
+/// The crashes after each number of writes: the fills of one kind, and those that tear sectors.
 const FILLED: u32 = 2;
 
 const TORN: u32 = 1;
@@ -40,7 +40,7 @@ const TORN: u32 = 1;
 /// A second crash is one of so many more.
 const SECOND: u32 = 20;
 
-/// The lives behind which mounts are cut short: as many parts of the list.
+/// The lives after which mounts are cut short: as many parts of the list.
 const PARTS: u32 = 3;
 
 /// How many mounts are cut short twice, in the first so many writes.
@@ -53,7 +53,7 @@ const MOUNT_WRITES: u32 = 101;
 enum Cut {
     /// So many writes succeed, and no later call.
     Stop(u32),
-    /// One call fails, behind so many.
+    /// One call fails, after so many.
     Failure(u32),
 }
 
@@ -143,7 +143,7 @@ fn look_at_parts(
     Ok(())
 }
 
-/// The mounts of what a part of the list left, behind so many writes.
+/// The mounts of what a part of the list left, after so many writes.
 fn look_at_part(
     report: &Report<'_>,
     mounts: &mut Mounts,
@@ -203,7 +203,7 @@ fn are_right(writes: u64) -> bool {
         && blocks <= MOST_BLOCKS
 }
 
-/// What a life came to: how many directories were acknowledged, where the answers were right, and whether the device failed.
+/// What became of a life: how many directories were acknowledged, where the answers were right, and whether the device failed.
 #[derive(Clone, Copy)]
 struct Life {
     acknowledged: Option<usize>,
@@ -326,8 +326,8 @@ fn crash_for(number: u32) -> u32 {
     }
 }
 
-/// Counts the end of the calls of the device that were let fail in turn, behind so many, and what went wrong on the way. How
-/// many reads there are isn't promised, so that the end is one case: it is right where it doesn't come before the writes' own.
+/// Counts the end of the calls of the device that were let fail in turn, after so many, and what went wrong on the way. How many
+/// reads there are isn't promised, so that the end is one case: it is right where it doesn't come before the writes' own.
 fn count_failure(
     report: &Report<'_>,
     tally: &mut Tally,
@@ -431,7 +431,7 @@ fn failed_mounts(
     bail!("there is no end of calls of a mount")
 }
 
-/// Two mounts of it that are cut short, each with a crash behind it.
+/// Two mounts of it that are cut short, each with a crash after it.
 fn mounts_again(
     report: &Report<'_>,
     tally: &mut Tally,

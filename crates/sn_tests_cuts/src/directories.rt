@@ -6,7 +6,7 @@ use sn_testing_mounts::Disk;
 /// How many directories are made.
 pub const ALL: usize = 7;
 
-// Each of them with its mode, which has nothing of the umask, and what stat tells of it. Some lie in others.
+// Each of them with its mode, which has nothing of the umask, and what stat reports of it. Some lie in others.
 const DIRECTORIES: [(&str, u16, &str); 7] = [
     ("/a", 0o755, "ok d 0755 1 0 0 0\n"),
     ("/a/b", 0o700, "ok d 0700 1 0 0 0\n"),
@@ -40,7 +40,7 @@ fn tried(disk: &mut Disk, path: &str, mode: u16) -> Result<Answer> {
     Ok(answer_of(line.as_str()))
 }
 
-/// What a second try answers behind a failure: a read that failed has changed nothing, and anything else stopped it.
+/// What a second try answers after a failure: a read that failed has changed nothing, and anything else stopped it.
 fn behind_failure(answer: Answer) -> Answer {
     match answer {
         Answer::Done => Answer::Done,
@@ -79,7 +79,7 @@ impl Progress {
         }
     }
 
-    /// Where the answer may come: done, then at most one EIO, and behind it ESTOPPED.
+    /// Where the answer may come: done, then at most one EIO, and after it ESTOPPED.
     fn behind(self, answer: Answer) -> Option<Progress> {
         match (answer, self.has_ended) {
             (Answer::Done, false) => Some(self.one_more()),
@@ -115,7 +115,7 @@ pub fn make(disk: &mut Disk, from: usize) -> Result<Option<usize>> {
     Ok(Some(progress.count))
 }
 
-/// What stat tells of a directory.
+/// What stat reports of a directory.
 #[derive(Clone, Copy, PartialEq, Eq)]
 enum Found {
     There,

@@ -24,7 +24,7 @@ fn entry(at: u8) -> (u8, u8) {
     }
 }
 
-/// The body of the record: the attributes of inode 2 are set to 0:0, rights 0755, no entries beside them,
+/// The body of the record: the attributes of inode 2 are set to 0:0, rights 0755, no entries besides them,
 /// and a default ACL that grants all to each.
 fn body() -> Sector {
     let mut sector = [0; SECTOR_SIZE];

@@ -13,13 +13,13 @@ const FRONT: &str = "0 login 0 0 -\n\
 
 const FRONT_LINES: usize = 4;
 
-/// A restart, and who is logged in behind it.
+/// A restart, and who is logged in after it.
 const RESTART: &str = "restart\n0 login 0 0 -\n";
 
 const RESTART_LINES: usize = 2;
 
 /// How many attributes are asked for of each live tree, and later of the snapshot that it became. The names of both directories are
-/// asked for behind them.
+/// asked for after them.
 const STATS: u32 = 46;
 
 const QUESTIONS: usize = 48;
@@ -32,7 +32,7 @@ pub struct Plan {
     pub names: u32,
     pub lengths: Lengths,
     pub rounds: u32,
-    /// How many calls and steps each round has in front of a restart, and as many behind it.
+    /// How many calls and steps each round has in front of a restart, and as many after it.
     pub events: u32,
 }
 
@@ -41,11 +41,11 @@ pub struct Plan {
 pub struct Round {
     /// That of its first event.
     pub first: usize,
-    /// That of its first event behind the restart.
+    /// That of its first event after the restart.
     pub restarted: usize,
-    /// That of its first question, behind the last event.
+    /// That of its first question, after the last event.
     pub questions: usize,
-    /// That behind its last question.
+    /// That after its last question.
     pub end: usize,
 }
 
@@ -54,7 +54,7 @@ impl Plan {
         self.names.saturating_sub(self.names / 4)
     }
 
-    /// How many events stand in front of the first round.
+    /// How many events come before the first round.
     pub fn front(&self) -> usize {
         (self.made() as usize)
             .saturating_mul(2)
@@ -162,7 +162,7 @@ impl Drawing {
         self.end_line()
     }
 
-    /// A line of one path that is drawn, with what stands before it and behind it.
+    /// A line of one path that is drawn, with what comes before it and after it.
     fn push_call(&mut self, before: &str, behind: &str) -> Result<()> {
         self.text.push_str(before)?;
         self.push_path()?;

@@ -1,9 +1,9 @@
-//! Drawn lists, with snapshots that are made, brought back and let go between their rounds.
+//! Drawn lists, with snapshots that are made, brought back and deleted between their rounds.
 //!
-//! Behind each round the live tree is asked some questions, and becomes a snapshot. Between the events of the next round the
-//! snapshot is asked the same, and answers as the live tree did. Then it's let go, so that its blocks are used again.
+//! After each round the live tree is asked some questions, and becomes a snapshot. Between the events of the next round the snapshot
+//! is asked the same, and answers as the live tree did. Then it's deleted, so that its blocks are used again.
 //!
-//! The events behind the restart of a round are asked for twice. A snapshot that was made before them is brought back in between, so that
+//! The events after the restart of a round are asked for twice. A snapshot that was made before them is brought back in between, so that
 //! they are answered the same again.
 
 use crate::drawing::{Plan, Round};
@@ -19,7 +19,7 @@ const BEFORE: &str = "0 snap-create back";
 
 const BACK: &str = "0 logout\n0 login 0 0 -\n0 snap-restore back\n0 snap-delete back";
 
-/// Compares what is answered to the drawn list of each case. A reply that isn't wanted is an error.
+/// Compares what is answered to the drawn list of each case. A reply that isn't expected is an error.
 pub fn run(report: &mut Report<'_>) -> Result<()> {
     report.table("directories/drawn.txt", replies)
 }
@@ -78,8 +78,8 @@ fn asked(disk: &mut Disk, subject: &Subject<'_>) -> Result<usize> {
     Ok(count)
 }
 
-/// Asks for a round, and behind each of its events a question of the snapshot of the round before, where there is one. Gives how
-/// many replies there were beside those of the list.
+/// Asks for a round, and after each of its events a question of the snapshot of the round before, where there is one. Gives how many
+/// replies there were besides those of the list.
 fn ask_round(disk: &mut Disk, subject: &Subject<'_>, number: u32) -> Result<usize> {
     let round = subject.plan.round(number);
     let mut count = 0_usize;
@@ -94,7 +94,7 @@ fn ask_round(disk: &mut Disk, subject: &Subject<'_>, number: u32) -> Result<usiz
     Ok(count.saturating_add(subject.plan.events as usize))
 }
 
-/// Asks for the events of a round from a place on, and for those behind its restart once more, on what they were asked on first.
+/// Asks for the events of a round from a place on, and for those after its restart once more, on what they were asked on first.
 fn ask_twice(disk: &mut Disk, subject: &Subject<'_>, from: usize, round: Round) -> Result<()> {
     subject.list.ask(disk, from, round.restarted)?;
     all_done(disk, BEFORE)?;
@@ -119,7 +119,7 @@ fn done(disk: &mut Disk, alloc: Global, call: &str, number: u32) -> Result<()> {
     Ok(())
 }
 
-/// Asks for the events of a round, and behind each of the first ones a question of the snapshot of a round before.
+/// Asks for the events of a round, and after each of the first ones a question of the snapshot of a round before.
 fn ask_between(disk: &mut Disk, subject: &Subject<'_>, number: u32, before: u32) -> Result<usize> {
     let (round, old) = (subject.plan.round(number), subject.plan.round(before));
     let lines = subject.script.lines().skip(old.questions);

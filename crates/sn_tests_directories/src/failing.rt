@@ -1,7 +1,7 @@
 //! A directory of forty blocks, of which reads fail.
 //!
-//! A mount reads the whole tree. So a file of more blocks than are kept is read behind it, and then a name of each block in turn.
-//! One call of the device of each block that these look-ups read is refused once: that look-up tells it, by EIO, and is right when it
+//! A mount reads the whole tree. So a file of more blocks than are kept is read after it, and then a name of each block in turn. One
+//! call of the device of each block that these look-ups read is refused once: that look-up reports it, by EIO, and is right when it
 //! is asked again, and so are all others.
 
 use crate::names::Lengths;
@@ -34,12 +34,12 @@ const LONGEST: usize = 65_536;
 
 const PARTS: u32 = 17;
 
-/// A mount and all reads behind it make fewer calls of the device than all of these and one.
+/// A mount and all reads after it make fewer calls of the device than all of these and one.
 const STEPS: [u32; 14] = [
     8_192, 4_096, 2_048, 1_024, 512, 256, 128, 64, 32, 16, 8, 4, 2, 1,
 ];
 
-/// What is told of each name, all of which are those of one file.
+/// What is reported of each name, all of which are those of one file.
 const STATUS: &str = "ok f 0644 601 0 0 0\n";
 
 const NONE: &str = "err ENOENT\n";
@@ -84,7 +84,7 @@ fn fill_file(disk: &mut Disk) -> Result<()> {
     done(disk, "0 sync")
 }
 
-/// Makes the names of a block, by a point of their own, so that they stand in that.
+/// Makes the names of a block, by a point of their own, so that they are in that block.
 fn fill_block(alloc: Global, disk: &mut Disk, place: u32) -> Result<()> {
     for number in names_of(place) {
         let line = line_of(alloc, "0 link /f /d/", number)?;
@@ -147,14 +147,14 @@ fn refused_on(report: &Report<'_>, disk: &mut Disk) -> Result<Tally> {
     Ok(tally)
 }
 
-/// Mounts the disk so that the call of the device behind so many is refused.
+/// Mounts the disk so that the call of the device after so many is refused.
 fn mount_to_refuse(disk: &mut Disk, call: u32) -> Result<()> {
     disk.crash(Fill::Old)?;
     disk.fail_behind(call)?;
     disk.remount()
 }
 
-/// How many calls of the device a mount and the reads behind it make, with the look-ups in so many blocks.
+/// How many calls of the device a mount and the reads after it make, with the look-ups in so many blocks.
 fn calls(alloc: Global, disk: &mut Disk, places: u32) -> Result<u32> {
     let mut count = 0_u32;
     for step in STEPS {
@@ -202,7 +202,7 @@ fn is_told_again(alloc: Global, disk: &mut Disk, number: u32) -> Result<bool> {
     is_told(alloc, disk, number, STATUS)
 }
 
-/// Reads the large file. What a refused read of it tells isn't looked at.
+/// Reads the large file. What a refused read of it reports isn't looked at.
 fn read_large(disk: &mut Disk) -> Result<()> {
     disk.ask("0 open /large r")?;
     for _part in 0..PARTS {

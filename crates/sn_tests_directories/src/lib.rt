@@ -18,7 +18,7 @@ mod turns;
 use anyhow::Result;
 use sn_testing_tables::Report;
 
-/// Compares the answers to all lists. A want of memory, and a table that can't be read, are errors.
+/// Compares the answers to all lists. A lack of memory, and a table that can't be read, are errors.
 pub fn run(report: &mut Report<'_>) -> Result<()> {
     drawn::run(report)?;
     turns::run(report)?;

@@ -33,8 +33,8 @@ impl Lengths {
             .saturating_add(drawn(&mut random, more.saturating_add(1)))
     }
 
-    /// Puts the name of a number behind a text: its five digits, and as many letters as the length wants. No two numbers below
-    /// 100,000 have one name.
+    /// Appends the name of a number to a text: its five digits, and as many letters as the length needs. No two numbers below 100,000
+    /// have one name.
     pub fn push_name(self, number: u32, text: &mut String) -> Result<()> {
         write!(text, "{number:05}")?;
         for _ in 5..self.of(number) {

@@ -20,7 +20,7 @@ const LENGTHS: Lengths = Lengths {
 
 const BLOCKS: u32 = 1_024;
 
-/// Asks for each name of all directories in turns, before and behind changes to each of them, and for one that isn't there.
+/// Asks for each name of all directories in turns, before and after changes to each of them, and for one that isn't there.
 pub fn run(report: &mut Report<'_>) -> Result<()> {
     let script = script(report.alloc())?;
     let list = List::new(report.alloc(), script.as_str())?;
@@ -56,7 +56,7 @@ fn script(alloc: Global) -> Result<String> {
     Ok(text)
 }
 
-/// The lines of a call on each name, those of one name in all directories behind one another.
+/// The lines of a call on each name, those of one name in all directories one after another.
 fn push_turns(call: &str, text: &mut String) -> Result<()> {
     for at in 0..NAMES * DIRECTORIES {
         push_line(call, at % DIRECTORIES, at / DIRECTORIES, text)?;

@@ -1,6 +1,7 @@
 //! Logs with bytes that a seed draws.
 //!
-//! What is wanted is a tree, the same at the next mount, or the block of the half that is damaged.
+//! What is expected is a tree, the same at the next mount, or the block of the half that is
+//! damaged.
 
 use anyhow::Result;
 use rand_core::Rng;
@@ -22,7 +23,7 @@ const PATHS: [&str; 20] = [
     "/c/b", "/c/c", "/c/d", "/d/a", "/d/b", "/d/c", "/d/d",
 ];
 
-/// What a half came to: a tree or a damage, and whether that is right.
+/// The result of a half: a tree or a damage, and whether that is right.
 #[derive(Clone, Copy)]
 struct Ending {
     is_tree: bool,
@@ -52,7 +53,7 @@ fn halves(report: &Report<'_>, trees: &mut Tally, damaged: &mut Tally) -> Result
     Ok(())
 }
 
-/// What a half that is drawn comes to at two mounts.
+/// The result of a half that is drawn, at two mounts.
 fn ending_of(alloc: Global, random: &mut Pcg32) -> Result<Ending> {
     let mut disk = Disk::large(alloc)?;
     drawn_and_mounted(alloc, &mut disk, random)
@@ -106,7 +107,7 @@ fn is_of_half(fault: MountFault) -> bool {
     }
 }
 
-/// What is told of each directory that may be there.
+/// What is reported of each directory that may be there.
 fn told(alloc: Global, disk: &mut Disk) -> Result<String> {
     disk.login()?;
     let mut lines = String::new(alloc);

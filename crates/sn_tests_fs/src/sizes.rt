@@ -14,8 +14,8 @@ const BLOCKS: u32 = 256;
 /// 253, so that these fill it four times over. Their inodes take more than the sixteen blocks that the root itself names.
 const MADE: u32 = 4 * 127 + 3;
 
-/// The directory whose record is the first that the half has no room for, behind two of a file that is made and unlinked:
-/// it gets the number that the file had.
+/// The directory whose record is the first that the half has no room for, after two of a file that is made and unlinked: it
+/// gets the number that the file had.
 const FIRST_BEHIND: u32 = 125;
 
 /// How many directories the least disk takes, every second of them in the one before it. 186 blocks are for data. To make one
@@ -49,7 +49,7 @@ fn fault_of(alloc: Global, sectors: u32) -> Result<Option<MountFault>> {
     disk.mount()
 }
 
-/// Each of so many directories is made, and is there behind a crash with its number; and so is one more.
+/// Each of so many directories is made, and is there after a crash with its number; and so is one more.
 fn directories(report: &Report<'_>) -> Result<Tally> {
     let mut disk = Disk::large(report.alloc())?;
     directories_on(report, &mut disk)
@@ -136,8 +136,8 @@ fn is_numbered(disk: &mut Disk, path: &str, number: u32) -> Result<bool> {
     Ok(told.as_str() == "ok d 0755 1 0 0 0\n")
 }
 
-/// Directories up to the last that the disk takes, and those that it doesn't take any more, also behind a crash. Where two of
-/// them go, two others are made.
+/// Directories up to the last that the disk takes, and those that it doesn't take any more, also after a crash. Where two of them
+/// go, two others are made.
 fn full_disk(report: &Report<'_>) -> Result<Tally> {
     let mut disk = Disk::least(report.alloc())?;
     full_disk_on(report, &mut disk)

@@ -1,6 +1,6 @@
 //! Runs of a row whose device stops after a number of writes, and crashes.
 //!
-//! What is wanted is that each reply up to the stop is the row's, that the event in flight tells it and no later one is served,
+//! What is expected is that each reply up to the stop is the row's, that the event in flight reports it and no later one is served,
 //! and that the disk is then found as the last event that was answered left it, or the one in flight, with the frozen trees as they
 //! were.
 
@@ -42,7 +42,7 @@ fn is_told(row: &Row, told: &Told, answered: usize) -> bool {
     }
 }
 
-/// Whether a row that is cut short so is told and found as it may be.
+/// Whether a row that is cut short so is reported and found as it may be.
 fn is_right(row: &Row, cut: Cut) -> Result<bool> {
     let told = row.run(row.script(), Harm::Stops(cut))?;
     let found = row.find(told.left.as_slice())?;
@@ -50,8 +50,7 @@ fn is_right(row: &Row, cut: Cut) -> Result<bool> {
     Ok(is_told(row, &told, answered) && row.may_be_found(answered, found.as_str()))
 }
 
-/// Where a row is cut short: after each so-manieth of its writes, with so many kinds of crashes at each, another one first at the
-/// next.
+/// Where a row is cut short: after every n-th of its writes, with so many kinds of crashes at each, another one first at the next.
 pub fn cuts_of(row: &Row, spacing: u32, kinds: u32) -> Result<Vec<Cut>> {
     let mut cuts = Vec::new(row.alloc());
     for stop in 0..row.writes().saturating_add(1) {

@@ -1,9 +1,9 @@
 //! Runs of a row of which one call of the device fails.
 //!
-//! What is wanted is that it is told, once. In the mount it ends the run. After an event that tells it, the event is asked again: a
-//! failed read has changed nothing, so that this and all that follow are answered as in the row. A failed write or sync has stopped
-//! the mount: nothing is served up to a restart, which finds what was there before the event or what is there after it. In the
-//! last unmount it ends the run, and all is there.
+//! What is expected is that it is reported, once. In the mount it ends the run. After an event that reports it, the event is asked
+//! again: a failed read has changed nothing, so that this and all that follow are answered as in the row. A failed write or sync
+//! has stopped the mount: nothing is served up to a restart, which finds what was there before the event or what is there after it.
+//! In the last unmount it ends the run, and all is there.
 
 use crate::rows::{Row, lines_from};
 use anyhow::{Result, bail};
@@ -14,10 +14,10 @@ use sn_testing_tables::Tally;
 /// A row makes fewer calls of its device.
 const MOST_CALLS: u32 = 4_000;
 
-/// What is asked after the event that tells a failure, so that it is seen whether the mount goes on.
+/// What is asked after the event that reports a failure, so that it is seen whether the mount goes on.
 const PROBE: &str = "0 stat /";
 
-/// Where a failure was told, and that all after it was as it may be.
+/// Where a failure was reported, and that all after it was as it may be.
 #[derive(Clone, Copy, PartialEq, Eq)]
 enum Ending {
     /// No call was left to fail.
@@ -33,7 +33,7 @@ enum Ending {
     Wrong,
 }
 
-/// How many failures were told so.
+/// How many failures were reported so.
 #[derive(Clone, Copy)]
 pub struct Counts {
     pub cases: Tally,
@@ -72,7 +72,7 @@ fn line_at(lines: &str, place: usize) -> Option<&str> {
     lines_from(lines, place).lines().next()
 }
 
-/// What a failure of the call after so many comes to.
+/// What a failure of the call after so many results in.
 fn ending_of(row: &Row, calls: u32) -> Result<Ending> {
     let told = row.run(row.script(), Harm::Fails { calls })?;
     let found = row.find(told.left.as_slice())?;
@@ -83,7 +83,7 @@ fn ending_of(row: &Row, calls: u32) -> Result<Ending> {
     }
 }
 
-/// How a run has ended of which so many replies are the row's, and after which this is found: none where an event tells a failure.
+/// How a run has ended of which so many replies are the row's, and after which this is found: none where an event reports a failure.
 fn ending_at(row: &Row, place: usize, told: &Told, found: &str) -> Option<Ending> {
     let is_whole = place == row.events();
     let has_failed = told.status.failures > 0;
@@ -96,7 +96,7 @@ fn ending_at(row: &Row, place: usize, told: &Told, found: &str) -> Option<Ending
     }
 }
 
-/// The event at a place told the failure. It is asked again after the probe, and so are those that follow it.
+/// The event at a place reported the failure. It is asked again after the probe, and so are those that follow it.
 fn told_at(row: &Row, calls: u32, place: usize) -> Result<Ending> {
     let front = row.front(place.saturating_add(1));
     let script = format!(in row.alloc(); "{front}{PROBE}\n{}", row.rest(place))?;
@@ -107,7 +107,7 @@ fn told_at(row: &Row, calls: u32, place: usize) -> Result<Ending> {
     }
 }
 
-/// What is told where the event at a place was asked again: none where the mount has stopped, which a restart has to show.
+/// What is reported where the event at a place was asked again: none where the mount has stopped, which a restart has to show.
 fn ending_after(row: &Row, place: usize, lines: &str, end: End) -> Option<Ending> {
     let has_stopped = line_at(lines, place.saturating_add(1)) == Some("err ESTOPPED");
     let is_restart = row.is_restart(place);
@@ -127,7 +127,7 @@ fn ending_after(row: &Row, place: usize, lines: &str, end: End) -> Option<Ending
     })
 }
 
-/// Whether a line tells a failure; of a restart that has stopped, also that it didn't mount.
+/// Whether a line reports a failure; of a restart that has stopped, also that it didn't mount.
 fn is_failure(line: Option<&str>, may_not_mount: bool) -> bool {
     match line {
         Some("err EIO") => true,
@@ -161,7 +161,7 @@ fn restarted_at(row: &Row, calls: u32, place: usize) -> Result<Ending> {
     ))
 }
 
-/// What the lines of a restart, and of what is asked then, tell.
+/// What the lines of a restart, and of what is asked then, report.
 fn ending_found(row: &Row, lines: &str, place: usize) -> Ending {
     match lines.strip_prefix("ok\n") {
         Some(found) if row.may_be_found(place, found) => Ending::Stop,
@@ -169,7 +169,7 @@ fn ending_found(row: &Row, lines: &str, place: usize) -> Ending {
     }
 }
 
-/// Lets each so-manieth call of the device fail, the first one first, until none is left to.
+/// Lets every n-th call of the device fail, the first one first, until none is left to.
 pub fn sweep(rt: &HostRuntime, row: &Row, spacing: u32, counts: &mut Counts) -> Result<()> {
     for each in 0..MOST_CALLS {
         let calls = each.saturating_mul(spacing);

@@ -3,7 +3,7 @@
 //!
 //! `rows` reads a row and runs the fronts of it, for what each of them leaves. `failures` refuses each call of the device in
 //! turn. `crashes` stops it after each of its writes and crashes it, and `recoveries` stops the runs after such a crash, three
-//! deep. `sweeps` does so with rows: the gate makes a part of it, which is told with its counts, and a person asks for the
+//! deep. `sweeps` does so with rows: the gate makes a part of it, which is reported with its counts, and a person asks for the
 //! whole. `spoilt` has images and scripts of which a few bytes are other ones. The rows and the tables are in the data of
 //! `sn_tests_restarts`, and `docs/HOSTILE.md` says what was found.
 //!
@@ -44,7 +44,7 @@ const ROWS: [&str; 11] = [
 ];
 
 /// Prints what isn't as it has to be, and how many cases there were. An error is a file that can't be read, a row that isn't
-/// answered as its file says, or a want of memory.
+/// answered as its file says, or a lack of memory.
 pub fn run(report: &mut Report<'_>) -> Result<()> {
     sweep_rows(report, &(0..ROWS.len()), Extent::SOME)?;
     spoilt::run(report)

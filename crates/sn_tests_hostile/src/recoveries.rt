@@ -1,6 +1,6 @@
 //! Runs without an event on what a crash left of a row, each of them a mount and an unmount, that are cut short, three deep.
 //!
-//! What is wanted is that the disk is then found as after the first crash.
+//! What is expected is that the disk is then found as after the first crash.
 
 use crate::crashes::cuts_of;
 use crate::rows::Row;
@@ -21,9 +21,9 @@ const DRAWN: u32 = 64;
 /// Which runs are cut short.
 #[derive(Clone, Copy)]
 pub struct Spacing {
-    /// The row is, after each so-manieth of its writes.
+    /// The row is, after every n-th of its writes.
     pub row: u32,
-    /// And so is the run after that, after each so-manieth of its own.
+    /// And so is the run after that, after every n-th of its own.
     pub mount: u32,
 }
 
@@ -103,7 +103,7 @@ fn outcome_of(row: &Row, left: &Left, cuts: [Cut; 3]) -> Result<Outcome> {
     })
 }
 
-/// Cuts short what follows on a crash of a row, after each so-manieth of its writes.
+/// Cuts short what follows on a crash of a row, after every n-th of its writes.
 fn sweep_after(
     rt: &HostRuntime,
     row: &Row,

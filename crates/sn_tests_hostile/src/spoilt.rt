@@ -1,7 +1,7 @@
 //! Images and scripts of which a few bytes are other ones.
 //!
-//! What is wanted of an image is the line of a check that a reading in Python tells by `docs/FORMAT.md`, and that a mount agrees with
-//! it: it succeeds, or tells the same fault and has written nothing. Of a script it is the first line that a grammar in Python
+//! What is expected of an image is the line of a check that a reading in Python gives by `docs/FORMAT.md`, and that a mount agrees
+//! with it: it succeeds, or reports the same fault and has written nothing. Of a script it is the first line that a grammar in Python
 //! refuses by `docs/SCRIPT.md`. Both tables are made by `bench/spoilt.py`.
 
 use crate::read_row;
@@ -45,7 +45,7 @@ fn left_by(rt: &HostRuntime, file: &str) -> Result<Vec<u8>> {
     Ok(Vec::from_slice(rt.alloc(), row.left())?)
 }
 
-/// Compares what is told of each spoilt image and of each spoilt script with the tables.
+/// Compares what is reported of each spoilt image and of each spoilt script with the tables.
 pub fn run(report: &mut Report<'_>) -> Result<()> {
     let bases = Bases::read(report.runtime())?;
     report.table(
@@ -55,7 +55,7 @@ pub fn run(report: &mut Report<'_>) -> Result<()> {
     report.table("hostile/scripts.txt", script)
 }
 
-/// What a check tells of the image of a case, `ROW AT:BYTE..`.
+/// What a check says of the image of a case, `ROW AT:BYTE..`.
 fn image(alloc: Global, bases: &Bases, case: Case<'_>) -> Result<String> {
     let base = bases.get(case.word(0)?)?;
     let mut image = Vec::from_slice(alloc, base)?;
@@ -93,7 +93,7 @@ fn line_of(alloc: Global, verdict: Result<Verdict, MountFault>) -> Result<String
     }
 }
 
-/// Whether a mount tells what a check does, and has then written nothing.
+/// Whether a mount reports what a check does, and has then written nothing.
 fn agrees(verdict: Result<Verdict, MountFault>, told: &Told) -> bool {
     let has_written = told.status.writes > 0;
     match (verdict, told.end) {

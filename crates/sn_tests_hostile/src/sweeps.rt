@@ -8,8 +8,8 @@ use anyhow::Result;
 use sn_testing_runs::KINDS;
 use sn_testing_tables::{Report, Tally};
 
-/// How much of each sweep is made: each so-manieth call of the device, how many kinds of crashes at each write, how many at those
-/// after which later runs are cut short, and where.
+/// How much of each sweep is made: every n-th call of the device, how many kinds of crashes at each write, how many at those after
+/// which later runs are cut short, and where.
 #[derive(Clone, Copy)]
 pub struct Extent {
     pub calls: u32,
@@ -59,7 +59,7 @@ impl Sweeps {
         }
     }
 
-    /// Sweeps over a row, and prints what isn't as it has to be. An error is a want of memory, or of an end.
+    /// Sweeps over a row, and prints what isn't as it has to be. An error is a lack of memory, or of an end.
     pub fn add(&mut self, rt: &HostRuntime, row: &Row) -> Result<()> {
         let Extent {
             calls,

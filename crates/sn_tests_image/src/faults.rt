@@ -24,7 +24,7 @@ enum Task {
     Check,
 }
 
-/// Compares what each call of the device that fails is told as. Too little memory is an error.
+/// Compares how each call of the device that fails is reported. Too little memory is an error.
 pub fn run(report: &mut Report<'_>) -> Result<()> {
     let formats = formats(report)?;
     report.add("a failure at each call of a format", formats)?;
@@ -87,7 +87,7 @@ fn perform_failing(alloc: Global, task: Task, call: u64) -> Result<Option<MountF
     perform(alloc, device, task)
 }
 
-/// Up to some call each failure is told, and behind it the task makes no more calls.
+/// Up to some call each failure is reported, and after it the task makes no more calls.
 fn failures(report: &Report<'_>, task: Task) -> Result<Tally> {
     let mut tally = Tally::new();
     let mut was_done = false;

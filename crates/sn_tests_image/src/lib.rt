@@ -15,7 +15,7 @@ mod mounting;
 use anyhow::Result;
 use sn_testing_tables::Report;
 
-/// Compares what all cases come to with what is wanted. An error is a case, or a table, that can't be read, or a want of memory.
+/// Compares the results of all cases with what is expected. An error is a case, or a table, that can't be read, or a lack of memory.
 pub fn run(report: &mut Report<'_>) -> Result<()> {
     report.table("image/format.txt", formatting::bytes)?;
     report.table("image/mounts.txt", mounting::found)?;

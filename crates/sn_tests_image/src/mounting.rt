@@ -63,7 +63,7 @@ fn put(device: &mut MemDevice, at: u32, run: &[u8]) -> Result<()> {
     }
 }
 
-/// The lines of the replies, one behind the other.
+/// The lines of the replies, one after the other.
 fn told(alloc: Global, disk: &mut Disk) -> Result<String> {
     let mut text = String::new(alloc);
     for question in QUESTIONS.lines() {

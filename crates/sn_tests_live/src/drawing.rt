@@ -6,14 +6,13 @@ use rand_core::Rng;
 use rand_pcg::Pcg32;
 use std::alloc::Global;
 
-/// A restart, and who is logged in behind it.
+/// A restart, and who is logged in after it.
 pub const RESTART: &str = "restart\n0 login 0 0 -\n1 login 1001 1001 -\n";
 
 /// A whole consistency point.
 pub const SYNC: &str = "0 sync\n";
 
-/// The tree of a list. One of its files has a byte behind the sixteen blocks that an inode itself names, and one has lost its
-/// name.
+/// The tree of a list. One of its files has a byte past the sixteen blocks that an inode itself names, and one has lost its name.
 const TREE: &str = "0 login 0 0 -\n\
     1 login 1001 1001 -\n\
     0 mkdir /a 0755\n\
@@ -114,7 +113,7 @@ fn drawn(random: &mut Pcg32, count: u32) -> u32 {
     random.next_u32().checked_rem(count).unwrap_or(0)
 }
 
-/// The list of a number: a tree, a pause, and so many events that are drawn. Now and then the same pause stands among them.
+/// The list of a number: a tree, a pause, and so many events that are drawn. Now and then the same pause is among them.
 pub fn list_of(alloc: Global, number: u32, events: u32, pause: &str) -> Result<String> {
     let mut list = String::new(alloc);
     draw(number, events, pause, &mut list)?;

@@ -93,7 +93,7 @@ pub fn is_alike(told: Told) -> bool {
 }
 
 /// How a disk answers an event to which this is the reply of the tree in memory. A restart is a crash and a mount, so that it
-/// is told whether what was answered stands there.
+/// is seen whether what was answered is there.
 fn told_by(alloc: Global, disk: &mut Disk, event: &Event, reply: &Reply) -> Result<Told> {
     match event {
         Event::Restart => restart(disk),
@@ -133,7 +133,7 @@ fn is_line_of(alloc: Global, line: &str, reply: &Reply) -> Result<bool> {
     Ok(line.as_bytes() == wanted.as_slice())
 }
 
-/// What a line tells that isn't that of the tree in memory.
+/// What a line reports that isn't that of the tree in memory.
 fn told_otherwise(line: &str) -> Told {
     match line {
         "err EIO\n" => Told::Failed,
@@ -152,7 +152,7 @@ fn script_without(alloc: Global, script: &str, place: u32) -> Result<String> {
     Ok(left)
 }
 
-/// Puts a line behind a script.
+/// Puts a line after a script.
 pub fn push_line(line: &str, script: &mut String) -> Result<()> {
     script.push_str(line)?;
     Ok(script.push_str("\n")?)

@@ -1,7 +1,7 @@
 //! A file that outgrows the blocks that are kept.
 //!
 //! A block that was read is read from the device again once so many others came between. Where that call of the device is
-//! refused, the read tells it, alone: the next one finds the byte. A file system that kept its tree in memory would have no
+//! refused, that read alone reports it: the next one finds the byte. A file system that kept its tree in memory would have no
 //! such call.
 
 use anyhow::{Result, ensure};
@@ -127,7 +127,7 @@ fn is_refused_on(disk: &mut Disk, calls: u32) -> Result<bool> {
     disk.has_failed()
 }
 
-/// Whether a block is read again by the call behind so many.
+/// Whether a block is read again by the call after so many.
 fn is_read_again(alloc: Global, image: &[u8], calls: u32) -> Result<bool> {
     let mut disk = Disk::of_bytes(alloc, image)?;
     reads_again_on(&mut disk, calls)

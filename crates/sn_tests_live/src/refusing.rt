@@ -1,8 +1,8 @@
 //! Lists with each call of the device refused in turn.
 //!
-//! A refused call has to be told, by the mount or by EIO, once. Behind EIO the event is asked again. If the refused call was a
-//! read, nothing has changed and the mount goes on: the event and all behind it are answered as by the tree in memory, and
-//! where it isn't asked again, they are answered as by one that was never asked it. If it was a write or a sync, the
+//! A refused call has to be reported, by the mount or by EIO, once. After EIO the event is asked again. If the refused call
+//! was a read, nothing has changed and the mount goes on: the event and all after it are answered as by the tree in memory,
+//! and where it isn't asked again, they are answered as by one that was never asked it. If it was a write or a sync, the
 //! mount has stopped. How many calls a list makes of its device isn't promised, so that each list is one case; how many were
 //! refused is printed, so that it's seen that they were.
 
@@ -23,8 +23,8 @@ const EVENTS: u32 = 12;
 /// A list makes no more calls of its device.
 const MOST_CALLS: u32 = 4_000;
 
-/// Calls on files, behind points and between the steps of one. One file has a byte behind the sixteen blocks that an inode itself
-/// names, and one has lost its name.
+/// Calls on files, after points and between the steps of one. One file has a byte past the sixteen blocks that an inode itself names, and
+/// one has lost its name.
 const FILES: &str = "0 login 0 0 -\n\
     0 mkdir /a 0755\n\
     0 mkdir /a/b 0711\n\
@@ -84,9 +84,9 @@ const NAMES: &str = "0 login 0 0 -\n\
 enum Ending {
     /// No call was left to be refused.
     Whole,
-    /// The event at some place told it, and the mount has stopped.
+    /// The event at some place reported it, and the mount has stopped.
     Stopped,
-    /// The event at this place told it, and the mount went on.
+    /// The event at this place reported it, and the mount went on.
     Read(u32),
     /// The event at this place wasn't answered as it may be.
     Wrong(u32),
@@ -107,9 +107,9 @@ struct Counts {
     lists: Tally,
     /// Those of a mount.
     mounting: u32,
-    /// Those of events behind which the mount went on.
+    /// Those of events after which the mount went on.
     reads: u32,
-    /// Those of events behind which it has stopped.
+    /// Those of events after which it has stopped.
     stopping: u32,
 }
 
@@ -156,7 +156,7 @@ fn counts_on(report: &Report<'_>, image: &[u8]) -> Result<Counts> {
     Ok(counts)
 }
 
-/// How many calls of the device a mount makes. It fails where one of them is refused, and another one behind it doesn't.
+/// How many calls of the device a mount makes. It fails where one of them is refused, and another one after it doesn't.
 fn mount_calls(alloc: Global, image: &[u8]) -> Result<u32> {
     for call in 0..MOST_CALLS {
         if !is_mount_refused(alloc, image, call)? {
@@ -213,7 +213,7 @@ fn add_script(
     refuse_each(report, counts, &subject)
 }
 
-/// Refuses the calls that a list makes of its device behind the mount, one after the other, until none is left.
+/// Refuses the calls that a list makes of its device after the mount, one after the other, until none is left.
 fn refuse_each(report: &Report<'_>, counts: &mut Counts, subject: &Subject<'_>) -> Result<()> {
     for call in counts.mounting..MOST_CALLS {
         let ending = ending_of(report.alloc(), subject, call)?;
@@ -232,7 +232,7 @@ fn is_whole(ending: Ending) -> bool {
     }
 }
 
-/// How a list ends where the call behind so many is refused, whether what that has cost is asked again or left out.
+/// How a list ends where the call after so many is refused, whether what that has cost is asked again or left out.
 fn ending_of(alloc: Global, subject: &Subject<'_>, call: u32) -> Result<Ending> {
     match asked_again(alloc, subject, call)? {
         Ending::Read(place) => left_out(alloc, subject, call, place),
@@ -270,7 +270,7 @@ fn whole(disk: &mut Disk, place: u32) -> Result<Ending> {
     })
 }
 
-/// The event at a place was answered EIO. It is asked again, and so are those behind it.
+/// The event at a place was answered EIO. It is asked again, and so are those after it.
 fn asked_from(disk: &mut Disk, list: &List, place: u32) -> Result<Ending> {
     let reached = list.ask(disk, place)?;
     Ok(match reached.told {
@@ -280,7 +280,7 @@ fn asked_from(disk: &mut Disk, list: &List, place: u32) -> Result<Ending> {
     })
 }
 
-/// The events behind the one at a place, which a refused read has cost, are answered as where that was never asked.
+/// The events after the one at a place, which a refused read has cost, are answered as where that was never asked.
 fn left_out(alloc: Global, subject: &Subject<'_>, call: u32, place: u32) -> Result<Ending> {
     let rest = List::without(alloc, subject.script, place)?;
     left_out_of(alloc, subject, call, &rest)

@@ -63,7 +63,7 @@ pub fn payloads(alloc: Global, disk: &mut Disk, random: &mut Pcg32) -> Result<Ve
     payloads_in(alloc, half.as_slice())
 }
 
-/// The half behind drawn calls.
+/// The half after drawn calls.
 fn called_half(alloc: Global, disk: &mut Disk, random: &mut Pcg32) -> Result<Vec<u8>> {
     clear_half(disk)?;
     ask_some(alloc, disk, random)?;

@@ -1,4 +1,4 @@
-//! How many halves came to each end, and how many records of each kind were applied.
+//! How many halves had each end, and how many records of each kind were applied.
 
 use anyhow::{Context, Result, bail, ensure};
 use sn_testing_reading::ChangeKind::{
@@ -127,7 +127,7 @@ fn line_of_kind(change: ChangeKind) -> Option<usize> {
     None
 }
 
-/// What stands before the text of an end.
+/// What comes before the text of an end.
 fn front_of(outcome: Outcome) -> &'static str {
     match outcome {
         Ended(Misspelt(_)) => "a misspelt record, ",

@@ -20,8 +20,8 @@ const HALVES: u32 = 10_000;
 /// So many halves begin with the records of one list of calls.
 const TURN: u32 = 8;
 
-/// Compares what mounts of all halves find with what is read, and prints how many came to each end. An end that never came up
-/// is an error.
+/// Compares what mounts of all halves find with what is read, and prints how many had each end. An end that never came up is an
+/// error.
 pub fn run(report: &mut Report<'_>) -> Result<()> {
     let mut counts = Counts::new(report.alloc())?;
     count_all(report, &mut counts)?;
@@ -164,7 +164,7 @@ fn fault_of(reading: &Reading<'_>) -> MountFault {
     }
 }
 
-/// Whether a mount finds what was read plainly, and where it is wanted a directory can be made there.
+/// Whether a mount finds what was read plainly, and where it is asked for a directory can be made there.
 fn is_mounted(alloc: Global, disk: &mut Disk, reading: &Reading<'_>, makes: bool) -> Result<bool> {
     match disk.mount()? {
         None => is_read(alloc, disk, reading, makes),
@@ -172,7 +172,7 @@ fn is_mounted(alloc: Global, disk: &mut Disk, reading: &Reading<'_>, makes: bool
     }
 }
 
-/// Whether what is mounted is what was read, and where it is wanted a directory can be made there.
+/// Whether what is mounted is what was read, and where it is asked for a directory can be made there.
 fn is_read(alloc: Global, disk: &mut Disk, reading: &Reading<'_>, makes: bool) -> Result<bool> {
     if !reading.outcome.is_tree() || !is_tree(alloc, disk, &reading.tree)? {
         return Ok(false);

@@ -3,10 +3,10 @@
 //! Each half has random sectors, or records: those that real calls have left (`calls`), or drawn ones of all seven
 //! kinds (`sn_testing_payloads`), which apply to one another but for a few. Then some of it is changed: the list of
 //! records and their heads (`records`), and bytes of its sectors (`sectors`). `sn_testing_reading` reads the bytes by
-//! docs/FORMAT.md, to a tree or to the place of a damage. What is wanted is that a mount of the same bytes finds that
+//! docs/FORMAT.md, to a tree or to the place of a damage. What is expected is that a mount of the same bytes finds that
 //! tree, which is looked at by calls of the user 0 (`sn_testing_looking`), or that damage at the block of its place; and
 //! the same at the next mount, after a crash, which then makes a directory. The first mount makes a root of a tree that
-//! has records; its own root is put back for the next half. `counts` tells how many halves came to each end, and that
+//! has records; its own root is put back for the next half. `counts` says how many halves had each end, and that
 //! each end came up.
 //!
 //! No clause promises what comes out, since it is compared: `sn_tests_logs` runs it.
@@ -21,7 +21,7 @@ mod sectors;
 use anyhow::Result;
 use sn_testing_tables::Report;
 
-/// Mounts all halves, and compares what is found. A want of memory is an error.
+/// Mounts all halves, and compares what is found. A lack of memory is an error.
 pub fn run(report: &mut Report<'_>) -> Result<()> {
     halves::run(report)
 }

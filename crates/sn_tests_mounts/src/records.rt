@@ -11,7 +11,7 @@ use std::alloc::Global;
 /// The attributes of the root directory, as a new disk has them.
 const ROOT: [u8; 16] = [7, 2, 0, 0, 0xed, 1, 0, 0, 0, 0, 0, 0, 0, 0, 0, 0];
 
-/// What stands before the payload of a record.
+/// What comes before the payload of a record.
 #[derive(Clone, Copy)]
 struct Head {
     epoch: u64,
@@ -49,8 +49,7 @@ fn change_payload(bytes: &mut Vec<u8>, random: &mut Pcg32) -> Result<()> {
     Ok(())
 }
 
-/// Changes a list: one is dropped, stands there twice or elsewhere, is changed, or a drawn one stands
-/// before it.
+/// Changes a list: one is dropped, is there twice or elsewhere, is changed, or a drawn one comes before it.
 pub fn change_list(alloc: Global, list: &mut Vec<Vec<u8>>, random: &mut Pcg32) -> Result<()> {
     let at = one_of(random, list.len());
     if at >= list.len() {
@@ -148,13 +147,13 @@ fn spell(body: &mut Vec<u8>, head: Head, payload: &[u8]) -> Result<()> {
     body.extend_from_slice(&head.sequence.to_le_bytes())?;
     body.extend_from_slice(&head.size.to_le_bytes())?;
     body.extend_from_slice(payload)?;
-    // The last sector is filled up, and what is behind it left out.
+    // The last sector is filled up, and what is after it left out.
     let zeros = [0; SECTOR_SIZE];
     body.extend_from_slice(&zeros[1..])?;
     Ok(())
 }
 
-/// Puts a body behind a gate, and answers the place behind it.
+/// Puts a body after a gate, and answers the place after it.
 fn put_body(disk: &mut Disk, place: u64, body: &[u8]) -> Result<u64> {
     let mut place = place;
     for bytes in body.chunks_exact(SECTOR_SIZE) {
@@ -169,7 +168,7 @@ fn put_body(disk: &mut Disk, place: u64, body: &[u8]) -> Result<u64> {
     Ok(place.saturating_add(1))
 }
 
-/// Lays a record at a place, and answers the one behind it.
+/// Lays a record at a place, and answers the one after it.
 fn lay_one(alloc: Global, disk: &mut Disk, place: u64, head: Head, payload: &[u8]) -> Result<u64> {
     let body = body(alloc, head, payload)?;
     put(disk, place, &gate())?;
@@ -177,7 +176,7 @@ fn lay_one(alloc: Global, disk: &mut Disk, place: u64, head: Head, payload: &[u8
 }
 
 /// Lays the payloads as records from the first place on, one of them, where there is one at `odd`, with a head
-/// that isn't its own. Behind them stands a closed gate, or now and then what stood there.
+/// that isn't its own. A closed gate follows, or now and then what was there.
 fn lay(
     alloc: Global,
     disk: &mut Disk,

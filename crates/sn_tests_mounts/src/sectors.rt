@@ -49,7 +49,7 @@ pub fn close_second_root(disk: &mut Disk) -> Result<()> {
     disk.write(SECOND_GATE, &[0; SECTOR_SIZE])
 }
 
-/// Bytes that are random, behind the front of a gate or of a body more often than not.
+/// Bytes that are random, after the front of a gate or of a body more often than not.
 fn random_sector(random: &mut Pcg32) -> Sector {
     let mut sector = [0; SECTOR_SIZE];
     random.fill_bytes(&mut sector);

@@ -1,4 +1,4 @@
-//! How faults are told: the line of each, and outputs that take nothing.
+//! How faults are reported: the line of each, and outputs that take nothing.
 
 use sn_mkfs::MkfsFault;
 use sn_model::{Damage, MountFault};
@@ -84,7 +84,7 @@ const SCRIPT: [&str; 3] = ["run", "asked.img", "asked.snap"];
 
 const REPLIES: &[u8] = b"ok\nok d 0755 1 0 0 0\nok\n";
 
-/// A reply that can't be written is a fault of a file; the status holds where the fault can't be told either.
+/// A reply that can't be written is a fault of a file; the status holds where the fault can't be reported either.
 fn holds_where_closed(rt: &HostRuntime) -> bool {
     let (mut err, mut person) = (Vec::new(rt.alloc()), Vec::new(rt.alloc()));
     let unwritten = program(rt, &SCRIPT, &mut Closed, &mut err, &mut person);
@@ -95,7 +95,7 @@ fn holds_where_closed(rt: &HostRuntime) -> bool {
     unwritten == 1 && is_told && untold == 2
 }
 
-/// An error of a file is told by its own line alone, and want of memory by that of the program.
+/// An error of a file is reported by its own line alone, and lack of memory by that of the program.
 fn tells_files(rt: &HostRuntime) -> bool {
     let closed = ProgramFault::of_file(Which::Image, io::Error::from(ErrorKind::NotFound));
     let refused = ProgramFault::of_file(Which::Script, io::Error::from(ErrorKind::OutOfMemory));
@@ -120,7 +120,7 @@ fn holds_the_front(rt: &HostRuntime) -> io::Result<bool> {
     Ok(true)
 }
 
-/// A run that was cut short is told and has status 0 where what is left was saved, also where its replies can't be
+/// A run that was cut short is reported and has status 0 where what is left was saved, also where its replies can't be
 /// written. An image that is made and can't be answered isn't done.
 fn holds_where_cut_short(rt: &HostRuntime) -> bool {
     let (mut err, mut made) = (Vec::new(rt.alloc()), Vec::new(rt.alloc()));

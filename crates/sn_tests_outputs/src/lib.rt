@@ -1,4 +1,4 @@
-//! Cases of what the program leaves: the lines that tell a fault, outputs that take nothing or little, and files of images.
+//! Cases of what the program leaves: the lines that report a fault, outputs that take nothing or little, and files of images.
 //!
 //! `faults` has the lines and the outputs, and `images` what a run leaves of a file, also of one in use. A run that has ended is
 //! that of `sn_tests_commands`.
@@ -12,8 +12,8 @@ mod images;
 use anyhow::{Result, ensure};
 use sn_testing_tables::Report;
 
-/// Prints what isn't as it has to be, and how many cases there were. An error is a file that can't be read or made, a want of
-/// memory, or a wrong case of the faults, behind all others.
+/// Prints what isn't as it has to be, and how many cases there were. An error is a file that can't be read or made, a lack of
+/// memory, or a wrong case of the faults, after all others.
 pub fn run(report: &mut Report<'_>) -> Result<()> {
     let wrong = faults::run_all(report.runtime())?;
     images::run(report)?;

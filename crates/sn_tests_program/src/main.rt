@@ -1,8 +1,8 @@
 //! The cases of a mounted file system and of the program.
 //!
 //! Each part is a crate `sn_tests_..` of its own, which says what it compares. One program runs them all, since two compilers
-//! build each program with all that it stands on. It runs in the folder `data/`, where `examples` is a copy of the repository's
-//! folder of that name. What is printed is compared with `stdout`. Behind the folder one part may stand for that alone, as in
+//! build each program with all that it uses. It runs in the folder `data/`, where `examples` is a copy of the repository's folder
+//! of that name. What is printed is compared with `stdout`. After the folder one part may be given for that alone, as in
 //!
 //! ```text
 //! rt run -- .

@@ -97,7 +97,7 @@ fn generation(image: &[u8], slot: Slot) -> Result<u64> {
     Ok(u64::from_le_bytes(field(image, slot.body, 8)?))
 }
 
-/// The bytes at an offset behind a place.
+/// The bytes at an offset from a place.
 fn field<const N: usize>(image: &[u8], place: usize, offset: usize) -> Result<[u8; N]> {
     let rest = image.get(place.saturating_add(offset)..);
     let (front, _) = rest
@@ -107,7 +107,7 @@ fn field<const N: usize>(image: &[u8], place: usize, offset: usize) -> Result<[u
     Ok(*front)
 }
 
-/// Writes bytes at an offset behind a place, as far as there is room.
+/// Writes bytes at an offset from a place, as far as there is room.
 fn put(image: &mut [u8], place: usize, offset: usize, run: &[u8]) {
     let first = place.saturating_add(offset);
     for (byte, wanted) in image.iter_mut().skip(first).zip(run) {

@@ -1,7 +1,7 @@
 //! A run with each call of the device refused in turn.
 //!
 //! How many reads a run makes isn't promised. So the refused calls of a run are one case, which is right where each of them is
-//! told as it may be, and where there are as many of them as the run has writes and syncs.
+//! reported as it may be, and where there are as many of them as the run has writes and syncs.
 
 use anyhow::{Result, bail, ensure};
 use sn_device::{Device, MemDevice};
@@ -12,8 +12,8 @@ use sn_testing_runs::{events_of, ran};
 use sn_testing_tables::{Report, Tally};
 use std::alloc::Global;
 
-/// Two directories, with a restart behind each, and two steps and a `sync`, which finishes them, behind the first; and what is
-/// there in the end.
+/// Two directories, with a restart after each, and two steps and a `sync`, which finishes them, after the first; and what is there in
+/// the end.
 const EVENTS: &str =
     "0 login 0 0 -\n0 mkdir /a 0755\nstep\nstep\n0 sync\nrestart\n0 login 0 0 -\n0 mkdir /b 0755\nrestart\n0 login 0 0 -\n0 stat /a\n0 stat /b\n";
 
@@ -33,10 +33,10 @@ enum Made {
 /// What a run with one refused call may still answer.
 #[derive(Drop)]
 struct Course {
-    /// The refused call has been told.
+    /// The refused call has been reported.
     is_told: bool,
     has_stopped: bool,
-    /// A root or a directory has told it: if it was a read, nothing has stopped, as the next reply tells.
+    /// A root or a directory has reported it: if it was a read, nothing has stopped, as the next reply shows.
     may_have_stopped: bool,
     /// The session is open: a restart ends it that isn't refused.
     is_open: bool,
@@ -65,14 +65,14 @@ impl Course {
         }
     }
 
-    /// What is refused tells the refused call.
+    /// What is refused reports the refused call.
     fn tells(&mut self, reply: &Reply) -> bool {
         let is_first = !self.is_told;
         self.is_told = true;
         is_first && is_refused(reply, Errno::Eio)
     }
 
-    /// A root or a directory that is refused tells the refused call.
+    /// A root or a directory that is refused reports the refused call.
     fn makes_none(&mut self, reply: &Reply) -> bool {
         self.may_have_stopped = true;
         self.tells(reply)
@@ -92,7 +92,7 @@ impl Course {
         matches!(reply, Reply::Done)
     }
 
-    /// A restart mounts, or tells the refused call: its unmount is refused, or it stops.
+    /// A restart mounts, or reports the refused call: its unmount is refused, or it stops.
     fn restarts(&mut self, reply: &Reply) -> bool {
         if let Reply::Refused(_) = reply {
             return self.makes_none(reply);
@@ -109,7 +109,7 @@ impl Course {
         is_first && matches!(reply, Reply::Unmounted(MountFault::Device))
     }
 
-    /// A directory is made, or tells the refused call.
+    /// A directory is made, or reports the refused call.
     fn makes(&mut self, reply: &Reply) -> Result<bool> {
         if let Reply::Done = reply {
             self.made.push(Made::There)?;
@@ -120,7 +120,7 @@ impl Course {
     }
 
     /// A directory that was answered is there, and one that was refused isn't, unless that may have stopped the mount. To ask
-    /// for it writes nothing, so that a refused call that it tells has stopped nothing.
+    /// for it writes nothing, so that a refused call that it reports has stopped nothing.
     fn finds(&mut self, reply: &Reply) -> bool {
         let made = self.made.get(self.asked).copied().unwrap_or(Made::Absent);
         self.asked = self.asked.saturating_add(1);
@@ -131,7 +131,7 @@ impl Course {
         }
     }
 
-    /// Behind what may have stopped the mount the next reply tells whether it has. Where it goes on, nothing was made.
+    /// After what may have stopped the mount the next reply shows whether it has. Where it goes on, nothing was made.
     fn goes_on(&mut self, reply: &Reply) {
         self.may_have_stopped = false;
         self.has_stopped = is_refused(reply, Errno::Estopped);
@@ -180,7 +180,7 @@ impl Course {
         })
     }
 
-    /// What was refused in a run that ends so: the unmount behind the last event may meet the refused call as well.
+    /// What was refused in a run that ends so: the unmount after the last event may encounter the refused call as well.
     fn ends(&self, end: End) -> Told {
         let wanted = if self.has_stopped {
             End::Stopped
@@ -199,7 +199,7 @@ impl Course {
     }
 }
 
-/// What was refused in a run, as its answers tell.
+/// What was refused in a run, as its answers show.
 enum Told {
     Nothing,
     OneCall,
@@ -228,7 +228,7 @@ fn written(device: &MemDevice) -> u64 {
     status.writes.saturating_add(status.syncs)
 }
 
-/// What a run of the events tells of a refused call, the one of this number, and how many writes and syncs it made.
+/// What a run of the events reports of a refused call, the one of this number, and how many writes and syncs it made.
 fn refused_at(alloc: Global, events: &[Event], call: u64) -> Result<(Told, u64)> {
     ensure!(call > 0, "calls are counted from 1");
     let mut device = least_device(alloc)?;

@@ -1,6 +1,6 @@
 //! Crashes at each write of each event of a list.
 //!
-//! What is wanted is what was there before the event or what is there behind it, and where it was answered the
+//! What is expected is what was there before the event or what is there after it, and where it was answered the
 //! second alone, also in the unmount with which each run ends. Some records take several sectors, so that a crash may
 //! leave one of them without another, or a part of one. Steps, restarts, unmounts and calls that don't fit make roots.
 
@@ -13,28 +13,28 @@ use sn_testing_runs::{events_of, found_on, lines_of as lines_of_replies, ran};
 use std::alloc::Global;
 use std::ops::Range;
 
-/// What is asked behind a crash: attributes, lists of entries, names and bytes.
+/// What is asked after a crash: attributes, lists of entries, names and bytes.
 const ASKED: &str =
     "0 login 0 0 -\n0 stat /a\n0 getacl /a a\n0 getacl /a d\n0 readdir /a\n0 stat /a/f\n0 getacl /a/f a\n0 open /a/f r\n0 read 0 65536\n";
 
-/// How many crashes there are behind each number of writes, and how many of them fill sectors: the others tear them.
+/// How many crashes there are after each number of writes, and how many of them fill sectors: the others tear them.
 const CRASHES: u32 = 7;
 
 const FILLED: u32 = 5;
 
-/// A longer line is told by its front and the number of its bytes.
+/// A longer line is shown by its front and the number of its bytes.
 const SHOWN: usize = 24;
 
-/// What is there before an event and behind it, and how many writes were made up to each.
+/// What is there before an event and after it, and how many writes were made up to each.
 #[derive(Clone, Copy)]
 struct Step<'a> {
     before: &'a Whole,
     behind: &'a Whole,
-    /// No event comes behind it, so that the unmount does.
+    /// No event comes after it, so that the unmount does.
     is_last: bool,
 }
 
-/// What events leave that aren't cut short, how many writes they make, and how many with the unmount behind them.
+/// What events leave that aren't cut short, how many writes they make, and how many with the unmount after them.
 #[derive(Drop)]
 struct Whole {
     found: String,
@@ -43,7 +43,7 @@ struct Whole {
 }
 
 /// A line for each event of a text, on the least disk: how many writes it makes, how many crashes in it left what they may
-/// not, and what is there behind it.
+/// not, and what is there after it.
 pub fn torn(alloc: Global, text: &str) -> Result<String> {
     let events = events_of(alloc, text)?;
     lines_of(alloc, events.as_slice())
@@ -121,8 +121,8 @@ fn writes_of(
     answered_behind(alloc, events, said.as_str(), writes.start, writes.end)
 }
 
-/// The least number of writes behind which all events are answered so. With more writes no event is answered otherwise, so
-/// that each run halves what it may be.
+/// The least number of writes after which all events are answered so. With more writes no event is answered otherwise, so that
+/// each run halves what it may be.
 fn answered_behind(
     alloc: Global,
     events: &[Event],
@@ -181,7 +181,7 @@ fn push_short(line: &str, lines: &mut String) -> Result<()> {
     Ok(())
 }
 
-/// How many crashes in the last of some events, and in the unmount behind the last of all, leave what they may not.
+/// How many crashes in the last of some events, and in the unmount after the last of all, leave what they may not.
 fn wrong_crashes(alloc: Global, events: &[Event], step: Step<'_>) -> Result<u32> {
     let mut wrong = 0_u32;
     let most = if step.is_last {
@@ -195,7 +195,7 @@ fn wrong_crashes(alloc: Global, events: &[Event], step: Step<'_>) -> Result<u32>
     Ok(wrong)
 }
 
-/// The same behind so many writes of the whole run.
+/// The same after so many writes of the whole run.
 fn wrong_behind(alloc: Global, events: &[Event], step: Step<'_>, stop: u64) -> Result<u32> {
     let mut wrong = 0_u32;
     for number in 0..CRASHES {

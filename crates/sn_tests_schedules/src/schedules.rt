@@ -1,10 +1,10 @@
 //! Drawn lists of calls with steps of consistency points between them, cut short.
 //!
-//! A schedule is drawn from its number: calls on a few paths, so that they meet, and as many steps. It begins on an empty disk,
-//! or, where its number is odd, on one with files of bytes, a snapshot of them, and changes behind that. What each event leaves is
-//! looked at behind a crash, the live tree and those of snapshots alike; then the same list is cut short at writes of it, the disk crashes, and so does the mount behind it, up to
-//! twice. What is found then has to be what stood behind the last event that was answered as in the whole list, or behind the
-//! one in flight.
+//! A schedule is drawn from its number: calls on a few paths, so that they meet, and as many steps. It begins on an empty disk, or, where
+//! its number is odd, on one with files of bytes, a snapshot of them, and changes after that. What each event leaves is looked at after a
+//! crash, the live tree and those of snapshots alike; then the same list is cut short at writes of it, the disk crashes, and so does the
+//! mount after it, up to twice. What is found then has to be what was there after the last event that was answered as in the whole list,
+//! or after the one in flight.
 
 use anyhow::{Context, Result, ensure};
 use rand_core::Rng;
@@ -16,7 +16,7 @@ use sn_testing_tables::{Report, Tally};
 use std::alloc::Global;
 use std::ops::Range;
 
-/// How many events a schedule has behind the login.
+/// How many events a schedule has after the login.
 const EVENTS: u32 = 14;
 
 /// A record of so many bytes takes two sectors, a longer file several blocks.
@@ -58,7 +58,7 @@ const CALLS: &str = "0 mkdir /a 0755\n\
 /// How many these are.
 const CALL_COUNT: u32 = 29;
 
-/// What is asked of the live tree behind a crash: names, attributes, lists of entries, and bytes, each by a session of its own.
+/// What is asked of the live tree after a crash: names, attributes, lists of entries, and bytes, each by a session of its own.
 const OF_LIVE: &str = "0 login 0 0 -\n\
     0 readdir /\n\
     0 readdir /a\n\
@@ -131,7 +131,7 @@ const START: &str = "0 login 0 0 -\n\
     0 write 1 7a7a7a7a\n\
     0 link /a/g /a/h";
 
-/// The snapshot, and what changes behind it: the bytes that it has are in no live file.
+/// The snapshot, and what changes after it: the bytes that it has are in no live file.
 const BEHIND: &str = "0 setacl /a a u::rwx,u:1001:r-x,g::r-x,m::rwx,o::---\n\
     0 snap-create s\n\
     0 seek 1 0\n\
@@ -139,10 +139,10 @@ const BEHIND: &str = "0 setacl /a a u::rwx,u:1001:r-x,g::r-x,m::rwx,o::---\n\
     0 ftruncate 0 100\n\
     0 unlink /a/h";
 
-/// How the bytes are told that the snapshot of such a disk has, and that nothing else writes.
+/// How the bytes are reported that the snapshot of such a disk has, and that nothing else writes.
 const FROZEN: &str = "ok 7a7a7a7a";
 
-/// How many schedules the gate tries, and behind how many numbers of writes it cuts each short.
+/// How many schedules the gate tries, and after how many numbers of writes it cuts each short.
 const SCHEDULES: u32 = 100;
 
 const CUTS: u32 = 8;
@@ -150,10 +150,10 @@ const CUTS: u32 = 8;
 /// How many kinds of crashes there are.
 const CRASHES: u32 = 7;
 
-/// A mount behind a crash is cut short in its first so many writes.
+/// A mount after a crash is cut short in its first so many writes.
 const MOUNT_WRITES: u32 = 48;
 
-/// How an event is answered where nothing fails, what is found behind a crash then, and how many writes were made up to it.
+/// How an event is answered where nothing fails, what is found after a crash then, and how many writes were made up to it.
 #[derive(Drop)]
 struct Left {
     told: String,
@@ -171,7 +171,7 @@ struct Schedule {
     writes: u32,
 }
 
-/// A crash behind so many writes, which leaves what this number says of the sectors that weren't synced.
+/// A crash after so many writes, which leaves what this number says of the sectors that weren't synced.
 #[derive(Clone, Copy)]
 struct Crash {
     stop: u32,
@@ -239,7 +239,7 @@ fn add_event(alloc: Global, line: &str, events: &mut Vec<Event>) -> Result<()> {
     Ok(events.push(event)?)
 }
 
-/// Adds what is found on a disk behind a crash.
+/// Adds what is found on a disk after a crash.
 fn find(disk: &mut Disk, found: &mut String) -> Result<()> {
     disk.remount()?;
     for line in OF_LIVE.lines().chain(OF_SNAPSHOTS.lines()) {
@@ -324,7 +324,7 @@ fn is_answered(disk: &mut Disk, event: &Event, wanted: &str) -> Result<bool> {
     Ok(told.as_str() == wanted)
 }
 
-/// How many events are answered as in the whole schedule, on a disk that may fail in their course.
+/// How many events are answered as in the whole schedule, on a disk that may fail meanwhile.
 fn answered(disk: &mut Disk, schedule: &Schedule) -> Result<usize> {
     if disk.mount()?.is_some() {
         return Ok(0);
@@ -339,7 +339,7 @@ fn answered(disk: &mut Disk, schedule: &Schedule) -> Result<usize> {
     Ok(count)
 }
 
-/// Mounts that are cut short too, none, one, or two behind one another.
+/// Mounts that are cut short too, none, one, or two in a row.
 fn mounts_between(disk: &mut Disk, crash: Crash) -> Result<()> {
     let mut random = Pcg32::new(u64::from(crash.number), u64::from(crash.stop));
     for _ in 0..drawn(&mut random, 3) {
@@ -417,7 +417,7 @@ fn cut(
     Ok(())
 }
 
-/// How many fronts of a schedule tell bytes that only a snapshot has.
+/// How many fronts of a schedule show bytes that only a snapshot has.
 fn frozen_fronts(schedule: &Schedule) -> u32 {
     let mut count = 0_u32;
     for behind in schedule.behind.iter() {
@@ -446,10 +446,10 @@ fn restores(schedule: &Schedule) -> u32 {
     count
 }
 
-/// How often schedules come to what is rare.
+/// How often schedules reach what is rare.
 #[derive(Clone, Copy)]
 struct Seen {
-    /// Fronts that tell bytes which only a snapshot has.
+    /// Fronts that show bytes which only a snapshot has.
     frozen: u32,
     /// Snapshots that are brought back.
     restores: u32,
@@ -462,7 +462,7 @@ impl Seen {
     }
 }
 
-/// Cuts a schedule short behind some numbers of writes that are drawn.
+/// Cuts a schedule short after some numbers of writes that are drawn.
 fn cut_at_some(
     report: &Report<'_>,
     tally: &mut Tally,
@@ -490,7 +490,7 @@ fn cut_some(
     Ok(())
 }
 
-/// Cuts a schedule short behind each number of its writes, by a crash of each kind.
+/// Cuts a schedule short after each number of its writes, by a crash of each kind.
 fn cut_at_each(report: &Report<'_>, tally: &mut Tally, image: &[u8], number: u32) -> Result<()> {
     let schedule = schedule_of(report.alloc(), image, number)?;
     cut_all(report, tally, image, &schedule)
@@ -544,7 +544,7 @@ fn started_on(disk: &mut Disk) -> Result<Vec<u8>> {
     disk.bytes(0, usize::MAX)
 }
 
-/// Makes the files, the snapshot, and what changes behind it.
+/// Makes the files, the snapshot, and what changes after it.
 fn start(disk: &mut Disk) -> Result<()> {
     ask_all(disk, START)?;
     disk.write_all(0, b'x', LONG)?;
@@ -571,7 +571,7 @@ fn images_of(alloc: Global) -> Result<Images> {
     })
 }
 
-/// Compares what the schedules of the gate leave with what they may. A want of memory is an error.
+/// Compares what the schedules of the gate leave with what they may. A lack of memory is an error.
 pub fn run(report: &mut Report<'_>) -> Result<()> {
     let images = images_of(report.alloc())?;
     let mut seen = Seen {

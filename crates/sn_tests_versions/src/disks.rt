@@ -13,7 +13,7 @@ pub struct OldDisk {
     /// The file of its sectors, and that of its row, begin so.
     pub name: &'static str,
     sectors: usize,
-    /// How many blocks its root leaves free, as that program tells.
+    /// How many blocks its root leaves free, as that program says.
     pub before: u32,
     /// And how many the root that takes over what it has, which is counted by hand.
     pub after: u32,

@@ -28,7 +28,7 @@ const MOST: Extent = Extent {
 };
 
 /// Prints what isn't as it has to be, and how many cases there were. An error is a file that can't be read, a row that isn't
-/// answered as its file says, or a want of memory.
+/// answered as its file says, or a lack of memory.
 pub fn run(report: &mut Report<'_>) -> Result<()> {
     sweep_rows(report, &(0..DISKS.len()), Extent::SOME)?;
     taking::run(report)

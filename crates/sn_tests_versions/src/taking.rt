@@ -1,8 +1,8 @@
 //! Disks of version 1 that are taken over by runs without an event.
 //!
-//! What is wanted is that a check tells of what is there what the program of version 1 told of it; that after such a run the newest
-//! root is of version 2, and a check tells how many blocks that leaves free; and that after a run that stops after any number of
-//! writes, and a crash, it tells the one or the other.
+//! What is expected is that a check says of what is there what the program of version 1 said of it; that after such a run the newest
+//! root is of version 2, and a check says how many blocks that leaves free; and that after a run that stops after any number of writes,
+//! and a crash, it says the one or the other.
 
 use crate::disks::{DISKS, OldDisk};
 use anyhow::Result;

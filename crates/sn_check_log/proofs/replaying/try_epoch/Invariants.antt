@@ -7,7 +7,7 @@ use Rattle.sn_examine.specs.Replaying.{LeadsOn, ReplaysSo}
 use Rattle.sn_check_log.specs.Trying.{HasNoPointIf, IsTried, KeepsNoneIf, changes_if, tree_of}
 use Rattle.sn_check_log.proofs.replaying.try_epoch.Given as goal
 
--- the records so far were tried, and where no more stands, all
+-- the records so far were tried, and where there are no more, all
 abbrev pub invariant-loop-more : goal.invariant-loop-more
 invariant-loop-more g l = record {
   replayed : IsTrue g.D.Device.tells_bytes → ReplaysSo l.fn.it.root.now.limits l.more (reads (g.D.Device.disk (device_of l.fn.blocks))) (tree_of l.fn.live (tree_on l.fn.blocks l.fn.it.root.now.inode_file)) l.replay (tree_of l.live (tree_on l.fn.blocks l.fn.it.root.now.inode_file)) l.charges;

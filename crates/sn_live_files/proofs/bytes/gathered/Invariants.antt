@@ -3,7 +3,7 @@ use Rattle.std.specs.FinMap as map
 use Rattle.sn_overlay.specs.Layers.{bytes_of}
 use Rattle.sn_live_files.proofs.bytes.gathered.Given as goal
 
--- so many bytes are read
+-- this many bytes are read
 abbrev pub invariant-loop-bytes : goal.invariant-loop-bytes
 invariant-loop-bytes g l = record {
   kept : g.B.Below.holds l.tree;

@@ -141,7 +141,7 @@ module _ (g : Over) (c : After-clear g) (told : IsTrue g.D.Device.tells_bytes) w
   clears : Clears (base_of blocks base.root.epoch) 0 c.clear.result (g.D.Device.disk (device_of c.make_root.new.blocks)) cleared
   clears = subst (λ (b : ℕ). Clears b 0 c.clear.result (g.D.Device.disk (device_of c.make_root.new.blocks)) cleared) half_is (c.clear.ensures.disk told)
 
--- ---- behind it
+-- ---- after it
 
 module _ (g : Over) (c : After-new-in-Ok-clear g) where
   abbrev rooted_tree : Tree

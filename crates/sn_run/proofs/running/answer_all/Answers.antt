@@ -21,7 +21,7 @@ loop-event-init g c =
       room = c.requires.room;
     }
 
--- the reply to the event, and what the server is behind it
+-- the reply to the event, and what the server is after it
 went : (g : Over) (c : After-answered g) → IsTrue g.D.Device.tells_bytes → Answers c.event-item.result c.match-event.reply (standing c.loop-event.server) (is_stopped c.loop-event.server) (standing c.match-event.server) (is_stopped c.match-event.server)
 went g c told = elim c.match-event.branch [
   | in-Call w ↦ rw (w.reply-is, w.server-is, w.in-Call.is) (w.call-reply.ensures.answered told)

@@ -202,7 +202,7 @@ returns-in-Ok-log_change-clause-sound g c =
           };
     })
 
--- ---- a call that comes to no change
+-- ---- a call that makes no change
 
 pub returns-in-None-clause-served : goal.returns-in-None-clause-served
 returns-in-None-clause-served g c told =

@@ -5,7 +5,7 @@ use Rattle.sn_plain_world.specs.Plain.{world_of}
 use Rattle.sn_plain_world.proofs.StepLemmas.{applied_tree, made_so}
 use Rattle.sn_plain_world.proofs.world.PlainWorld.apply.Goals as goal
 
--- a name tree has a change made of it
+-- a change is applied to a name tree
 pub apply-requires : goal.apply-requires
 apply-requires c = (limits_written, c.requires)
 
