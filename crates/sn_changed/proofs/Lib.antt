@@ -2,3 +2,4 @@ pub mod ChangedLemmas
 pub mod HoldsLemmas
 pub mod DecidedLemmas
 pub mod DroppedLemmas
+mod NeedLemmas

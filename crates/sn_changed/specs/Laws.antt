@@ -1,6 +1,7 @@
 -- How what changed since a root grows, event by event.
-use Rattle.std.specs.Prelude.{◌≡◌, ◌≢◌, ℕ, ◌+◌, ◌*◌, ◌≤◌, Bool, true, List, AllPairs, Some}
+use Rattle.std.specs.Prelude.{◌≡◌, ◌≢◌, ℕ, ◌+◌, ◌*◌, ◌≤◌, ◌==◌, Bool, true, List, AllPairs, Some, length, if◌then◌else◌}
 use Rattle.std.specs.FinMap as map
+use Rattle.sn_limits.specs.Versions.{limits_written}
 use Rattle.sn_limits.specs.declared.limits.Limits.{Limits}
 use Rattle.sn_model.specs.declared.change.Change.{Change}
 use Rattle.sn_model.specs.Changes.{apply, take_node}
@@ -52,3 +53,7 @@ WithoutEachIs = (live : Tree) (held : ℕ → Bool) (files : List DroppedFile) �
 abbrev pub CallersDrop : Type 0
 CallersDrop = (limits : Limits) (layer new : Layer) (root : Tree) (charged : ℕ) (world : World) (session : ℕ) (caller : Caller) (files : List DroppedFile) → AreCharged limits → IsHierarchy world.live → HasChanged limits layer root world.live charged
     → TellsGone world.live (dropped (with_caller world session caller)).live files → LeadsOn layer files new → HasChanged limits new root (dropped (with_caller world session caller)).live charged
+
+-- Where files without names were dropped and nothing else changed, as where a snapshot is brought back, a point needs no more blocks than these.
+abbrev pub DropsNeed : Type 0
+DropsNeed = (files : List DroppedFile) → need limits_written (with_drops no_changes files) ≤ (if length files == 0 then 0 else 6 * length files + 2)

@@ -1,6 +1,6 @@
 //! The laws that the definitions of `specs/` keep.
 ghost use Rattle.sn_changed.specs.Decided.{DecidedGiveNoFirstName, KeptOpenStay, LoggedKeepNameless, LoggedKeepOpen, LoggedStayNameless};
-ghost use Rattle.sn_changed.specs.Laws.{BuildsFit, CallersDrop, ChangesMerge, DropsMerge, EachMerges, NothingChanged, WithoutEachIs};
+ghost use Rattle.sn_changed.specs.Laws.{BuildsFit, CallersDrop, ChangesMerge, DropsMerge, DropsNeed, EachMerges, NothingChanged, WithoutEachIs};
 
 use sn_overlay::changes_are_paid;
 
@@ -35,8 +35,12 @@ pub fn decided_laws()
 {}
 
 /// How files that go lead on, each once: to the tree that is left of the live one.
+///
+/// Proved: Where k files without names were dropped and nothing else changed, as where a snapshot is brought back, a point
+/// needs at most 6k + 2 blocks, and none where none was dropped.
 pub fn dropped_laws()
     ensures merged { EachMerges }
     ensures left { WithoutEachIs }
     ensures caller { CallersDrop }
+    ensures need { DropsNeed }
 {}
