@@ -1,4 +1,4 @@
--- What a point needs where files without names went from a tree, and nothing else changed.
+-- What a point needs where files without names were dropped, and nothing else changed.
 use Rattle.std.proofs.Common.{◌≡◌, ℕ, ◌+◌, ◌*◌, ◌≤◌, Bool, true, false, cond, eqb, not, List, [], ◌∷◌, Option, Some, length, map, arith}
 use Rattle.std.specs.Cmp.{nat_cmp_total}
 use Rattle.std.specs.FinMap as fin
@@ -22,14 +22,14 @@ use Rattle.sn_overlay.proofs.OverlaidLemmas.{exact_file_blocks, file_blocks_tota
 use Rattle.sn_changed.specs.declared.dropped.DroppedFile.{DroppedFile}
 use Rattle.sn_changed.specs.Dropped.{with_drops}
 
--- ---- one file that goes adds a node, and neither name nor block
+-- ---- a file that is dropped adds a node, and neither name nor block
+
+abbrev none : fin.FinMap nat_cmp NodeChange
+none = fin.empty
 
 len_gone : (number : ℕ) (by_close : Bool) → fin.len (gone number by_close).nodes ≤ 1
 len_gone number by_close = told (fin.contains_key none number) (fin.len-insert nat_cmp_total none number (Gone by_close))
   where
-    abbrev none : fin.FinMap nat_cmp NodeChange
-    none = fin.empty
-
     told : (b : Bool) → fin.len (fin.insert none number (Gone by_close)) ≡ cond b (fin.len none) (fin.len none + 1) → fin.len (fin.insert none number (Gone by_close)) ≤ 1
     told true e = omega (arith, e, fin.len-empty nat_cmp NodeChange)
     told false e = omega (arith, e, fin.len-empty nat_cmp NodeChange)
@@ -41,20 +41,20 @@ module _ (older : Layer) (number : ℕ) (by_close : Bool) where
   more_nodes : fin.len (merge older newer).nodes ≤ fin.len older.nodes + 1
   unfolding merge
   more_nodes =
-      let laid = λ (e : ℕ × NodeChange). (e.0, Some (change_over (fin.get older.nodes e.0) e.1)) in
+      let laid : ℕ × NodeChange → ℕ × Option NodeChange = λ e. (e.0, Some (change_over (fin.get older.nodes e.0) e.1)) in
       omega (arith, len-overlaid nat_cmp_total (map laid (fin.entries newer.nodes)) older.nodes, length-map {B = ℕ × Option NodeChange} (fin.entries newer.nodes) laid, fin.len-entries newer.nodes, len_gone number by_close)
 
   no_names : fin.len (merge older newer).names ≤ fin.len older.names
   unfolding merge
   no_names =
-      let laid = λ (e : Link × Option ℕ). (e.0, Some e.1) in
+      let laid : Link × Option ℕ → Link × Option (Option ℕ) = λ e. (e.0, Some e.1) in
       let kept = λ (link : Link). not (hides_names (fin.get newer.nodes link.directory)) in
       omega (arith, len-overlaid links_total (map laid (fin.entries newer.names)) (fin.retain_keys older.names kept), length-map {B = Link × Option (Option ℕ)} (fin.entries newer.names) laid, fin.len-entries newer.names, fin.len-empty link_cmp (Option ℕ), len-kept links_total exact_links older.names kept)
 
   no_blocks : fin.len (merge older newer).blocks ≤ fin.len older.blocks
   unfolding merge
   no_blocks =
-      let laid = λ (e : FileBlock × List ℕ). (e.0, Some e.1) in
+      let laid : FileBlock × List ℕ → FileBlock × Option (List ℕ) = λ e. (e.0, Some e.1) in
       let kept = λ (file_block : FileBlock). not (hides_block (fin.get newer.nodes file_block.file) file_block.index) in
       omega (arith, len-overlaid file_blocks_total (map laid (fin.entries newer.blocks)) (fin.retain_keys older.blocks kept), length-map {B = FileBlock × Option (List ℕ)} (fin.entries newer.blocks) laid, fin.len-entries newer.blocks, fin.len-empty file_block_cmp (List ℕ), len-kept file_blocks_total exact_file_blocks older.blocks kept)
 

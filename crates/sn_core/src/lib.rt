@@ -10,9 +10,18 @@
 //! mounted, used and unmounted:
 //!
 //! ```text
-//! let login = Call::Login { uid: 0, gid: 0, groups: Groups::new(alloc, &[])? };
-//! let mkdir = Call::Mkdir { path: Word::new(alloc, b"/d")?, mode: 0o755 };
-//! let stat = Call::Stat { path: Word::new(alloc, b"/d")? };
+//! let login = Call::Login {
+//!     uid: 0,
+//!     gid: 0,
+//!     groups: Groups::new(alloc, &[])?,
+//! };
+//! let mkdir = Call::Mkdir {
+//!     path: Word::new(alloc, b"/d")?,
+//!     mode: 0o755,
+//! };
+//! let stat = Call::Stat {
+//!     path: Word::new(alloc, b"/d")?,
+//! };
 //! let device = MemDevice::new(alloc, 8 * 256)?;
 //! let Ok(device) = mkfs(alloc, device, 256) else {
 //!     bail!("not formatted");

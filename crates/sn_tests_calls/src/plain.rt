@@ -1,8 +1,8 @@
 //! The file system over maps in memory.
 
 use anyhow::{Result, ensure};
-use sn_plain_world::run_plain;
 use sn_model::{End, Errno, Event, Refusal, Reply};
+use sn_plain_world::run_plain;
 use sn_replies::print_replies;
 use sn_script::read_script;
 use sn_testing_tables::{Report, Tally};

@@ -14,9 +14,18 @@ pub fn run(report: &mut Report<'_>) -> Result<()> {
 }
 
 fn first_use(alloc: Global) -> Result<[Reply; 4]> {
-    let login = Call::Login { uid: 0, gid: 0, groups: Groups::new(alloc, &[])? };
-    let mkdir = Call::Mkdir { path: Word::new(alloc, b"/d")?, mode: 0o755 };
-    let stat = Call::Stat { path: Word::new(alloc, b"/d")? };
+    let login = Call::Login {
+        uid: 0,
+        gid: 0,
+        groups: Groups::new(alloc, &[])?,
+    };
+    let mkdir = Call::Mkdir {
+        path: Word::new(alloc, b"/d")?,
+        mode: 0o755,
+    };
+    let stat = Call::Stat {
+        path: Word::new(alloc, b"/d")?,
+    };
     let device = MemDevice::new(alloc, 8 * 256)?;
     let Ok(device) = mkfs(alloc, device, 256) else {
         bail!("not formatted");

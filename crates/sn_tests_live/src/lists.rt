@@ -1,9 +1,9 @@
 //! Lists of events, what the tree in memory answers to them, and how a disk does.
 
 use anyhow::{Result, ensure};
-use sn_plain_world::run_plain;
 use sn_device::Fill;
 use sn_model::{End, Event, Reply};
+use sn_plain_world::run_plain;
 use sn_replies::print_replies;
 use sn_script::read_script;
 use sn_testing_mounts::Disk;
