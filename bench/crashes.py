@@ -14,8 +14,9 @@ change may be refused with `ENOSPC`. Then, drawn from the seed too:
   is left is the world behind the calls that were answered, or behind one call more. The mount of that is cut short in the
   same way, and what that leaves again, and once more: the world stays the one that was found first.
 - 40 times a run on a file meets one refusal: the Nth read, write, sync or allocation of all that it makes. A refused
-  call changes nothing, and is told as `ENOMEM` or `EIO`; behind a write or a sync that failed, the mount has stopped, and the
-  next `restart` finds the world before that call or behind it, as the next run does.
+  allocation is told as `ENOMEM`, another refusal as `EIO`. Behind an allocation or a read that failed, the mount goes on, and nothing
+  has changed; behind a write or a sync it has stopped, and the next `restart` finds the world before that call or behind
+  it, as the next run does.
 
 All that is left has to be clean by `check` and by the plain reading of `plain_check.py`, with as many free blocks, before it
 is mounted and behind that. Prints how many of each there were, and each that is wrong; the status is 1 where one is.
@@ -102,10 +103,10 @@ class Wrong(Exception):
 
 
 class Followed:
-    """The worlds that a run may have come to by the replies so far."""
+    """The worlds that a run may have come to by the replies so far, in which a call of this kind is refused."""
 
-    def __init__(self):
-        self.worlds, self.has_stopped = [World()], False
+    def __init__(self, kind):
+        self.worlds, self.has_stopped, self.kind = [World()], False, kind
 
     def follow(self, line, reply, next_line, next_reply):
         """Takes one line with its reply, and the line and the reply that follow."""
@@ -115,13 +116,21 @@ class Followed:
             pass
         elif reply.startswith("fault "):
             self.stop(line == "restart", line)
-        elif reply == "err EIO" and next_reply in (None, STOPPED):
-            self.stop(True, line)
-        elif reply == "err EIO" and (next_line == "restart" or next_reply.startswith("fault ")):
-            # A restart that mounts the disk hides whether the mount had stopped.
-            self.stop(True, line)
-        elif reply != "err EIO":
+        elif reply == "err EIO":
+            self.fail(line, next_line, next_reply)
+        else:
             self.answer(line, reply)
+
+    def fail(self, line, next_line, next_reply):
+        """A call of the device failed in this line. A read leaves all as it was."""
+        if self.kind == "memory" or (self.kind == "read" and next_reply == STOPPED):
+            raise Wrong(f"{line[:80]}: a refused {self.kind}, and then {next_reply}")
+        if self.kind == "read":
+            return
+        # A restart that mounts the disk hides that the mount had stopped.
+        if next_reply not in (None, STOPPED) and next_line != "restart":
+            raise Wrong(f"{line[:80]}: the mount goes on")
+        self.stop(True, line)
 
     def answer(self, line, reply):
         # Which step ends a point follows from the blocks that changed, of which the tree knows nothing.
@@ -149,9 +158,9 @@ class Followed:
             raise Wrong(f"{line[:80]}: {reply[:80]} in a stopped mount")
 
 
-def worlds_behind(lines, replies):
-    """The worlds, one or two, that a crash behind these replies may leave."""
-    followed = Followed()
+def worlds_behind(lines, replies, kind="write"):
+    """The worlds, one or two, that a crash behind these replies may leave, where a call of this kind is refused."""
+    followed = Followed(kind)
     for at, (line, reply) in enumerate(zip(lines, replies)):
         following = (lines[at + 1], replies[at + 1]) if at + 1 < len(replies) else (None, None)
         followed.follow(line, reply, *following)
@@ -322,7 +331,7 @@ class Case:
             if ran.returncode not in (0, 1) or (ran.returncode == 0) != (said == ""):
                 raise Wrong(f"status {ran.returncode}: {said}")
             is_whole = len(told) == len(self.lines) or said in ("snapfs: M5", "snapfs: M6")
-            worlds = worlds_behind(self.lines, told)
+            worlds = worlds_behind(self.lines, told, kind)
             if is_whole:
                 self.found("image", worlds)
             elif said in ("snapfs: memory", "snapfs: file"):

@@ -1,7 +1,7 @@
 #!/usr/bin/env python3
 """Tries the wrong bodies of bench/wrong_bodies/CRATE, which the gate leaves out; run by hand before a release.
 
-    bench/wrong_bodies.py [--jobs N] [--gate] [--each] [CRATE..]
+    bench/wrong_bodies.py [--jobs N] [--gate] [--apart WORKERS] [CRATE..]
 
 Each file there is an edit as those in crates/CRATE/must-fail: a line `file:`, then pairs of lines `old:` and `new:`.
 Edits of different functions are made in one copy of the repository, which is checked once; an edit fails where the
@@ -13,9 +13,12 @@ stands and with each edit. An edit that fails then too is refused by the contrac
 function as it stands, or by one for which that needs its answer. One that doesn't is refused by its answers alone, which
 counts as let through.
 
-A line is printed for each edit that isn't refused, with `--each` for all others too, and one for each crate; the status is
-1 where an edit was let through or doesn't fit its file. With `--gate` the edits in crates/*/must-fail are tried in their
-place.
+With `--apart` each edit is tried by itself, as it stands and without the answers of the functions that it changes, by so many
+workers, each with a copy of its own. That is for many edits of few functions, which would each wait for a check of their own.
+
+A line is printed for each edit as soon as it is known by what it is refused, or that it isn't, and one for each crate; the
+status is 1 where an edit was let through or doesn't fit its file. With `--gate` the edits in crates/*/must-fail are tried in
+their place.
 
 Tried are the crates that are named, or all: those that a change touched before it lands, and all of them where a
 contract of sn_model, sn_device or sn_walk changed. It needs the command rt on the path, and takes less time where
@@ -30,8 +33,10 @@ import subprocess
 import sys
 import tempfile
 import time
-from concurrent.futures import ThreadPoolExecutor
+from collections import Counter
+from concurrent.futures import Future, ThreadPoolExecutor, as_completed
 from pathlib import Path
+from queue import SimpleQueue
 
 TOP = Path(__file__).resolve().parent.parent
 EDITS = TOP / "bench" / "wrong_bodies"
@@ -287,18 +292,19 @@ def judged(copy, edit, before, said, output):
     return BY_ANSWERS if "logic=proved" in output else None
 
 
-def judged_alone(copy, edit):
+def judged_alone(copy, edit, before=None):
     """The same, with no other edit and no other answers taken away."""
     without = copy.answers(edit)
-    before = open_goals(copy.check([], without)[1])
+    if before is None:
+        before = open_goals(copy.check([], without)[1])
     said, output = copy.check([edit], without)
     return judged(copy, edit, before, said, output) or (BY_AN_ANSWER if any(said.values()) else "not judged without its answers")
 
 
-def told_apart(copy, edits):
-    """By what each of these edits is refused."""
-    verdicts = {edit.name: BY_A_CONTRACT for edit in edits}
-    answered = [edit for edit in edits if edit.file.startswith("src/") and copy.answers(edit)]
+def judged_by_answers(copy, edits):
+    """Each of these edits, which are refused, and by what."""
+    answered = [edit for edit in edits if copy.answers(edit)]
+    yield from ((edit, BY_A_CONTRACT) for edit in edits if edit not in answered)
     without = set().union(*map(copy.answers, answered))
     before = open_goals(copy.check([], without)[1]) if answered else {}
     for batch in batches(copy.crate, answered):
@@ -306,8 +312,60 @@ def told_apart(copy, edits):
         for edit in batch:
             known = goals_of(edit, edit.functions(copy.source(edit)), before)
             verdict = judged(copy, edit, before, said, output) if known else None
-            verdicts[edit.name] = verdict or judged_alone(copy, edit)
-    return verdicts
+            yield edit, verdict or judged_alone(copy, edit)
+
+
+def judged_together(crate, edits):
+    """Each edit and by what it is refused, or why it isn't; many are tried in one check."""
+    with tempfile.TemporaryDirectory() as folder:
+        copy = Copy(crate, folder)
+        alone = [edit for edit in edits if not edit.file.startswith("src/")]
+        alone += try_in_rounds(copy, [edit for edit in edits if edit not in alone])
+        refused = [edit for edit in edits if edit not in alone]
+        for edit in alone:
+            reason = try_alone(copy, edit)
+            if reason:
+                yield edit, reason
+            else:
+                refused.append(edit)
+        yield from judged_by_answers(copy, refused)
+
+
+class Workers:
+    """So many copies of a crate, each of which one worker at a time has."""
+
+    def __init__(self, crate, folder, count):
+        self.copies, self.pool = SimpleQueue(), ThreadPoolExecutor(count)
+        for worker in range(count):
+            place = Path(folder) / str(worker)
+            place.mkdir()
+            self.copies.put(Copy(crate, place))
+
+    def start(self, work, *given):
+        """Begins work that is given a copy."""
+        return self.pool.submit(self.with_copy, work, *given)
+
+    def with_copy(self, work, *given):
+        copy = self.copies.get()
+        try:
+            return work(copy, *given)
+        finally:
+            self.copies.put(copy)
+
+
+def judged_apart(crate, edits, count):
+    """The same with each edit tried by itself, so many at a time."""
+    with tempfile.TemporaryDirectory() as folder:
+        workers = Workers(crate, folder, count)
+        answers = {edit.name: frozenset(workers.with_copy(Copy.answers, edit)) for edit in edits}
+        begun = {without: workers.start(Copy.check, [], without) for without in {*answers.values()} if without}
+        before = {without: open_goals(ran.result()[1]) for without, ran in begun.items()}
+
+        def judge(copy, edit):
+            known = before.get(answers[edit.name])
+            return edit, try_alone(copy, edit) or (BY_A_CONTRACT if known is None else judged_alone(copy, edit, known))
+
+        yield from map(Future.result, as_completed([workers.start(judge, edit) for edit in edits]))
 
 
 def try_crate(crate, words):
@@ -315,19 +373,14 @@ def try_crate(crate, words):
     begun = time.time()
     place = TOP / "crates" / crate / "must-fail" if words.gate else EDITS / crate
     edits, lines = fitting(crate, place)
-    with tempfile.TemporaryDirectory() as folder:
-        copy = Copy(crate, folder)
-        alone = [edit for edit in edits if not edit.file.startswith("src/")]
-        alone += try_in_rounds(copy, [edit for edit in edits if edit not in alone])
-        through = {edit.name: reason for edit in alone if (reason := try_alone(copy, edit))}
-        verdicts = told_apart(copy, [edit for edit in edits if edit.name not in through])
-    through |= {name: told for name, told in verdicts.items() if not told.startswith("refused")}
-    lines += [f"{crate}/{name}: {told}" for name, told in sorted({**verdicts, **through}.items()) if words.each or name in through]
-    refused = len(verdicts.keys() - through.keys())
-    bad = len(list(place.glob("*.edit"))) - refused
-    needed = list(verdicts.values()).count(BY_AN_ANSWER)
-    took = f"{needed} at goals that need an answer, {len(alone)} by themselves, {time.time() - begun:.0f} s"
-    print("\n".join([*lines, f"{crate}: {refused} refused, {bad} not ({took})"]), flush=True)
+    print("".join(f"{line}\n" for line in lines), end="", flush=True)
+    verdicts = Counter()
+    for edit, verdict in judged_apart(crate, edits, words.apart) if words.apart else judged_together(crate, edits):
+        print(f"{crate}/{edit.name}: {verdict}", flush=True)
+        verdicts[verdict] += 1
+    refused = sum(count for verdict, count in verdicts.items() if verdict.startswith("refused"))
+    bad = len(edits) + len(lines) - refused
+    print(f"{crate}: {refused} refused, {bad} not ({verdicts[BY_AN_ANSWER]} at goals that need an answer, {time.time() - begun:.0f} s)", flush=True)
     return bad
 
 
@@ -335,7 +388,7 @@ def main():
     asked = argparse.ArgumentParser(description="Tries wrong bodies, which the prover has to refuse.")
     asked.add_argument("--jobs", type=int, default=1, help="how many crates at a time, of some 2 GB each")
     asked.add_argument("--gate", action="store_true", help="those that the gate tries")
-    asked.add_argument("--each", action="store_true", help="tells of each by what it is refused")
+    asked.add_argument("--apart", type=int, metavar="WORKERS", help="tries each by itself, so many at a time of some 2 GB each")
     asked.add_argument("crates", nargs="*", help="which crates; all, where none is named")
     words = asked.parse_args()
     with_edits = (TOP / "crates").glob("*/must-fail") if words.gate else EDITS.glob("*/*.edit")

@@ -1,6 +1,6 @@
--- A test that fails is why what follows it fails; how many snapshots are listed; and whether a file of a tree is open, as sessions show it.
+-- What follows from tests that pass; how many snapshots are listed; and whether a file of a tree is open, as sessions show it.
 use Rattle.std.proofs.Common.{◌≡◌, ◌↔◌, ℕ, Bool, true, false, if◌then◌else◌, IsTrue, List, Option, Some, None, Result, Ok, Err, length, refl, sym, ap, ◌∙◌}
-use Rattle.std.specs.Prelude.{IsSomeAnd}
+use Rattle.std.specs.Prelude.{IsOk, IsSomeAnd}
 use Rattle.std.specs.FinMap as map
 use Rattle.std.specs.List.{list_any}
 use Rattle.std.specs.Cmp.Lexicographic.{same_text}
@@ -8,14 +8,13 @@ use Rattle.std.specs.declared.cmp.Ordering.{Ordering}
 use Rattle.std.proofs.lemmas.Bool.{ltb-true}
 use Rattle.std.proofs.lemmas.Map.Entries.{length-keys_of}
 use Rattle.sn_limits.specs.Versions.{limits_written}
-use Rattle.sn_walk.specs.declared.fault.Failure.{Failure}
-use Rattle.sn_walk.specs.declared.fault.Failure.TheVariants as failure
 use Rattle.sn_walk.specs.declared.object.Home.{Home}
 use Rattle.sn_walk.specs.declared.object.Home.TheVariants.{Live, Frozen}
-use Rattle.sn_walk.specs.declared.object.Object.TheVariants.{Snapshots}
+use Rattle.sn_walk.specs.declared.object.Object.TheVariants as object
 use Rattle.sn_walk.specs.Chains.{◌>>=◌}
-use Rattle.sn_walk.specs.Gives.{Fails}
 use Rattle.sn_walk.specs.Objects.{is_same}
+use Rattle.sn_model.specs.declared.call.Call.{Call}
+use Rattle.sn_model.specs.declared.call.Call.TheVariants as call
 use Rattle.sn_model.specs.declared.reply.Errno.TheVariants.{Ebusy}
 use Rattle.sn_model.specs.declared.reply.Refusal.{Refusal}
 use Rattle.sn_model.specs.Descriptors.{Descriptors}
@@ -28,17 +27,27 @@ use Rattle.sn_model.proofs.HeldLemmas.{any_counts, descriptors_total, exact_desc
 use Rattle.sn_model.proofs.PointedLemmas.{open_at}
 use Rattle.sn_model.proofs.RestoreLemmas.{open_live}
 use Rattle.sn_desc.specs.InUse.{HasOpen}
+use Rattle.sn_core_files.specs.Decided.{IsRefusedAtOnce}
+use Rattle.sn_core_calls.specs.declared.groups.Group.TheVariants.{Snapshots}
+use Rattle.sn_core_calls.specs.Groups.{group_of}
 
-pub fails_on : {X Y R F : Type 0} (e : Failure R F) (test : Result X R) (more : X → Result Y R) → Fails e test → Fails e (test >>= more)
-fails_on (failure.Refused r) test more h = ap (λ t. t >>= more) h
-fails_on (failure.Fault f) test more h = tt
+-- where all tests pass, the first does
+pub passed_first : {X Y R : Type 0} (test : Result X R) (more : X → Result Y R) (y : Y) → (test >>= more) ≡ Ok y → IsOk test
+passed_first (Ok x) more y e = refl {a = true}
+passed_first (Err r) more y e = cc
+
+-- the calls that are refused at once are those of snapshots
+pub at_once_group : (c : Call) → IsRefusedAtOnce c → group_of c ≡ Snapshots
+at_once_group (call.SnapDelete name) asked = refl
+at_once_group (call.SnapRestore name) asked = refl
+at_once_group c asked = absurd asked
 
 -- a map has as many keys as entries
 keys_count : {K X : Type 0} {R : K → K → Ordering} (m : map.FinMap R X) → length (map.keys m) ≡ map.len m
 keys_count m = length-keys_of (map.entries m) ∙ sym (map.len-entries m)
 
-pub listed_count : (world : World) (names : SeenNames) (listed told : List (List ℕ)) → told ≡ listed → listed ≡ names.listed Snapshots → names ≡ seen_names limits_written (trees_of world) → length told ≡ map.len world.frozen
-listed_count world names listed told same is seen = ap length (same ∙ is ∙ ap (λ (s : SeenNames). s.listed Snapshots) seen) ∙ keys_count world.frozen
+pub listed_count : (world : World) (names : SeenNames) (listed told : List (List ℕ)) → told ≡ listed → listed ≡ names.listed object.Snapshots → names ≡ seen_names limits_written (trees_of world) → length told ≡ map.len world.frozen
+listed_count world names listed told same is seen = ap length (same ∙ is ∙ ap (λ (s : SeenNames). s.listed object.Snapshots) seen) ∙ keys_count world.frozen
 
 -- ---- an open file of a tree
 

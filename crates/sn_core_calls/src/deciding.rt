@@ -10,7 +10,7 @@ ghost use Rattle.sn_model.specs.Worlds.{IsCall};
 ghost use Rattle.sn_walk.specs.Gives.{Answers};
 ghost use Rattle.sn_desc.specs.InUse.{in_world};
 ghost use Rattle.sn_desc.specs.Sessions.{in_use_of};
-ghost use Rattle.sn_core_files.specs.Decided.{Decides, DecidesShown};
+ghost use Rattle.sn_core_files.specs.Decided.{Decides, DecidesShown, HidesNoRefusal, HidesNoRefusalShown};
 ghost use Rattle.sn_core_files.specs.Faults.{IfView};
 ghost use Rattle.sn_core_files.specs.Shown.{Shows};
 ghost use Rattle.sn_core_calls.specs.Groups.{group_of};
@@ -60,6 +60,7 @@ fn login(uid: u32, gid: u32, groups: &Groups) -> Outcome<'static>
 /// The outcome of a call that asks nothing of the view.
 fn unviewed<'a, F>(answer: Result<Outcome<'a>, Refusal>) -> Result<Outcome<'a>, CallError<F>>
     ensures decided { (world : World) → (session : ℕ) → (call : TheCall) → Answers (λ o. o) answer.entry (decision limits_written world session call) → Decides world session call result }
+    ensures refused { (world : World) → (session : ℕ) → (call : TheCall) → Answers (λ o. o) answer.entry (decision limits_written world session call) → HidesNoRefusal world session call result }
     ensures cause { IfView result (λ f. ⊥) }
     ensures numbers { (call : TheCall) → IfOk answer.entry (λ o. IsCall call) → IfOk result (λ o. IsCall call) }
 {
@@ -201,12 +202,13 @@ fn decide_of_snapshot<'a, V: FileView>(
     ensures follows { V.follows view.old view.new }
     ensures same { IsTrue V.is_told → V.shows view.new ≡ V.shows view.old }
     ensures decided { IsTrue V.is_told → DecidesShown (in_use_of sessions.now) (V.shows view.old) (V.room view.old) (V.names view.old) (V.bytes view.old) session call.now result }
+    ensures refused { IsTrue V.is_told → HidesNoRefusalShown (in_use_of sessions.now) (V.shows view.old) session call.now result }
     ensures cause { IfView result (λ f. V.causes view.old view.new f) }
     ensures numbers { IfOk result (λ o. IsCall call.now) }
 {
     match call {
         Call::SnapCreate { name } => decide_snap_create(alloc, view, sessions, session, name),
-        Call::SnapDelete { name } => decide_snap_delete(view, sessions, session, name),
+        Call::SnapDelete { name } => unviewed(decide_snap_delete(view, sessions, session, name)),
         Call::SnapRestore { name } => decide_snap_restore(view, sessions, session, name),
         Call::SnapList => decide_snap_list(alloc, view, sessions, session),
         _ => unreachable!(),
@@ -226,6 +228,7 @@ fn decide_shown<'a, V: FileView>(
     ensures follows { V.follows view.old view.new }
     ensures same { IsTrue V.is_told → V.shows view.new ≡ V.shows view.old }
     ensures decided { IsTrue V.is_told → DecidesShown (in_use_of sessions.now) (V.shows view.old) (V.room view.old) (V.names view.old) (V.bytes view.old) session call.now result }
+    ensures refused { IsTrue V.is_told → HidesNoRefusalShown (in_use_of sessions.now) (V.shows view.old) session call.now result }
     ensures cause { IfView result (λ f. V.causes view.old view.new f) }
     ensures numbers { IfOk result (λ o. IsCall call.now) }
 {
@@ -244,6 +247,8 @@ fn decide_shown<'a, V: FileView>(
 /// Proved: The outcome of a call, or its first refusal, is exactly the model's in each world that the sessions and a view
 /// show, whatever that view reads; where memory for the answer or the view fails, session and arguments had passed, and a
 /// fault is one that the view found.
+/// Proved, also of `decide_live` and `decide_unread`: A `snap-delete` or `snap-restore` that the model refuses is refused so,
+/// whatever memory and the view do: no fault hides a refusal.
 pub fn decide<'a, V: FileView>(
     alloc: Global,
     view: &mut V,
@@ -256,6 +261,7 @@ pub fn decide<'a, V: FileView>(
     ensures follows { V.follows view.old view.new }
     ensures same { IsTrue V.is_told → V.shows view.new ≡ V.shows view.old }
     ensures decided { IsTrue V.is_told → (world : World) → Shows world (in_use_of sessions.now) (V.shows view.old) (V.room view.old) (V.names view.old) (V.bytes view.old) → Decides world session call.now result }
+    ensures refused { IsTrue V.is_told → (world : World) → Shows world (in_use_of sessions.now) (V.shows view.old) (V.room view.old) (V.names view.old) (V.bytes view.old) → HidesNoRefusal world session call.now result }
     ensures cause { IfView result (λ f. V.causes view.old view.new f) }
     ensures numbers { IfOk result (λ o. IsCall call.now) }
 {

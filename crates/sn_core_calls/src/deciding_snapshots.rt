@@ -1,16 +1,17 @@
 //! The outcomes of the calls that ask for a whole consistency point, and of that which lists the snapshots.
 ghost use Rattle.std.specs.Prelude.{◌≡◌, IsTrue};
 ghost use Rattle.sn_limits.specs.Versions.{limits_written};
-ghost use Rattle.sn_walk.specs.Gives.{Answers, Gives, IfFault};
+ghost use Rattle.sn_walk.specs.Gives.{Answers};
 ghost use Rattle.sn_model.specs.declared.call.Call.TheVariants as call;
 ghost use Rattle.sn_model.specs.Outcomes.{points};
 ghost use Rattle.sn_model.specs.SnapshotCalls as calls;
 ghost use Rattle.sn_model.specs.Steps.{decision};
-ghost use Rattle.sn_model.specs.World.{World};
+ghost use Rattle.sn_model.specs.World.{World, trees_of, viewed_trees};
 ghost use Rattle.sn_desc.specs.InUse.{in_world};
 ghost use Rattle.sn_desc.specs.Sessions.{in_use_of};
-ghost use Rattle.sn_core_files.specs.Decided.{DecidesShown};
+ghost use Rattle.sn_core_files.specs.Decided.{DecidesShown, HidesNoRefusalShown};
 ghost use Rattle.sn_core_files.specs.Faults.{IfView};
+ghost use Rattle.sn_core_calls.specs.Restoring.{restores_in};
 
 use sn_acl::Cred;
 use sn_core_decide::{asks, forbidden, restore_charge};
@@ -20,7 +21,7 @@ use sn_limits::{Limits, SnapshotName};
 use sn_model::{
     AskedPoint, Caller, Errno, Outcome, PathNumber, Pending, Refusal, Reply, Rule, Word,
 };
-use sn_walk::{Failure, Home, Object};
+use sn_walk::{Home, Object};
 use std::alloc::Global;
 
 /// The outcome of a call that asks for a whole consistency point, and changes nothing else.
@@ -57,35 +58,23 @@ fn user_0(cred: &Cred) -> Result<(), Refusal>
 }
 
 /// Whether no snapshot has the name.
-fn vacant<V: FileView>(view: &mut V, name: &SnapshotName) -> Result<(), Failure<Refusal, V::Fault>>
-    requires { V.holds view.old }
-    ensures kept { V.holds view.new }
-    ensures follows { V.follows view.old view.new }
-    ensures same { IsTrue V.is_told → V.shows view.new ≡ V.shows view.old }
-    ensures exact { IsTrue V.is_told → Gives (λ u. u) result (calls.vacant_snapshot (V.shows view.old) name.now) }
-    ensures cause { IfFault result (λ f. V.causes view.old view.new f) }
+fn vacant<V: FileView>(view: &V, name: &SnapshotName) -> Result<(), Refusal>
+    ensures { IsTrue V.is_told → result ≡ calls.vacant_snapshot (V.shows view.now) name.now }
 {
-    match view.has_snapshot(name) {
-        Ok(true) => Err(Failure::Refused(Refusal::plain(Errno::Eexist))),
-        Ok(false) => Ok(()),
-        Err(fault) => Err(Failure::Fault(fault)),
+    if view.knows_snapshot(name) {
+        return Err(Refusal::plain(Errno::Eexist));
     }
+    Ok(())
 }
 
 /// Whether a snapshot has the name.
-fn present<V: FileView>(view: &mut V, name: &SnapshotName) -> Result<(), Failure<Refusal, V::Fault>>
-    requires { V.holds view.old }
-    ensures kept { V.holds view.new }
-    ensures follows { V.follows view.old view.new }
-    ensures same { IsTrue V.is_told → V.shows view.new ≡ V.shows view.old }
-    ensures exact { IsTrue V.is_told → Gives (λ u. u) result (calls.present_snapshot (V.shows view.old) name.now) }
-    ensures cause { IfFault result (λ f. V.causes view.old view.new f) }
+fn present<V: FileView>(view: &V, name: &SnapshotName) -> Result<(), Refusal>
+    ensures { IsTrue V.is_told → result ≡ calls.present_snapshot (V.shows view.now) name.now }
 {
-    match view.has_snapshot(name) {
-        Ok(true) => Ok(()),
-        Ok(false) => Err(Failure::Refused(Refusal::plain(Errno::Enoent))),
-        Err(fault) => Err(Failure::Fault(fault)),
+    if view.knows_snapshot(name) {
+        return Ok(());
     }
+    Err(Refusal::plain(Errno::Enoent))
 }
 
 /// Whether there may be one more besides so many snapshots.
@@ -149,17 +138,12 @@ pub(crate) fn decide_snap_create<V: FileView>(
 }
 
 pub(crate) fn decide_snap_delete<V: FileView>(
-    view: &mut V,
+    view: &V,
     sessions: &Sessions,
     session: u32,
     name: &Word,
-) -> Result<Outcome<'static>, CallError<V::Fault>>
-    requires { V.holds view.old }
-    ensures kept { V.holds view.new }
-    ensures follows { V.follows view.old view.new }
-    ensures same { IsTrue V.is_told → V.shows view.new ≡ V.shows view.old }
-    ensures decided { IsTrue V.is_told → DecidesShown (in_use_of sessions.now) (V.shows view.old) (V.room view.old) (V.names view.old) (V.bytes view.old) session (call.SnapDelete name.now) result }
-    ensures cause { IfView result (λ f. V.causes view.old view.new f) }
+) -> Result<Outcome<'static>, Refusal>
+    ensures { IsTrue V.is_told → (world : World) → V.shows view.now ≡ viewed_trees (trees_of world) → Answers (λ o. o) result (decision limits_written (in_world (in_use_of sessions.now) world) session (call.SnapDelete name.now)) }
 {
     let caller = logged_in(sessions, session)?;
     let name = snapshot_argument(name)?;
@@ -167,6 +151,23 @@ pub(crate) fn decide_snap_delete<V: FileView>(
     present(view, &name)?;
     closed(sessions, &name)?;
     Ok(points(AskedPoint::Thaws(name)))
+}
+
+/// The name of a snapshot that can be brought back, or why it can't. Nothing is asked that may fail.
+fn restorable<V: FileView>(
+    view: &V,
+    sessions: &Sessions,
+    session: u32,
+    name: &Word,
+) -> Result<SnapshotName, Refusal>
+    ensures { IsTrue V.is_told → (world : World) → V.shows view.now ≡ viewed_trees (trees_of world) → Answers (restores_in world) result (decision limits_written (in_world (in_use_of sessions.now) world) session (call.SnapRestore name.now)) }
+{
+    let caller = logged_in(sessions, session)?;
+    let name = snapshot_argument(name)?;
+    user_0(&caller.cred)?;
+    present(view, &name)?;
+    closed_live(sessions)?;
+    Ok(name)
 }
 
 /// The files without names of the snapshot's tree are counted last, so that a look-up that fails hides no refusal.
@@ -181,13 +182,10 @@ pub(crate) fn decide_snap_restore<V: FileView>(
     ensures follows { V.follows view.old view.new }
     ensures same { IsTrue V.is_told → V.shows view.new ≡ V.shows view.old }
     ensures decided { IsTrue V.is_told → DecidesShown (in_use_of sessions.now) (V.shows view.old) (V.room view.old) (V.names view.old) (V.bytes view.old) session (call.SnapRestore name.now) result }
+    ensures refused { IsTrue V.is_told → HidesNoRefusalShown (in_use_of sessions.now) (V.shows view.old) session (call.SnapRestore name.now) result }
     ensures cause { IfView result (λ f. V.causes view.old view.new f) }
 {
-    let caller = logged_in(sessions, session)?;
-    let name = snapshot_argument(name)?;
-    user_0(&caller.cred)?;
-    present(view, &name)?;
-    closed_live(sessions)?;
+    let name = restorable(view, sessions, session, name)?;
     let nameless = match view.count_nameless(&name) {
         Ok(nameless) => nameless,
         Err(fault) => return Err(CallError::View(fault)),

@@ -5,11 +5,12 @@ use sn_model::Names;
 use sn_walk::{Home, Object};
 use std::alloc::Global;
 
-/// What calls ask of the trees besides what decisions ask: the bytes of files, the names that a directory is
-/// listed with, and how many files of a snapshot have none.
+/// What calls ask of the trees besides what decisions ask: which names are those of snapshots, the bytes of files, the names
+/// that a directory is listed with, and how many files of a snapshot have none.
 ///
-/// Proved: What calls ask of a tree besides what decisions ask: how many bytes a file has, those from an offset on, the names
-/// that a directory is listed with, and how many files of a snapshot have no name.
+/// Proved: What calls ask of a tree besides what decisions ask: whether a snapshot has a name, which is known without a look-up,
+/// how many bytes a file has, those from an offset on, the names that a directory is listed with, and how many files of a
+/// snapshot have no name.
 pub trait FileView: MoveView {
     ghost use Rattle.std.specs.Prelude.{◌≡◌, ℕ, ◌+◌, ◌<◌, ◌^◌, IsTrue, IfOk, IfErr, List, length, take, drop};
     ghost use Rattle.sn_walk.specs.declared.object.Home.{Home};
@@ -17,6 +18,10 @@ pub trait FileView: MoveView {
 
     // the bytes of the nodes of the trees; what isn't there has none
     ghost bytes: { Self → Home → ℕ → List ℕ };
+
+    /// Whether a snapshot has the name, which is known without a look-up.
+    fn knows_snapshot(&self, name: &SnapshotName) -> bool
+        ensures { IsTrue Self.is_told → result ≡ (Self.shows self.now).has_snapshot name.now };
 
     /// How many bytes a node of a tree has. What isn't there has none.
     fn size(&mut self, home: &Home, number: u16) -> Result<u64, Self::Fault>

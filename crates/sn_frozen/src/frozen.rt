@@ -30,9 +30,9 @@ pub trait HasSnapshots: Below {
     // what a look-up in one of them needs besides what any needs
     ghost holds_frozen: { Self → Type 0 };
 
-    /// Whether there is a snapshot with this name.
+    /// Whether there is a snapshot with this name, also where the tree isn't told.
     fn has_snapshot(&self, name: &SnapshotName) -> bool
-        ensures { IsTrue Self.is_told → result ≡ map.contains_key (frozen self.now) name.now };
+        ensures { result ≡ map.contains_key (frozen self.now) name.now };
 
     /// The names of all snapshots, in the order of their bytes.
     fn snapshots(&self, alloc: Global) -> Result<Names, AllocError>

@@ -1,6 +1,6 @@
 //! The outcomes of calls over a root that is seen through what changed since.
 ghost use Rattle.std.specs.Prelude.{◌≡◌, IsTrue, IfOk};
-ghost use Rattle.sn_core_files.specs.Decided.{Decides};
+ghost use Rattle.sn_core_files.specs.Decided.{Decides, HidesNoRefusal};
 ghost use Rattle.sn_core_files.specs.Faults.{IfView};
 ghost use Rattle.sn_desc.specs.Sessions.{in_use_of};
 ghost use Rattle.sn_directories.specs.Told.{IsShown};
@@ -41,6 +41,7 @@ fn decide_on<'x, 'c, T: NamedTree + HasContents + HasSnapshots>(
     ensures follows { T.follows tree.old tree.new }
     ensures same { IsTrue T.is_told → T.shows tree.new ≡ T.shows tree.old }
     ensures decided { IsTrue T.is_told → Decides (world_of (in_use_of sessions.now) (live_trees (T.shows tree.old) (T.frozen tree.old))) session call.now result }
+    ensures refused { IsTrue T.is_told → HidesNoRefusal (world_of (in_use_of sessions.now) (live_trees (T.shows tree.old) (T.frozen tree.old))) session call.now result }
     ensures cause { IfView result (λ f. T.causes tree.old tree.new f) }
     ensures numbers { IfOk result (λ o. IsCall call.now) }
 {
@@ -67,6 +68,7 @@ fn decide_over<'x, 'c, B: KeepsNames + HasContents + HasSnapshots>(
     ensures follows { B.follows below.old below.new }
     ensures same { IsTrue B.is_told → B.shows below.new ≡ B.shows below.old }
     ensures decided { IsTrue B.is_told → Decides (world_of (in_use_of sessions.now) (live_trees (through (layer_of overlay.now) (B.shows below.old)) (B.frozen below.old))) session call.now result }
+    ensures refused { IsTrue B.is_told → HidesNoRefusal (world_of (in_use_of sessions.now) (live_trees (through (layer_of overlay.now) (B.shows below.old)) (B.frozen below.old))) session call.now result }
     ensures cause { IfView result (λ f. B.causes below.old below.new f) }
     ensures numbers { IfOk result (λ o. IsCall call.now) }
 {
@@ -97,6 +99,7 @@ pub fn decide_live<'x, 'c, B: KeepsNames + HasContents + HasSnapshots>(
     ensures follows { B.follows root.old root.new }
     ensures same { IsTrue B.is_told → B.shows root.new ≡ B.shows root.old }
     ensures decided { IsTrue B.is_told → Decides (world_of (in_use_of sessions.now) (live_trees (shown_of live.now (B.shows root.old)) (B.frozen root.old))) session call.now result }
+    ensures refused { IsTrue B.is_told → HidesNoRefusal (world_of (in_use_of sessions.now) (live_trees (shown_of live.now (B.shows root.old)) (B.frozen root.old))) session call.now result }
     ensures cause { IfView result (λ f. B.causes root.old root.new f) }
     ensures numbers { IfOk result (λ o. IsCall call.now) }
 {
@@ -130,6 +133,7 @@ pub fn decide_unread<'x, 'c, B: HasSnapshots>(
     call: &'c Call,
 ) -> Result<Outcome<'c>, CallError<Unread>>
     ensures decided { Decides (world_of (in_use_of sessions.now) (live_trees (shown_of live.now (B.shows root.now)) (B.frozen root.now))) session call.now result }
+    ensures refused { HidesNoRefusal (world_of (in_use_of sessions.now) (live_trees (shown_of live.now (B.shows root.now)) (B.frozen root.now))) session call.now result }
     ensures numbers { IfOk result (λ o. IsCall call.now) }
 {
     let mut view = UnreadView { root, live };

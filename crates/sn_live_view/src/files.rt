@@ -30,6 +30,10 @@ impl<'a, T: NamedTree + HasContents + HasSnapshots> FileView for LiveView<'a, T>
 
     ghost bytes = { λ v. bytes_in (live_trees (T.shows v.tree.now) (T.frozen v.tree.now)) };
 
+    fn knows_snapshot(&self, name: &SnapshotName) -> bool {
+        self.tree.has_snapshot(name)
+    }
+
     fn size(&mut self, home: &Home, number: u16) -> Result<u64, T::Fault> {
         match home {
             Home::Live => size(self.tree, number),

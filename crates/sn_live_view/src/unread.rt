@@ -111,6 +111,10 @@ impl<'a, B: HasSnapshots> FileView for UnreadView<'a, B> {
 
     ghost bytes = { λ v. bytes_in (live_trees (shown_of v.live.now (B.shows v.root.now)) (B.frozen v.root.now)) };
 
+    fn knows_snapshot(&self, name: &SnapshotName) -> bool {
+        self.root.has_snapshot(name)
+    }
+
     fn size(&mut self, _home: &Home, _number: u16) -> Result<u64, Unread> {
         Err(Unread)
     }

@@ -3,3 +3,4 @@ pub mod RestoreLemmas
 pub mod TurnLemmas
 pub mod ChoiceLemmas
 pub mod CommitLemmas
+mod RefusalLemmas

@@ -1,9 +1,9 @@
 -- What a caller leaves, and how a call goes on.
-use Rattle.std.specs.Prelude.{◌≡◌, ℕ, Bool, List, Option, None, Some, Result, Ok, Err}
+use Rattle.std.specs.Prelude.{◌≡◌, ℕ, Bool, List, Option, None, Some, Result, Ok, Err, IfErr}
 use Rattle.sn_changed.specs.Dropped.{LeadsOn, TellsGone}
 use Rattle.sn_changed.specs.declared.dropped.DroppedFile.{DroppedFile}
 use Rattle.sn_caller.specs.Called.{CanTurn}
-use Rattle.sn_core_files.specs.Decided.{MayLack}
+use Rattle.sn_core_files.specs.Decided.{IsRefusedAtOnce, MayLack}
 use Rattle.sn_limits.specs.Versions.{limits_written}
 use Rattle.sn_live_world.specs.World.{IsOver, changes_of, descriptors_of, room_of, tree_over, world_over}
 use Rattle.sn_live_world.specs.declared.choosing.Picked.{Picked}
@@ -32,6 +32,10 @@ HasNone Read world session c = MayLack world session c
 abbrev pub Decides : World → ℕ → Call → Result Outcome CallFault → Type 0
 Decides world session c (Ok o) = decision limits_written world session c ≡ Ok o
 Decides world session c (Err e) = HasNone e world session c
+
+-- no fault hides a refusal of a call that is refused at once: what the model refuses is refused so, whatever memory and the device do
+abbrev pub HidesNoRefusal : World → ℕ → Call → Result Outcome CallFault → Type 0
+HidesNoRefusal world session c result = IsRefusedAtOnce c → IfErr (decision limits_written world session c) (λ r. result ≡ Err (Refused r))
 
 -- what is pending, where a new node has the next number
 abbrev pub Picks : Tree → (ℕ → Bool) → Pending → Caller → Picked → Type 0

@@ -1,10 +1,12 @@
 //! The outcomes of calls over the trees of a root on a device.
-ghost use Rattle.std.specs.Prelude.{◌≡◌, IsTrue, IfErr, IfNone, IfOk, IfSome};
+ghost use Rattle.std.specs.Prelude.{◌≡◌, IsOk, IsTrue, IfErr, IfNone, IfOk, IfSome};
 ghost use Rattle.sn_block.specs.Lending.{device_of};
-ghost use Rattle.sn_core_files.specs.Decided.{MayLack};
+ghost use Rattle.sn_core_files.specs.Decided.{IsRefusedAtOnce, MayLack};
+ghost use Rattle.sn_limits.specs.Versions.{limits_written};
 ghost use Rattle.sn_live_world.specs.Faults.{CountsCall};
-ghost use Rattle.sn_live_world.specs.Turned.{Decides};
+ghost use Rattle.sn_live_world.specs.Turned.{Decides, HidesNoRefusal};
 ghost use Rattle.sn_live_world.specs.declared.fault.CallFault.TheVariants.{Read};
+ghost use Rattle.sn_model.specs.Steps.{decision};
 ghost use Rattle.sn_model.specs.Worlds.{IsCall};
 ghost use Rattle.sn_rooted.specs.Roots.{AreSound, store_on, tree_on, trees_at};
 
@@ -68,7 +70,9 @@ impl LiveWorld {
         call: &'c Call,
     ) -> Option<Result<Outcome<'c>, CallFault>>
         ensures decided { IfSome result (λ r. Decides (world_in self.now (trees_at (store_on blocks.old) root.now)) session call.now r) }
+        ensures refused { IfSome result (λ r. HidesNoRefusal (world_in self.now (trees_at (store_on blocks.old) root.now)) session call.now r) }
         ensures passed { IfNone result (MayLack (world_in self.now (trees_at (store_on blocks.old) root.now)) session call.now) }
+        ensures unrefused { IfNone result (IsRefusedAtOnce call.now → IsOk (decision limits_written (world_in self.now (trees_at (store_on blocks.old) root.now)) session call.now)) }
         ensures numbers { IfSome result (λ r. IfOk r (λ o. IsCall call.now)) }
         ensures unread { IfSome result (λ r. IfErr r (λ e. e ≡ Read → ⊥)) }
         ensures same { D.disk (device_of blocks.new) ≡ D.disk (device_of blocks.old) }
@@ -94,6 +98,8 @@ impl LiveWorld {
     /// Proved: The outcome of a call over a sound root and its snapshots, its live tree seen through what changed since, is
     /// exactly the model's, where the device tells its bytes; a call that needs no look-up reads nothing, and before memory
     /// is refused or a read fails, session and arguments had passed.
+    /// Proved: A `snap-delete` or `snap-restore` that the model refuses is refused so, whatever memory and the device do: no
+    /// failure hides a refusal.
     /// Proved, also of `prepare_change` and `prepare_restore`: Nothing is counted of the device but a read that failed.
     pub fn decide<'c, D: Device>(
         &self,
@@ -106,6 +112,7 @@ impl LiveWorld {
         requires readable { IsTrue D.tells_bytes → AreSound (D.status (device_of blocks.old)).sectors (store_on blocks.old) root.now }
         requires live { IsTrue D.tells_bytes → IsOver self.now (tree_on blocks.old root.now.inode_file) }
         ensures decided { IsTrue D.tells_bytes → Decides (world_in self.now (trees_at (store_on blocks.old) root.now)) session call.now result }
+        ensures refused { HidesNoRefusal (world_in self.now (trees_at (store_on blocks.old) root.now)) session call.now result }
         ensures numbers { IfOk result (λ o. IsCall call.now) }
         ensures same { IsTrue D.tells_bytes → D.disk (device_of blocks.new) ≡ D.disk (device_of blocks.old) }
         ensures counts { CountsCall D.tells_bytes result (D.status (device_of blocks.old)) (D.status (device_of blocks.new)) }

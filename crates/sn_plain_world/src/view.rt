@@ -134,6 +134,10 @@ impl<'a> FileView for PlainView<'a> {
 
     ghost bytes = { λ v. bytes_in (plain_trees (live_of v.tree.now)) };
 
+    fn knows_snapshot(&self, _name: &SnapshotName) -> bool {
+        false
+    }
+
     fn size(&mut self, home: &Home, number: u16) -> Result<u64, Infallible> {
         match home {
             Home::Live => Ok(self.tree.tree().size(number)),

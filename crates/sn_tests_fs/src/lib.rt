@@ -1,7 +1,8 @@
 //! Cases of the file system over a device: calls, and what of them a crash leaves.
 //!
 //! The tables of the cases are in the data of `sn_tests_program`: their head lines say where the answers come from.
-//! `first` has the program on the first page of `sn_core`, `scripts` the tables of calls and `lives` that of crashes, `sizes`
+//! `first` has the program on the first page of `sn_core`, `scripts` the tables of calls and `lives` that of crashes, `restores`
+//! counts the blocks that restores take, `sizes` has
 //! devices of several sizes, a log that fills and a disk that is full, and `hostile` mounts logs of any bytes.
 //!
 //! No clause promises what comes out, since it is compared: `sn_tests_program` runs it.
@@ -10,6 +11,7 @@
 mod first;
 mod hostile;
 mod lives;
+mod restores;
 mod scripts;
 mod sizes;
 
@@ -21,6 +23,7 @@ pub fn run(report: &mut Report<'_>) -> Result<()> {
     first::run(report)?;
     scripts::run(report)?;
     lives::run(report)?;
+    restores::run(report)?;
     sizes::run(report)?;
     hostile::run(report)
 }

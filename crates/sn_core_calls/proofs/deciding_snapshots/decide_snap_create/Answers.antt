@@ -1,12 +1,8 @@
-use Rattle.std.proofs.Common.{true, Ok, Err, refl, sym, ap, ◌∙◌}
+use Rattle.std.proofs.Common.{Ok, Err, refl, sym, ap}
 use Rattle.std.proofs.lemmas.Result.{err_from_is_err_and}
-use Rattle.sn_model.specs.declared.call.Call.TheVariants as call
 use Rattle.sn_model.specs.declared.outcome.Outcome.{Outcome}
 use Rattle.sn_model.specs.SnapshotCalls.{snap_create_outcome}
-use Rattle.sn_desc.specs.InUse.{in_world}
-use Rattle.sn_desc.specs.Sessions.{in_use_of}
-use Rattle.sn_core_files.proofs.DecidedLemmas.{failed}
-use Rattle.sn_core_calls.proofs.SnapshotLemmas.{fails_on, listed_count}
+use Rattle.sn_core_calls.proofs.SnapshotLemmas.{listed_count}
 use Rattle.sn_core_calls.proofs.deciding_snapshots.decide_snap_create.Goals as goal
 
 pub returns-in_err-user_0-clause-decided : goal.returns-in_err-user_0-clause-decided
@@ -19,22 +15,20 @@ pub returns-in_err-vacant-clause-decided : goal.returns-in_err-vacant-clause-dec
 unfolding snap_create_outcome
 returns-in_err-vacant-clause-decided g c told world shows =
     let p = err_from_is_err_and c.from_residual-in_err-vacant.result c.from_residual-in_err-vacant.ensures.1 in
-    let given = rw shows.trees_are at (c.in_err-vacant.ensures.exact told) in
-    rw (p.1, p.2) (failed (in_world (in_use_of c.args.sessions.now) world) c.args.session (call.SnapCreate c.args.name.now) (tt, rw (c.in_ok-caller.ensures, ← c.in_ok-name.ensures) (refl {a = true})) _ (rw (c.in_ok-caller.ensures, ← c.in_ok-name.ensures, ← c.in_ok-user_0.ensures) (fails_on c.in_err-vacant.field-0.0 _ _ given)))
+    let given = rw shows.trees_are at (c.in_err-vacant.ensures told) in
+    rw (p.1, p.2, c.in_ok-caller.ensures, ← c.in_ok-name.ensures, ← c.in_ok-user_0.ensures, ← given) (refl {a = Err c.in_err-vacant.field-0.0})
 
 pub returns-in_err-room_beside-clause-decided : goal.returns-in_err-room_beside-clause-decided
 unfolding snap_create_outcome
 returns-in_err-room_beside-clause-decided g c told world shows =
     let p = err_from_is_err_and c.from_residual-in_err-room_beside.result c.from_residual-in_err-room_beside.ensures.1 in
-    let given = rw shows.trees_are at (c.in_ok-vacant.ensures.exact told) in
-    let names = g.met.V.CallView.names_stay _ _ told c.vacant.ensures.follows ∙ shows.names_are in
-    let count = listed_count world _ _ _ c.as_slice.ensures (c.in_ok-there.ensures.found told) names in
-    rw (p.1, p.2, c.in_ok-caller.ensures, ← c.in_ok-name.ensures, ← c.in_ok-user_0.ensures, given, ← count, ← c.in_err-room_beside.ensures) (refl {a = Err c.in_err-room_beside.field-0.0})
+    let given = rw shows.trees_are at (c.in_ok-vacant.ensures told) in
+    let count = listed_count world _ _ _ c.as_slice.ensures (c.in_ok-there.ensures.found told) shows.names_are in
+    rw (p.1, p.2, c.in_ok-caller.ensures, ← c.in_ok-name.ensures, ← c.in_ok-user_0.ensures, ← given, ← count, ← c.in_err-room_beside.ensures) (refl {a = Err c.in_err-room_beside.field-0.0})
 
 pub returns-clause-decided : goal.returns-clause-decided
 unfolding snap_create_outcome
 returns-clause-decided g c told world shows =
-    let given = rw shows.trees_are at (c.in_ok-vacant.ensures.exact told) in
-    let names = g.met.V.CallView.names_stay _ _ told c.vacant.ensures.follows ∙ shows.names_are in
-    let count = listed_count world _ _ _ c.as_slice.ensures (c.in_ok-there.ensures.found told) names in
-    rw (c.in_ok-caller.ensures, ← c.in_ok-name.ensures, ← c.in_ok-user_0.ensures, given, ← count, ← c.in_ok-room_beside.ensures) (ap (λ (o : Outcome). Ok o) (sym c.points.ensures))
+    let given = rw shows.trees_are at (c.in_ok-vacant.ensures told) in
+    let count = listed_count world _ _ _ c.as_slice.ensures (c.in_ok-there.ensures.found told) shows.names_are in
+    rw (c.in_ok-caller.ensures, ← c.in_ok-name.ensures, ← c.in_ok-user_0.ensures, ← given, ← count, ← c.in_ok-room_beside.ensures) (ap (λ (o : Outcome). Ok o) (sym c.points.ensures))

@@ -13,3 +13,9 @@ returns-clause-decided g c told =
     let root = g.B.Below.shows c.args.root.now in
     let shown = ap (λ (l : Layer). through l (through (layer_of c.point.result.now) root)) c.changes.ensures ∙ ap (λ (l : Layer). through (changes_of c.args.live.now) (through l root)) c.point.ensures in
     subst (λ (t : Tree). Decides (world_of (in_use_of c.args.sessions.now) (live_trees t (g.B.HasSnapshots.frozen c.args.root.now))) c.args.session c.args.call.now c.decide_over.result) shown (c.decide_over.ensures.decided told)
+
+pub returns-clause-refused : goal.returns-clause-refused
+returns-clause-refused g c told =
+    let root = g.B.Below.shows c.args.root.now in
+    let shown = ap (λ (l : Layer). through l (through (layer_of c.point.result.now) root)) c.changes.ensures ∙ ap (λ (l : Layer). through (changes_of c.args.live.now) (through l root)) c.point.ensures in
+    subst (λ (t : Tree). HidesNoRefusal (world_of (in_use_of c.args.sessions.now) (live_trees t (g.B.HasSnapshots.frozen c.args.root.now))) c.args.session c.args.call.now c.decide_over.result) shown (c.decide_over.ensures.refused told)

@@ -7,3 +7,8 @@ pub returns-clause-decided : goal.returns-clause-decided
 returns-clause-decided g c told =
     c.decide.ensures.decided told (world_of (in_use_of c.args.sessions.now) (live_trees (g.T.Below.shows c.args.tree.now) (g.T.HasSnapshots.frozen c.args.tree.now)))
     (record { sessions_are = refl; descriptors_are = refl; trees_are = refl; room_is = refl; names_are = refl; bytes_are = refl })
+
+pub returns-clause-refused : goal.returns-clause-refused
+returns-clause-refused g c told =
+    c.decide.ensures.refused told (world_of (in_use_of c.args.sessions.now) (live_trees (g.T.Below.shows c.args.tree.now) (g.T.HasSnapshots.frozen c.args.tree.now)))
+    (record { sessions_are = refl; descriptors_are = refl; trees_are = refl; room_is = refl; names_are = refl; bytes_are = refl })

@@ -8,3 +8,8 @@ pub returns-clause-decided : goal.returns-clause-decided
 returns-clause-decided g c =
     c.decide.ensures.decided refl (world_of (in_use_of c.args.sessions.now) (live_trees (shown_of c.args.live.now (g.B.Below.shows c.args.root.now)) (g.B.HasSnapshots.frozen c.args.root.now)))
     (record { sessions_are = refl; descriptors_are = refl; trees_are = refl; room_is = refl; names_are = refl; bytes_are = refl })
+
+pub returns-clause-refused : goal.returns-clause-refused
+returns-clause-refused g c =
+    c.decide.ensures.refused refl (world_of (in_use_of c.args.sessions.now) (live_trees (shown_of c.args.live.now (g.B.Below.shows c.args.root.now)) (g.B.HasSnapshots.frozen c.args.root.now)))
+    (record { sessions_are = refl; descriptors_are = refl; trees_are = refl; room_is = refl; names_are = refl; bytes_are = refl })
