@@ -1,1 +1,2 @@
 pub mod MapLemmas
+pub mod KeyLemmas

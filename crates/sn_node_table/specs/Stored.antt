@@ -1,21 +1,15 @@
 -- What the maps in memory stand for.
 use Rattle.std.specs.Prelude.{ℕ}
 use Rattle.std.specs.Ordering.{nat_cmp}
-use Rattle.std.specs.Cmp.Lexicographic.{slice_cmp}
-use Rattle.std.specs.Vec.{vec_items}
 use Rattle.std.specs.FinMap as map
-use Rattle.sn_maps.specs.Maps.{seen_as, seen_by}
-use Rattle.sn_node_table.specs.Nodes.{Below, Node}
+use Rattle.sn_maps.specs.Maps.{seen_by}
+use Rattle.sn_node_table.specs.Nodes.{Node}
 use Rattle.sn_node_table.specs.declared.current.Current.{Current}
-use Rattle.sn_node_table.specs.declared.names.Names.{Names}
 use Rattle.sn_node_table.specs.declared.node.StoredNode.{StoredNode}
 use Rattle.sn_node_table.specs.declared.nodes.Nodes.{Nodes}
 
-unfoldable pub names_of : Names → Below
-names_of n = seen_as (slice_cmp nat_cmp) vec_items (λ id. id) n.map.entries
-
 abbrev pub node_of : StoredNode → Node
-node_of s = record { inode = s.inode; links = s.links.items; below = names_of s.below; lookups = s.lookups; handles = s.handles }
+node_of s = record { inode = s.inode; links = s.links.items; below = s.below; lookups = s.lookups; handles = s.handles }
 
 unfoldable pub nodes_of : Nodes → map.FinMap nat_cmp Node
 nodes_of n = seen_by nat_cmp node_of n.map.entries

@@ -17,7 +17,7 @@
 //!   nothing when its turn comes, and `NoneIsIdled` that none stays which nothing holds any more.
 //! - A call to which memory is refused leaves the table as it was.
 //!
-//! The way through it: `specs/Nodes`, `specs/Tables` and `specs/Paths`; then `names`, `node` and `nodes` for what is kept of
+//! The way through it: `specs/Nodes`, `specs/Tables` and `specs/Paths`; then `node` and `nodes` for what is kept of
 //! nodes, `current` for the ids that stand for objects, and [`NodeTable`] in `table` (what is told), `linking` (names),
 //! `meeting` (ids that are given), `path`, `sweeping` (ids that go) and `holding` (what lets them go).
 //!
@@ -35,7 +35,6 @@ mod holding;
 mod laws;
 mod linking;
 mod meeting;
-mod names;
 mod node;
 mod nodes;
 mod path;

@@ -39,7 +39,7 @@ impl NodeTable {
         let key = Word::new(self.alloc, name)?;
         self.nodes.push_link(id, link)?;
         match self.nodes.put_name(parent, key, id) {
-            Ok(_) => Ok(()),
+            Ok(()) => Ok(()),
             Err(refused) => {
                 self.nodes.pop_link(id);
                 Err(refused)

@@ -2,7 +2,7 @@
 ghost use Rattle.std.specs.Prelude.{◌≡◌, ◌↔◌, IfOk, OnOk, OnErr, IsTrue};
 ghost use Rattle.std.specs.Option.{option_copied};
 
-use crate::names::Names;
+use sn_maps::NameMap;
 use sn_model::Word;
 use std::alloc::{AllocError, Global};
 
@@ -41,15 +41,14 @@ pub(crate) struct StoredNode {
     /// The names that it was met under, in the order in which they were met.
     pub links: Vec<Link>,
     /// The names that are known below it.
-    pub below: Names,
+    pub below: NameMap<u64>,
     pub lookups: u64,
     pub handles: u64,
 }
 
 impl StoredNode {
     ghost use Rattle.sn_node_table.specs.Nodes.{IsIdle, first_link, new_node, with_link, with_name, without_first_link, without_last_link, without_link, without_name};
-    ghost use Rattle.sn_node_table.specs.Stored.{node_of, names_of};
-    ghost use Rattle.std.specs.FinMap as map;
+    ghost use Rattle.sn_node_table.specs.Stored.{node_of};
 
     /// A node that was looked up once. It takes no memory.
     pub fn new(alloc: Global, inode: u64) -> StoredNode
@@ -58,7 +57,7 @@ impl StoredNode {
         StoredNode {
             inode,
             links: Vec::new(alloc),
-            below: Names::new(alloc),
+            below: NameMap::new(alloc),
             lookups: 1,
             handles: 0,
         }
@@ -105,13 +104,12 @@ impl StoredNode {
         self.links.retain(|link| !link.is(parent, name));
     }
 
-    /// A name below it leads to an id. Hands back the id that it led to.
-    pub fn put_name(&mut self, name: Word, id: u64) -> Result<Option<u64>, AllocError>
+    /// A name below it leads to an id.
+    pub fn put_name(&mut self, name: Word, id: u64) -> Result<(), AllocError>
         ensures ok { OnOk result (node_of self.new ≡ with_name name id (node_of self.old)) }
-        ensures old { IfOk result (λ old. old ≡ map.get (node_of self.old).below name) }
         ensures err { OnErr result (node_of self.new ≡ node_of self.old) }
     {
-        self.below.insert(name, id)
+        self.below.insert(name.into_bytes(), id)
     }
 
     /// A name below it is known no more.

@@ -1,10 +1,10 @@
 //! The nodes by id.
-ghost use Rattle.std.specs.Prelude.{◌≡◌, IfOk, OnOk, OnErr};
+ghost use Rattle.std.specs.Prelude.{◌≡◌, OnOk, OnErr};
 ghost use Rattle.std.specs.Option.{option_and_then, option_copied, option_map};
 ghost use Rattle.std.specs.FinMap as map;
 ghost use Rattle.sn_maps.specs.Maps.{updated};
 ghost use Rattle.sn_node_table.specs.Tables.{unhooked};
-ghost use Rattle.sn_node_table.specs.Nodes.{below_of, first_link, with_handles, with_link, with_lookups, with_name, without_first_link, without_last_link, without_link, without_name};
+ghost use Rattle.sn_node_table.specs.Nodes.{first_link, with_handles, with_link, with_lookups, with_name, without_first_link, without_last_link, without_link, without_name};
 
 use crate::node::{Link, StoredNode};
 use sn_model::Word;
@@ -111,15 +111,14 @@ impl Nodes {
         }
     }
 
-    /// A name below a node leads to an id. Hands back the id that it led to.
-    pub fn put_name(&mut self, parent: u64, name: Word, id: u64) -> Result<Option<u64>, AllocError>
+    /// A name below a node leads to an id.
+    pub fn put_name(&mut self, parent: u64, name: Word, id: u64) -> Result<(), AllocError>
         ensures ok { OnOk result (nodes_of self.new ≡ updated (nodes_of self.old) parent (with_name name id)) }
-        ensures old { IfOk result (λ old. old ≡ map.get (below_of (map.get (nodes_of self.old) parent)) name) }
         ensures err { OnErr result (nodes_of self.new ≡ nodes_of self.old) }
     {
         match self.map.get_mut(&parent) {
             Some(node) => node.put_name(name, id),
-            None => Ok(None),
+            None => Ok(()),
         }
     }
 

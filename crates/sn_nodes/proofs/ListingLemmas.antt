@@ -1,63 +1,29 @@
 -- The names of a tree in their order: those of one directory stand together, as the directory has them.
-use Rattle.std.proofs.Common.{◌≡◌, ℕ, Bool, true, false, cond, ◌&&◌, ◌==◌, List, [], ◌∷◌, ◌++◌, Option, Some, map, filter, flat_map, refl, sym, ap, subst, ◌∙◌}
+use Rattle.std.proofs.Common.{◌≡◌, ℕ, Bool, true, false, cond, ◌==◌, List, [], ◌∷◌, ◌++◌, Option, Some, map, filter, flat_map, refl, sym, ap, subst, ◌∙◌}
 use Rattle.std.specs.Prelude.{T}
 use Rattle.std.specs.declared.cmp.Ordering.{Ordering}
 use Rattle.std.specs.declared.cmp.Ordering.TheVariants.{Less, Equal, Greater}
 use Rattle.std.specs.Ordering.{nat_cmp, eq_by_cmp, is_lt, ordering_then}
-use Rattle.std.specs.Cmp.{IsTotalOrder, nat_cmp_total, eq_by_cmp_equiv, tied_itself, unsigned_tied}
+use Rattle.std.specs.Cmp.{nat_cmp_total, eq_by_cmp_equiv, tied_itself, unsigned_tied}
 use Rattle.std.specs.Cmp.Lexicographic.{slice_cmp, nat_list_cmp_total}
-use Rattle.std.specs.List.{AllByRecursion}
-use Rattle.std.specs.List.Sorted.{IsStrictlySortedBy}
-use Rattle.std.specs.Map.{keys_of}
 use Rattle.std.specs.FinMap as fin
 use Rattle.std.specs.FinMap.Entries.{below_all}
 use Rattle.std.proofs.lemmas.List.{append-nil, map-append}
 use Rattle.std.proofs.lemmas.List.Elements.{filter-append}
-use Rattle.std.proofs.lemmas.Map.Keys.{sorted_head, sorted_tail}
-use Rattle.std.proofs.lemmas.Map.Lookups.{CmpEqualImpliesEq, exact_bytes}
+use Rattle.std.proofs.lemmas.Map.Lookups.{exact_bytes}
 use Rattle.std.proofs.lemmas.Map.Views.{tells_apart}
 use Rattle.std.proofs.lemmas.Map.Lookups.{exact_unsigned}
 use Rattle.sn_model.specs.declared.link.Link.{Link}
 use Rattle.sn_model.specs.Tree.{link_cmp, link_to}
 use Rattle.sn_model.proofs.LinkLemmas.{exact_links, links_total}
-use Rattle.sn_maps.specs.Maps.{seen_as}
+use Rattle.sn_maps.proofs.KeyLemmas.{entries-from_entries, joined}
 use Rattle.sn_nodes.specs.Names.{Named, all_links, links_from, names_at}
 use Rattle.sn_nodes.proofs.NamesLemmas.{apart, both}
-
-joined : (a b : Bool) → T a → T b → T (a && b)
-joined true b p q = q
-joined false b p q = p
 
 is_less : (r : Ordering) → T (is_lt r) → r ≡ Less
 is_less Less p = refl
 is_less Equal p = absurd p
 is_less Greater p = absurd p
-
--- a list in the order of its keys is what the map of it has
-entries-from_entries : {K X : Type 0} {R : K → K → Ordering} → IsTotalOrder R → CmpEqualImpliesEq R → (es : List (K × X)) → T (fin.is_sorted R es) → fin.entries (fin.from_entries {R = R} es) ≡ es
-entries-from_entries {K} {X} {R} o exact es h =
-    ap fin.entries (fin.same_map o exact (fin.from_entries {R = R} es) (fin.from_sorted {R = R} es) (λ q. fin.get-from_entries o es q ∙ sym (fin.get-from_sorted R es q h)))
-    ∙ fin.entries-from_sorted R es h
-
-module _ {K L X Y : Type 0} (R : L → L → Ordering) (key : K → L) (f : X → Y) where
-  abbrev seen : List (K × X) → List (L × Y)
-  seen es = map (λ e. (key e.0, f e.1)) es
-
-  below_seen : (k : K) (es : List (K × X)) → AllByRecursion (λ y. R (key k) (key y) ≡ Less) (keys_of es) → T (below_all R (key k) (seen es))
-  below_seen k [] h = tt
-  below_seen k (e ∷ es) h = joined _ _ (subst (λ r. T (is_lt r)) (sym h.0) tt) (below_seen k es h.1)
-
-  sorted_seen : (es : List (K × X)) → IsStrictlySortedBy (λ x y. R (key x) (key y)) (keys_of es) → T (fin.is_sorted R (seen es))
-  sorted_seen [] h = tt
-  sorted_seen (e ∷ es) h = joined _ _ (below_seen e.0 es (sorted_head (λ x y. R (key x) (key y)) e.0 (keys_of es) h)) (sorted_seen es (sorted_tail (λ x y. R (key x) (key y)) e.0 (keys_of es) h))
-
-  keys_seen : (es : List (K × X)) → map (λ e. e.0) (seen es) ≡ map key (keys_of es)
-  keys_seen [] = refl
-  keys_seen (e ∷ es) = ap (λ ks. key e.0 ∷ ks) (keys_seen es)
-
-  -- the keys of a map in memory, in the order of what they are seen as
-  pub keys-seen_as : IsTotalOrder R → CmpEqualImpliesEq R → (es : List (K × X)) → IsStrictlySortedBy (λ x y. R (key x) (key y)) (keys_of es) → fin.keys (seen_as R key f es) ≡ map key (keys_of es)
-  keys-seen_as o exact es h = ap (map (λ e. e.0)) (entries-from_entries o exact (seen es) (sorted_seen es h)) ∙ keys_seen es
 
 -- ---- all names are in order
 abbrev in_directory : ℕ → List (List ℕ × ℕ) → List (Link × ℕ)

@@ -3,7 +3,7 @@ use Rattle.std.proofs.Common.{◌≡◌, ℕ, Bool, true, false, cond, ◌&&◌,
 use Rattle.std.specs.Prelude.{T}
 use Rattle.std.specs.declared.cmp.Ordering.{Ordering}
 use Rattle.std.specs.declared.cmp.Ordering.TheVariants.{Less, Equal, Greater}
-use Rattle.std.specs.Option.{option_map, option_or}
+use Rattle.std.specs.Option.{option_or}
 use Rattle.std.specs.Ordering.{nat_cmp, eq_by_cmp, is_eq, is_lt, ordering_then}
 use Rattle.std.specs.Cmp.{nat_cmp_total}
 use Rattle.std.specs.Cmp.Lexicographic.{slice_cmp, nat_list_cmp_total}
@@ -17,11 +17,9 @@ use Rattle.std.proofs.lemmas.Map.Views.{tells_apart}
 use Rattle.sn_model.specs.declared.link.Link.{Link}
 use Rattle.sn_model.specs.Tree.{link_cmp, link_to}
 use Rattle.sn_model.proofs.LinkLemmas.{exact_links, links_total}
-use Rattle.sn_nodes.specs.declared.names.Names.{Names}
 use Rattle.sn_maps.specs.Maps.{seen_by}
 use Rattle.sn_nodes.specs.Names.{Named, all_links, links_from, names_at}
-use Rattle.sn_nodes.specs.Stored.{names_of}
-use Rattle.sn_maps.proofs.MapLemmas.{get-seen_by, insert-seen_by, updated-seen_by, same-updated}
+use Rattle.sn_maps.proofs.MapLemmas.{get-seen_plain, insert-seen_by, updated-seen_by, same-updated}
 
 -- links in one directory are told apart by their names, and from those in another by the directory
 here : (q : Link) (d : ℕ) (n : List ℕ) → eq_by_cmp nat_cmp q.directory d ≡ true → eq_by_cmp link_cmp q (link_to d n) ≡ eq_by_cmp (slice_cmp nat_cmp) q.name n
@@ -124,28 +122,28 @@ all_links-forget m d none = fin.same_map links_total exact_links _ _ (λ q. get-
     told q false t = sym (get-all_links m q)
 
 -- the same over the maps in memory
-module _ (es : List (ℕ × Names)) where
+module _ (es : List (ℕ × Named)) where
   abbrev listed : fin.FinMap nat_cmp Named
-  listed = seen_by nat_cmp names_of es
+  listed = seen_by nat_cmp (λ (names : Named). names) es
 
-  pub names_there : (d : ℕ) (was : Option Names) → lookup (is_at (nat_cmp d)) es ≡ was → names_at (fin.get listed d) ≡ names_at (option_map names_of was)
-  names_there d was there = ap names_at (get-seen_by nat_cmp names_of nat_cmp_total es d ∙ ap (option_map names_of) there)
+  pub names_there : (d : ℕ) (was : Option Named) → lookup (is_at (nat_cmp d)) es ≡ was → names_at (fin.get listed d) ≡ names_at was
+  names_there d was there = ap names_at (get-seen_plain nat_cmp nat_cmp_total es d ∙ there)
 
-  pub get_name : (d : ℕ) (was : Option Names) → lookup (is_at (nat_cmp d)) es ≡ was → (name : List ℕ) → fin.get (all_links listed) (link_to d name) ≡ fin.get (names_at (option_map names_of was)) name
+  pub get_name : (d : ℕ) (was : Option Named) → lookup (is_at (nat_cmp d)) es ≡ was → (name : List ℕ) → fin.get (all_links listed) (link_to d name) ≡ fin.get (names_at was) name
   get_name d was there name = get-all_links listed (link_to d name) ∙ ap (λ (n : Named). fin.get n name) (names_there d was there)
 
-module _ (es fs : List (ℕ × Names)) (d : ℕ) (new : Names) (h : (q : ℕ) → lookup (is_at (nat_cmp q)) fs ≡ cond (is_at (nat_cmp d) q) (Some new) (lookup (is_at (nat_cmp q)) es)) where
-  listed_new : (is : Named) → names_of new ≡ is → listed fs ≡ fin.insert (listed es) d is
-  listed_new is e = insert-seen_by nat_cmp names_of nat_cmp_total exact_unsigned es fs d new h ∙ ap (fin.insert (listed es) d) e
+module _ (es fs : List (ℕ × Named)) (d : ℕ) (new : Named) (h : (q : ℕ) → lookup (is_at (nat_cmp q)) fs ≡ cond (is_at (nat_cmp d) q) (Some new) (lookup (is_at (nat_cmp q)) es)) where
+  listed_new : (is : Named) → new ≡ is → listed fs ≡ fin.insert (listed es) d is
+  listed_new is e = insert-seen_by nat_cmp (λ (names : Named). names) nat_cmp_total exact_unsigned es fs d new h ∙ ap (fin.insert (listed es) d) e
 
-  pub put_name : (was : Named) → names_at (fin.get (listed es) d) ≡ was → (name : List ℕ) (v : ℕ) → names_of new ≡ fin.insert was name v → all_links (listed fs) ≡ fin.insert (all_links (listed es)) (link_to d name) v
+  pub put_name : (was : Named) → names_at (fin.get (listed es) d) ≡ was → (name : List ℕ) (v : ℕ) → new ≡ fin.insert was name v → all_links (listed fs) ≡ fin.insert (all_links (listed es)) (link_to d name) v
   put_name was there name v e = ap all_links (listed_new _ e) ∙ all_links-insert (listed es) d name was there v
 
-  pub take_name : (was : Named) → names_at (fin.get (listed es) d) ≡ was → (name : List ℕ) → names_of new ≡ fin.remove was name → all_links (listed fs) ≡ fin.remove (all_links (listed es)) (link_to d name)
+  pub take_name : (was : Named) → names_at (fin.get (listed es) d) ≡ was → (name : List ℕ) → new ≡ fin.remove was name → all_links (listed fs) ≡ fin.remove (all_links (listed es)) (link_to d name)
   take_name was there name e = ap all_links (listed_new _ e) ∙ all_links-remove (listed es) d name was there
 
   -- names that stay as they were
-  pub keep_names : (old : Names) → lookup (is_at (nat_cmp d)) es ≡ Some old → names_of new ≡ names_of old → listed fs ≡ listed es
+  pub keep_names : (old : Named) → lookup (is_at (nat_cmp d)) es ≡ Some old → new ≡ old → listed fs ≡ listed es
   keep_names old there e =
-      updated-seen_by nat_cmp names_of nat_cmp_total exact_unsigned es fs d old new (λ (n : Named). n) there (sym e) h
+      updated-seen_by nat_cmp (λ (names : Named). names) nat_cmp_total exact_unsigned es fs d old new (λ (n : Named). n) there (sym e) h
       ∙ same-updated nat_cmp_total exact_unsigned _ _ (λ (n : Named). n) (λ _. refl)

@@ -2,17 +2,14 @@
 use Rattle.std.specs.Prelude.{◌≡◌, ℕ, ◌+◌, ◌-◌, ◌==◌, List, Option, Some, None, if◌then◌else◌}
 use Rattle.std.specs.Option.{option_map}
 use Rattle.std.specs.Ordering.{nat_cmp}
-use Rattle.std.specs.Cmp.Lexicographic.{slice_cmp}
-use Rattle.std.specs.Vec.{vec_items}
 use Rattle.std.specs.FinMap as map
 use Rattle.sn_model.specs.Tree.{Node, link_cmp}
-use Rattle.sn_maps.specs.Maps.{seen_as, seen_by}
+use Rattle.sn_maps.specs.Maps.{seen_by}
 use Rattle.sn_nodes.specs.Names.{Named, all_links}
 use Rattle.sn_nodes.specs.declared.nodes.Counts.{Counts}
 use Rattle.sn_nodes.specs.declared.nodes.StoredOwnership.{StoredOwnership}
 use Rattle.sn_nodes.specs.declared.nodes.StoredNode.{StoredNode}
 use Rattle.sn_nodes.specs.declared.nodes.Nodes.{Nodes}
-use Rattle.sn_nodes.specs.declared.names.Names.{Names}
 use Rattle.sn_nodes.specs.declared.links.Links.{Links}
 
 abbrev pub node_of : StoredNode → Node
@@ -51,12 +48,9 @@ stored_of n = seen_by nat_cmp (λ s. s) n.map.entries
 unfoldable pub nodes_of : Nodes → map.FinMap nat_cmp Node
 nodes_of n = seen_by nat_cmp node_of n.map.entries
 
--- the names of one directory, of each, and of all
-unfoldable pub names_of : Names → Named
-names_of n = seen_as (slice_cmp nat_cmp) vec_items (λ number. number) n.map.entries
-
+-- the names of each directory, and of all
 unfoldable pub directories_of : Links → map.FinMap nat_cmp Named
-directories_of l = seen_by nat_cmp names_of l.directories.entries
+directories_of l = seen_by nat_cmp (λ names. names) l.directories.entries
 
 unfoldable pub links_of : Links → map.FinMap link_cmp ℕ
 links_of l = all_links (directories_of l)

@@ -10,7 +10,6 @@
 #![tactic(auto)]
 
 mod links;
-mod names;
 mod nodes;
 
 pub use links::Links;

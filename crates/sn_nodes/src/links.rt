@@ -1,10 +1,21 @@
 ghost use Rattle.std.specs.Prelude.{◌≡◌, IfOk, OnOk, OnErr, None};
 ghost use Rattle.std.specs.FinMap as map;
 
-use crate::names::Names;
+use sn_maps::NameMap;
 use sn_model::{Link, Word};
 use std::alloc::{AllocError, Global};
 use std::collections::BTreeMap;
+
+/// The names of a directory, in the order of their bytes.
+fn words_of(alloc: Global, names: &NameMap<u16>) -> Result<Vec<Word>, AllocError>
+    ensures { IfOk result (λ words. words.items ≡ map.keys names.now) }
+{
+    let mut words = Vec::new(alloc);
+    for name in names.names() {
+        words.push(Word::new(alloc, name.as_slice())?)?;
+    }
+    Ok(words)
+}
 
 /// The numbers by directory and name. A directory without names isn't there.
 ///
@@ -12,7 +23,7 @@ use std::collections::BTreeMap;
 /// directory are listed in the order of their bytes.
 #[derive(Drop)]
 pub struct Links {
-    directories: BTreeMap<u16, Names>,
+    directories: BTreeMap<u16, NameMap<u16>>,
     alloc: Global,
 }
 
@@ -50,7 +61,7 @@ impl Links {
         ensures { IfOk result (λ words. words.items ≡ map.keys (names_at (map.get (directories_of self.now) directory))) }
     {
         match self.directories.get(&directory) {
-            Some(names) => names.words(alloc),
+            Some(names) => words_of(alloc, names),
             None => Ok(Vec::new(alloc)),
         }
     }
@@ -61,8 +72,8 @@ impl Links {
         ensures ok { OnOk result (links_of self.new ≡ map.insert (links_of self.old) (link_to directory name) number) }
         ensures err { OnErr result (links_of self.new ≡ links_of self.old) }
     {
-        let mut names = Names::new(self.alloc);
-        names.insert(name, number)?;
+        let mut names = NameMap::new(self.alloc);
+        names.insert(name.into_bytes(), number)?;
         self.directories.insert(directory, names)?;
         Ok(())
     }
@@ -74,7 +85,7 @@ impl Links {
     {
         let Link { directory, name } = link;
         match self.directories.get_mut(&directory) {
-            Some(names) => names.insert(name, number),
+            Some(names) => names.insert(name.into_bytes(), number),
             None => self.insert_first(directory, name, number),
         }
     }

@@ -1,16 +1,13 @@
-use Rattle.std.proofs.Common.{ℕ, Option, refl, sym, ap, ◌∙◌, rules}
+use Rattle.std.proofs.Common.{ℕ, refl, sym, ap, ◌∙◌, rules}
 use Rattle.std.specs.BTreeMap.{BTreeMap}
 use Rattle.std.specs.Cmp.{nat_cmp_total}
 use Rattle.std.specs.Ordering.{nat_cmp}
-use Rattle.std.specs.Cmp.Lexicographic.{slice_cmp}
-use Rattle.std.specs.FinMap as map
-use Rattle.std.specs.Option.{option_map}
 use Rattle.std.proofs.lemmas.Map.Lookups.{exact_unsigned}
 use Rattle.std.proofs.lemmas.Result.{IfErr-weaker, IfOk-weaker}
 use Rattle.sn_node_table.specs.declared.node.StoredNode.{StoredNode}
-use Rattle.sn_node_table.specs.Nodes.{Node, below_of, with_name}
+use Rattle.sn_node_table.specs.Nodes.{Node, with_name}
 use Rattle.sn_node_table.specs.Stored.{nodes_of, node_of}
-use Rattle.sn_maps.proofs.MapLemmas.{updated-seen_by, none-seen_by, same-updated, get-seen_by}
+use Rattle.sn_maps.proofs.MapLemmas.{updated-seen_by, none-seen_by, same-updated}
 use Rattle.sn_node_table.proofs.nodes.Nodes.put_name.Goals as goal
 
 pub returns-in-Some-clause-ok : goal.returns-in-Some-clause-ok
@@ -28,15 +25,3 @@ pub returns-in-None-clause-ok : goal.returns-in-None-clause-ok
 unfolding nodes_of
 returns-in-None-clause-ok c =
     none-seen_by nat_cmp node_of nat_cmp_total c.args.self.now.map.entries _ c.args.parent (with_name c.args.name c.args.id) (sym c.in-None.ensures.value) (ap (λ (m : BTreeMap ℕ StoredNode). m.entries) c.get_mut.follows.holds-at-none)
-
-pub returns-in-Some-clause-old : goal.returns-in-Some-clause-old
-unfolding nodes_of
-returns-in-Some-clause-old c =
-    let there = get-seen_by nat_cmp node_of nat_cmp_total c.args.self.now.map.entries c.args.parent ∙ ap (option_map node_of) (sym c.in-Some.ensures.value) in
-    IfOk-weaker c.put_name.result _ _ (λ _ old. old ∙ sym (ap (λ (o : Option Node). map.get (below_of o) c.args.name) there)) c.put_name.ensures.old
-
-pub returns-in-None-clause-old : goal.returns-in-None-clause-old
-unfolding nodes_of
-returns-in-None-clause-old c =
-    let there = get-seen_by nat_cmp node_of nat_cmp_total c.args.self.now.map.entries c.args.parent ∙ ap (option_map node_of) (sym c.in-None.ensures.value) in
-    sym (ap (λ (o : Option Node). map.get (below_of o) c.args.name) there ∙ map.get-empty (slice_cmp nat_cmp) c.args.name)

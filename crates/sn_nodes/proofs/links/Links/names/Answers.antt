@@ -11,7 +11,7 @@ pub returns-in-Some : goal.returns-in-Some
 unfolding directories_of
 returns-in-Some c =
     let there = names_there c.args.self.now.directories.entries c.args.directory (Some c.in-Some.names.now) (sym c.in-Some.ensures.value) in
-    IfOk-weaker c.words.result _ _ (λ _ listed. listed ∙ ap (λ (n : Named). map.keys n) (sym there)) c.words.ensures
+    IfOk-weaker c.words_of.result _ _ (λ _ listed. listed ∙ ap (λ (n : Named). map.keys n) (sym there)) c.words_of.ensures
 
 pub returns-in-None : goal.returns-in-None
 unfolding directories_of
