@@ -1,8 +1,10 @@
--- What a call comes to that brings a snapshot back.
+-- The outcome of a call that brings a snapshot back.
 use Rattle.std.specs.Prelude.{ℕ, ◌*◌, List}
 use Rattle.std.specs.FinMap as map
 use Rattle.sn_limits.specs.Versions.{limits_written}
-use Rattle.sn_model.specs.Outcomes.{Outcome, Restores, points_for}
+use Rattle.sn_model.specs.declared.outcome.AskedPoint.TheVariants.{Restores}
+use Rattle.sn_model.specs.declared.outcome.Outcome.{Outcome}
+use Rattle.sn_model.specs.Outcomes.{points_for}
 use Rattle.sn_model.specs.Settling.{nameless_if}
 use Rattle.sn_model.specs.World.{World}
 

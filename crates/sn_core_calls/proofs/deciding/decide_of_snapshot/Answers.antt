@@ -20,8 +20,8 @@ returns-in-SnapDelete g c = record {
   kept = c.requires.holds;
   follows = g.met.V.TreeView.follows_itself _;
   same = λ told. refl;
-  decided = λ told world shows. rw c.in-SnapDelete.is (c.unviewed.ensures.decided (in_world (in_use_of c.args.sessions.now) world) c.args.session _ (c.decide_snap_delete.ensures told world shows.trees_are));
-  refused = λ told world shown. rw c.in-SnapDelete.is (c.unviewed.ensures.refused (in_world (in_use_of c.args.sessions.now) world) c.args.session _ (c.decide_snap_delete.ensures told world shown));
+  decided = λ told world shows. c.unviewed.ensures.decided (in_world (in_use_of c.args.sessions.now) world) c.args.session c.args.call.now (rw c.in-SnapDelete.is (c.decide_snap_delete.ensures told world shows.trees_are));
+  refused = λ told world shown. c.unviewed.ensures.refused (in_world (in_use_of c.args.sessions.now) world) c.args.session c.args.call.now (rw c.in-SnapDelete.is (c.decide_snap_delete.ensures told world shown));
   cause = if_never _ c.unviewed.result c.unviewed.ensures.cause;
   numbers = rw c.in-SnapDelete.is (if_any c.unviewed.result);
 }

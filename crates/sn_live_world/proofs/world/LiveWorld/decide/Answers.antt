@@ -6,6 +6,7 @@ use Rattle.sn_live_world.specs.Turned.{Decides}
 use Rattle.sn_live_world.specs.World.{world_in}
 use Rattle.sn_ondisk.specs.Trees.{store_of}
 use Rattle.sn_rooted.specs.Roots.{AreSound, trees_at}
+use Rattle.sn_live_world.proofs.RefusalLemmas.{if_passed}
 use Rattle.sn_live_world.proofs.world.LiveWorld.decide.Goals as goal
 
 pub decide_read-requires-clause-readable : goal.decide_read-requires-clause-readable
@@ -18,3 +19,6 @@ decide_read-requires-clause-readable g c told =
 pub returns-in-None-clause-decided : goal.returns-in-None-clause-decided
 returns-in-None-clause-decided g c told =
     subst (λ (d : Disk). Decides (world_in c.args.self.now (trees_at (store_of (reads d)) c.args.root.now)) c.args.session c.args.call.now c.decide_read.result) c.decide_alone.ensures.same (c.decide_read.ensures.decided told)
+
+pub returns-in-None-clause-refused : goal.returns-in-None-clause-refused
+returns-in-None-clause-refused g c asked = if_passed _ _ (c.decide_alone.ensures.unrefused asked)
