@@ -70,7 +70,7 @@ impl<'a, D: Device> HasSnapshots for RootedTree<'a, D> {
     }
 
     fn snapshots(&self, alloc: Global) -> Result<Names, AllocError> {
-        names_of(alloc, &sn_snap::names(&self.root.snapshots))
+        names_of(alloc, &sn_snap::list(&self.root.snapshots))
     }
 
     fn frozen_node(

@@ -10,4 +10,4 @@ use Rattle.sn_rooted_tree.proofs.frozen.RootedTreeHasSnapshots.snapshots.Goals a
 pub returns : goal.returns
 returns g c told =
     let named = same_names entry_of (λ (s : Snapshot). image (store_on c.args.self.now.blocks.now) s.tree) c.args.self.now.root.now.snapshots in
-    IfOk-weaker c.names_of.result _ _ (λ names is. is ∙ c.deref.ensures.0 ∙ c.names.ensures ∙ named) c.names_of.ensures
+    IfOk-weaker c.names_of.result _ _ (λ names is. is ∙ c.deref.ensures.0 ∙ c.list.ensures ∙ named) c.names_of.ensures
