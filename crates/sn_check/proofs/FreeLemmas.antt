@@ -10,7 +10,7 @@ use Rattle.sn_ondisk.specs.MapCopy.{map_word}
 use Rattle.sn_ondisk.specs.Trees.{store_of}
 use Rattle.sn_sound.specs.Maps.{IsSetOfRoots, IsSoundRoot, free_blocks, rooted_in}
 use Rattle.sn_sound.proofs.FreeLemmas.{free_counted, words_counted}
-use Rattle.sn_check_map.specs.Words.{HasWords}
+use Rattle.sn_check_roots.specs.Words.{HasWords}
 
 -- words that are those of the copy describe the roots too
 words_tell : (n : ℕ) (c : Contents) (slot : Slot) (root : RootBody) (words : List ℕ) → IsSoundRoot n (store_of c) root (map_word n c slot) → HasWords n c slot words → IsSoundRoot n (store_of c) root (slice_index words)

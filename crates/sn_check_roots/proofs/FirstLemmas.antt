@@ -21,10 +21,10 @@ use Rattle.sn_sound.specs.Verdicts.{OfSome, Stands, group_of}
 use Rattle.sn_marks.specs.Marks.{Marks}
 use Rattle.sn_check_root.specs.Laws.{LinksMakeRootsSound, StandingFaultsAreReal}
 use Rattle.sn_check_root.specs.Rules.{IsSoundButLinks, StandsInRoot}
-use Rattle.sn_check_map.specs.Laws.{FitWords, OtherWordsStand, SetsBegin, SetsGrow}
-use Rattle.sn_check_map.specs.Sets.{AreSets}
-use Rattle.sn_check_map.specs.Words.{HasOtherWord}
-use Rattle.sn_check_map.specs.Words as word
+use Rattle.sn_check_roots.specs.Laws.{FitWords, OtherWordsStand, SetsBegin, SetsGrow}
+use Rattle.sn_check_roots.specs.Sets.{AreSets}
+use Rattle.sn_check_roots.specs.Words.{HasOtherWord}
+use Rattle.sn_check_roots.specs.Words as word
 use Rattle.sn_census.specs.Faults.{StandsInLinks}
 use Rattle.sn_check_roots.specs.First.{AreChecked, AreDone, AreLinked, AreMarked, IsFirstOf}
 use Rattle.sn_check_roots.proofs.RootedLemmas.{at_contains, each_more, own_bit}

@@ -1,3 +1,5 @@
+pub mod SetLemmas
+pub mod WordLemmas
 pub mod RootedLemmas
 pub mod FirstLemmas
 pub mod SeenLemmas

@@ -15,7 +15,7 @@ use Rattle.sn_image.specs.Sound.{IsLinked}
 use Rattle.sn_sound.specs.Maps.{IsReachedBy, Rooted, rooted_in}
 use Rattle.sn_marks.specs.Marks.{Marks}
 use Rattle.sn_check_root.specs.Rules.{IsSoundButLinks}
-use Rattle.sn_check_map.specs.Laws.{SetsGrow}
+use Rattle.sn_check_roots.specs.Laws.{SetsGrow}
 use Rattle.sn_check_roots.specs.First.{AreDone, AreLinked}
 use Rattle.sn_check_roots.specs.Seen.{IsFirstSeen}
 use Rattle.sn_check_roots.proofs.FirstLemmas.{clear_bit, done_more}

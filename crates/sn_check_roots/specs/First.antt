@@ -10,7 +10,7 @@ use Rattle.sn_image.specs.Sound.{IsLinked}
 use Rattle.sn_sound.specs.Maps.{Rooted, TellsRoots, rooted_in}
 use Rattle.sn_sound.specs.Verdicts.{Stands, group_of}
 use Rattle.sn_check_root.specs.Rules.{IsSoundButLinks}
-use Rattle.sn_check_map.specs.Sets.{AreSets}
+use Rattle.sn_check_roots.specs.Sets.{AreSets}
 
 -- Each of these roots is sound but for its links.
 abbrev pub AreChecked : ℕ → Store → RootBody → List Rooted → Type 0

@@ -7,10 +7,15 @@
 //! fault that is told is one of the first group that has one (`IsFirstOf`). Over a device that tells its bytes
 //! the answer is exact.
 //!
+//! Whoever goes through the roots sets in a `Map` the bit of each root for each block that it reaches. `AreSets` says what that
+//! comes to: the word of each block is the set of the roots that were gone through and reach it. It begins with zeros, and grows by
+//! each root whose bit no other has ([`set_laws`]). A copy of the map tells the roots (`TellsRoots` of `sn_sound`) exactly where
+//! each of its words is that of the marks, those past the last block of the disk too, which are 0.
+//!
 //! The way through: `rooted` lists the roots with their bits, and tells which earlier one has the same inode
 //! file; `marking` checks each but for its links (`sn_check_root`), which leaves its marks in one map;
-//! `sn_check_map` compares that with the copy on the disk; `linking` counts the names of each root
-//! (`sn_census`). A root whose inode file an earlier one has is read by neither: its marks are copied, and its
+//! `words` compares that with the copy on the disk, block after block, and tells the first word that is another
+//! ([`check_map`]); `linking` counts the names of each root (`sn_census`). A root whose inode file an earlier one has is read by neither: its marks are copied, and its
 //! links are those of that one. `checking` puts them together.
 //!
 //! What the sources leave open is decided in `docs/DECISIONS.md`, under "The image check".
@@ -22,8 +27,12 @@
 #![tactic(auto)]
 
 mod checking;
+mod laws;
 mod linking;
 mod marking;
 mod rooted;
+mod words;
 
 pub use checking::check_roots;
+pub use laws::set_laws;
+pub use words::check_map;

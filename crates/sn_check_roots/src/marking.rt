@@ -8,12 +8,12 @@ ghost use Rattle.sn_sound.specs.Maps.{rooted_in};
 ghost use Rattle.sn_sound.specs.Verdicts.{OfSome};
 ghost use Rattle.sn_marks.specs.Fault.{CountsCheck, Tells};
 ghost use Rattle.sn_check_root.specs.Rules.{StandsInRoot};
-ghost use Rattle.sn_check_map.specs.Sets.{AreSets};
+ghost use Rattle.sn_check_roots.specs.Sets.{AreSets};
 ghost use Rattle.sn_check_roots.specs.First.{AreChecked, AreDone};
 
+use crate::laws::set_laws;
 use crate::rooted::{root_at, root_count, seen_before};
 use sn_block::Blocks;
-use sn_check_map::set_laws;
 use sn_check_root::check_root;
 use sn_device::Device;
 use sn_layout::{Geometry, RootBody};

@@ -8,8 +8,8 @@ use Rattle.sn_ondisk.specs.Trees.{store_of}
 use Rattle.sn_sound.specs.Verdicts.{OfSome}
 use Rattle.sn_marks.proofs.WalkLemmas.{tells_weaker}
 use Rattle.sn_check_root.specs.Rules.{StandsInRoot}
-use Rattle.sn_check_map.specs.Laws.{FitWords}
-use Rattle.sn_check_map.specs.Words.{HasOtherWord, HasWords}
+use Rattle.sn_check_roots.specs.Laws.{FitWords}
+use Rattle.sn_check_roots.specs.Words.{HasOtherWord, HasWords}
 use Rattle.sn_check_roots.specs.First.{IsFirstOf}
 use Rattle.sn_check_roots.proofs.FirstLemmas.{body_at, first_root, first_word}
 use Rattle.sn_check_roots.proofs.checking.check_marks.Goals as goal

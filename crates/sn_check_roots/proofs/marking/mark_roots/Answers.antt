@@ -10,7 +10,7 @@ use Rattle.sn_sound.specs.Verdicts.{OfSome}
 use Rattle.sn_marks.specs.Fault.{Tells}
 use Rattle.sn_check_root.specs.Rules.{StandsInRoot}
 use Rattle.sn_check_root.proofs.DeviceLemmas.{stays_begun, stays_more, at_now, at_start}
-use Rattle.sn_check_map.specs.Sets.{AreSets}
+use Rattle.sn_check_roots.specs.Sets.{AreSets}
 use Rattle.sn_check_roots.specs.First.{AreChecked, AreDone}
 use Rattle.sn_check_roots.proofs.FirstLemmas.{done_none}
 use Rattle.sn_check_roots.proofs.marking.mark_roots.Goals as goal

@@ -1,8 +1,8 @@
 use Rattle.std.proofs.Common.{◌≡◌, IsTrue}
 use Rattle.sn_device.specs.Disk.{reads}
 use Rattle.sn_block.specs.Lending.{device_of}
-use Rattle.sn_check_map.specs.Words.{HasFirst}
-use Rattle.sn_check_map.proofs.words.check_map.Given as goal
+use Rattle.sn_check_roots.specs.Words.{HasFirst}
+use Rattle.sn_check_roots.proofs.words.check_map.Given as goal
 
 abbrev pub invariant-loop-i : goal.invariant-loop-i
 invariant-loop-i g l = record {

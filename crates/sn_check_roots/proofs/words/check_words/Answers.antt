@@ -1,6 +1,6 @@
 use Rattle.std.proofs.Common.{ℕ, List, subst}
-use Rattle.sn_check_map.specs.Words.{HasOther, in_block}
-use Rattle.sn_check_map.proofs.words.check_words.Goals as goal
+use Rattle.sn_check_roots.specs.Words.{HasOther, in_block}
+use Rattle.sn_check_roots.proofs.words.check_words.Goals as goal
 
 pub returns-in-Some-clause-fault : goal.returns-in-Some-clause-fault
 returns-in-Some-clause-fault g c told =

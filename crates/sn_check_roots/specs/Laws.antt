@@ -10,8 +10,8 @@ use Rattle.sn_image.specs.Reach.{reach}
 use Rattle.sn_sound.specs.Maps.{Rooted, TellsRoots, rooted_in}
 use Rattle.sn_sound.specs.Verdicts.{Stands}
 use Rattle.sn_marks.specs.Marks.{Marks}
-use Rattle.sn_check_map.specs.Sets.{AreSets}
-use Rattle.sn_check_map.specs.Words.{HasOtherWord, HasWords}
+use Rattle.sn_check_roots.specs.Sets.{AreSets}
+use Rattle.sn_check_roots.specs.Words.{HasOtherWord, HasWords}
 
 -- Before any root is gone through, all words are 0.
 abbrev pub SetsBegin : Type 0

@@ -5,7 +5,7 @@ ghost use Rattle.sn_block.specs.Counts.{CountsRead};
 ghost use Rattle.sn_block.specs.Lending.{device_of};
 ghost use Rattle.sn_ondisk.specs.Blocks.{block_at, numbers_in};
 ghost use Rattle.sn_marks.specs.Fault.{CountsCheck, Tells};
-ghost use Rattle.sn_check_map.specs.Words.{HasOther, HasOtherWord, HasWords, IsOther};
+ghost use Rattle.sn_check_roots.specs.Words.{HasOther, HasOtherWord, HasWords, IsOther};
 
 use sn_block::{Blocks, ReadFault};
 use sn_device::Device;

@@ -7,9 +7,9 @@ use Rattle.sn_layout.specs.declared.geometry.Area.TheVariants.{MapCopy}
 use Rattle.sn_layout.specs.Geometry.{map_blocks, start_of}
 use Rattle.sn_ondisk.specs.Blocks.{block_at, numbers_in}
 use Rattle.sn_marks.proofs.WalkLemmas.{tells_weaker}
-use Rattle.sn_check_map.specs.Words.{HasFirst, HasOtherWord, IsOther}
-use Rattle.sn_check_map.proofs.WordLemmas.{copy_end, first_more, first_none, other_here, words_moved}
-use Rattle.sn_check_map.proofs.words.check_map.Goals as goal
+use Rattle.sn_check_roots.specs.Words.{HasFirst, HasOtherWord, IsOther}
+use Rattle.sn_check_roots.proofs.WordLemmas.{copy_end, first_more, first_none, other_here, words_moved}
+use Rattle.sn_check_roots.proofs.words.check_map.Goals as goal
 
 pub loop-i-init : goal.loop-i-init
 loop-i-init g c = record { same = λ told. refl; status = refl; first = λ told. first_none _ _ _ _ }

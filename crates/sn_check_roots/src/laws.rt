@@ -1,5 +1,5 @@
 //! The laws that the definitions of `specs/` keep.
-ghost use Rattle.sn_check_map.specs.Laws.{OtherWordsStand, RightWordsTellRoots, SetsBegin, SetsGrow};
+ghost use Rattle.sn_check_roots.specs.Laws.{OtherWordsStand, RightWordsTellRoots, SetsBegin, SetsGrow};
 
 /// What the marks of all roots come to, and the words of a copy that are the same or others.
 ///

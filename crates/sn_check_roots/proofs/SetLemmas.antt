@@ -14,7 +14,7 @@ use Rattle.sn_image.proofs.ListLemmas.{none_in}
 use Rattle.sn_image.proofs.PieceLemmas.{cases, sum_one}
 use Rattle.sn_sound.specs.Maps.{Rooted, IsReachedBy, IsSetOfRoots}
 use Rattle.sn_marks.specs.Marks.{Marks}
-use Rattle.sn_check_map.specs.Sets.{AreSets}
+use Rattle.sn_check_roots.specs.Sets.{AreSets}
 
 -- ---- numbers and their bits
 

@@ -13,7 +13,7 @@ use Rattle.sn_model.specs.declared.fault.Damage.{Damage}
 use Rattle.sn_ondisk.specs.Blocks.{block_at, bytes_at, numbers_in}
 use Rattle.sn_ondisk.specs.MapCopy.{map_bytes, map_word, map_words}
 use Rattle.sn_ondisk.proofs.BlockLemmas.{bytes_at-more, length-bytes_at, length-numbers_in, numbers_in-numbers_bytes}
-use Rattle.sn_check_map.specs.Words.{HasFirst, HasOtherWord, IsOther, in_block, other}
+use Rattle.sn_check_roots.specs.Words.{HasFirst, HasOtherWord, IsOther, in_block, other}
 
 -- numbers of bytes that are one behind the other
 numbers_behind : (a b : ℕ) (xs ys : List ℕ) → length xs ≡ 4 * a → numbers_in (a + b) (xs ++ ys) ≡ numbers_in a xs ++ numbers_in b ys

@@ -2,8 +2,8 @@ use Rattle.std.proofs.Common.{ℕ, ◌+◌, ◌*◌, ◌≤◌, length, replicat
 use Rattle.std.proofs.lemmas.List.{length-replicate}
 use Rattle.sn_device.specs.Disk.{reads}
 use Rattle.sn_block.specs.Lending.{device_of}
-use Rattle.sn_check_map.proofs.WordLemmas.{words_read}
-use Rattle.sn_check_map.proofs.words.read_words.Goals as goal
+use Rattle.sn_check_roots.proofs.WordLemmas.{words_read}
+use Rattle.sn_check_roots.proofs.words.read_words.Goals as goal
 
 pub returns-clause-words : goal.returns-clause-words
 returns-clause-words g c told =

@@ -8,11 +8,11 @@ use Rattle.sn_ondisk.specs.MapCopy.{map_word}
 use Rattle.sn_ondisk.specs.Trees.{store_of}
 use Rattle.sn_sound.specs.Maps.{IsReachedBy, rooted_in}
 use Rattle.sn_sound.specs.Verdicts.{Stands}
-use Rattle.sn_check_map.specs.Laws.{FitWords}
-use Rattle.sn_check_map.specs.Sets.{AreSets}
-use Rattle.sn_check_map.specs.Words.{HasOtherWord, other}
-use Rattle.sn_check_map.proofs.SetLemmas.{same_sets, sets_begin, sets_grow}
-use Rattle.sn_check_map.proofs.laws.set_laws.Goals as goal
+use Rattle.sn_check_roots.specs.Laws.{FitWords}
+use Rattle.sn_check_roots.specs.Sets.{AreSets}
+use Rattle.sn_check_roots.specs.Words.{HasOtherWord, other}
+use Rattle.sn_check_roots.proofs.SetLemmas.{same_sets, sets_begin, sets_grow}
+use Rattle.sn_check_roots.proofs.laws.set_laws.Goals as goal
 
 pub returns-clause-begin : goal.returns-clause-begin
 returns-clause-begin c = sets_begin

@@ -1,2 +1,0 @@
-pub mod SetLemmas
-pub mod WordLemmas
