@@ -21,4 +21,4 @@ returns-in-None-clause-decided g c told =
     subst (λ (d : Disk). Decides (world_in c.args.self.now (trees_at (store_of (reads d)) c.args.root.now)) c.args.session c.args.call.now c.decide_read.result) c.decide_alone.ensures.same (c.decide_read.ensures.decided told)
 
 pub returns-in-None-clause-refused : goal.returns-in-None-clause-refused
-returns-in-None-clause-refused g c asked = if_passed _ _ (c.decide_alone.ensures.unrefused asked)
+returns-in-None-clause-refused g c asked = if_passed _ _ ((rw c.in-None.is at c.decide_alone.ensures.unrefused) asked)
