@@ -1,7 +1,7 @@
 -- Counts of calls one after another.
 use Rattle.std.proofs.Common.{◌≡◌, ◌⊎◌, inl, inr, ℕ, ◌+◌, ◌-◌, ◌^◌, ◌≤◌, ◌||◌, nat_le, true, IsTrue, Result, refl, sym, subst, ◌∙◌, ap, arith}
 use Rattle.std.proofs.lemmas.Bool.{le-leb, leb-true, or_cases, or_left, or_right}
-use Rattle.sn_device.specs.Status.{has_ended, one_failure}
+use Rattle.sn_device.specs.Status.{has_ended}
 use Rattle.sn_device.specs.declared.status.Status.{Status}
 use Rattle.sn_block.specs.Counts.{called, CountsCalls, IsLater}
 
@@ -40,9 +40,6 @@ later-join old mid new first second = record {
 
 pub later-calls : {T E : Type 0} (w y : ℕ) (r : Result T E) (old new : Status) → CountsCalls w y r old new → IsLater old new
 later-calls w y r old new counts = record { sectors = counts.sectors; failures = counts.failures; writes = counts.writes.0; syncs = counts.syncs.0; spent = counts.spent }
-
-later-failure : (s : Status) → IsLater s (one_failure s)
-later-failure s = record { sectors = refl; failures = omega arith; writes = omega arith; syncs = omega arith; spent = λ was. was }
 
 -- what has come to its end stays there
 still_top : (a b : ℕ) → nat_le (2 ^ 64 - 1) a ≡ true → a ≤ b → nat_le (2 ^ 64 - 1) b ≡ true

@@ -37,10 +37,8 @@
 //! - `blocks.rt` has the calls. `cache.rt` alone knows of `lru`: its contracts say what may still be
 //!   kept after each of its calls, which is all that the invariant needs.
 //! - `names.rt` has the calls on indexes of names.
-//! - `examples.rt` has three layers over any device, proved from these contracts alone. The first
-//!   lends two blocks in turn and has no proof file:
 //!
-//! What the sources leave open is decided in `docs/DECISIONS.md`, under "Blocks".
+//! A caller that lends two blocks in turn:
 //!
 //! ```text
 //! let first = blocks.read_block(first)?[0];
@@ -48,13 +46,11 @@
 //! Ok(first == second)
 //! ```
 //!
-//! The second copies a block. The third shows how a statement on crashes follows from the one clause
-//! on bytes: what every crash left in a sector beside, each one goes on to leave.
+//! What the sources leave open is decided in `DECISIONS.md` beside this folder.
 #![tactic(auto)]
 
 mod blocks;
 mod cache;
-pub mod examples;
 mod fault;
 mod names;
 

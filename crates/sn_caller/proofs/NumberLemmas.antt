@@ -63,9 +63,6 @@ same_numbers session c old new kept after is same =
     subst (λ (w : World). Numbers (event.Call session c) old kept w after) (sym is)
     (subst (λ (k : ℕ → Bool). Numbers (event.Call session c) old kept old k) (sym same) (at_rest session c old kept))
 
-pub step_numbers : (world : World) (kept : ℕ → Bool) → Numbers event.Step world kept world kept
-step_numbers world kept = record { next = λ n g. absurd (none_given world n g); keeps = λ n. refl }
-
 -- ---- what is there before a change and after it
 
 -- what is held is a file

@@ -342,10 +342,6 @@ decided_with_room old mid session c o ready whole points decided = subst (λ (w 
 
 -- ---- after the point in progress, and after one that makes room
 
--- What is asked for of a world is asked for of the same one.
-pub asks_still : (old fin : Held) (session : ℕ) (c : Call) → fin.world ≡ old.world → AsksFirst old session c → AsksFirst fin session c
-asks_still old fin session c same asked = record { asks = asked.asks; outcome = asked.outcome; decided = subst (λ (w : World). decision limits_written w session c ≡ Ok asked.outcome) (sym same) asked.decided }
-
 -- at once
 pub asked_at_once : (old new : Held) (session : ℕ) (c : Call) (reply : Reply) (has_stopped : Bool) → old.point ≡ None → ServesAsked reply old session c new has_stopped → Answers (event.Call session c) reply old false new has_stopped
 asked_at_once old new session c reply has_stopped between serves = in_its_world (event.Call session c) old new reply has_stopped between (λ r. (serves r).answers)

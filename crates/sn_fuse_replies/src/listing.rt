@@ -18,9 +18,6 @@ use std::marker::Model;
 /// The most bytes that a name in a listing has.
 pub const NAME_MAX: usize = 255;
 
-// How many bytes stand before a name.
-const NAME_OFFSET: usize = 24;
-
 // The most bytes that an entry has.
 const ENTRY_MAX: usize = 280;
 

@@ -81,12 +81,6 @@ may_escape b rest needs =
 abbrev begins : ℕ → ℕ → Bool → Bool
 begins high low more = are_digits high low || ((high == 50) && (low == 53) && more)
 
--- by the first two bytes
-pub makes_escape_at : (bytes : List ℕ) → 2 ≤ length bytes → makes_escape bytes ≡ begins (get_or bytes 0 0) (get_or bytes 1 0) (makes_escape (drop 2 bytes))
-makes_escape_at [] long = absurd (omega arith)
-makes_escape_at (b ∷ []) long = absurd (omega arith)
-makes_escape_at (b ∷ c ∷ rest) long = refl
-
 -- no `25` is in front
 pub makes_escape_ends : (bytes : List ℕ) → 2 ≤ length bytes → (get_or bytes 0 0 ≡ 50 → get_or bytes 1 0 ≡ 53 → ⊥) → makes_escape bytes ≡ are_digits (get_or bytes 0 0) (get_or bytes 1 0)
 makes_escape_ends [] long = absurd (omega arith)

@@ -1,5 +1,5 @@
 -- Where things lie on a disk of n blocks.
-use Rattle.std.specs.Prelude.{◌≡◌, ℕ, ◌+◌, ◌*◌, ◌/◌, ◌%◌, ◌<◌, ◌≤◌, ◌==◌, if◌then◌else◌, List, [], ◌∷◌}
+use Rattle.std.specs.Prelude.{ℕ, ◌+◌, ◌*◌, ◌/◌, ◌%◌, ◌<◌, ◌≤◌, ◌==◌, if◌then◌else◌}
 use Rattle.sn_layout.specs.declared.geometry.Area.{Area}
 use Rattle.sn_layout.specs.declared.geometry.Area.TheVariants.{Superblock, RootBody, Gates, MapCopy, Log, Data}
 use Rattle.sn_layout.specs.declared.geometry.Slot.{Slot}
@@ -44,15 +44,6 @@ end_of n Data = n
 pub record IsIn (n : ℕ) (area : Area) (block : ℕ) : Type 0 where
   pub from : start_of n area ≤ block
   pub below : block < end_of n area
-
--- each area as it follows on the disk
-abbrev pub areas : List Area
-areas = Superblock ∷ RootBody A ∷ RootBody B ∷ Gates ∷ MapCopy A ∷ MapCopy B ∷ Log Zero ∷ Log One ∷ Data ∷ []
-
--- from a block on the areas follow one another without a gap, none of them empty, to the end of the disk
-abbrev pub Follow : ℕ → ℕ → List Area → Type 0
-Follow n from [] = from ≡ n
-Follow n from (area ∷ more) = (start_of n area ≡ from) × (from < end_of n area) × Follow n (end_of n area) more
 
 -- the sector of a slot's gate
 abbrev pub gate_sector : Slot → ℕ

@@ -9,7 +9,7 @@
 //! | 36 + 2M to 67 + 2M | log half 1 |
 //! | 68 + 2M to N - 1 | data area |
 ghost use Rattle.std.specs.Prelude.{◌≡◌, ℕ, ◌+◌, ◌*◌, ◌<◌, ◌≤◌, ◌↔◌, IsSome, IfSome, IsTrue};
-ghost use Rattle.sn_layout.specs.Geometry.{IsDiskSize, Follow, areas};
+ghost use Rattle.sn_layout.specs.Geometry.{IsDiskSize};
 
 use crate::{SECTORS_PER_BLOCK, WORDS_PER_BLOCK};
 use std::marker::Model;
@@ -81,8 +81,7 @@ pub enum Area {
 
 /// Where things lie on a disk of so many blocks.
 ///
-/// Proved, also of `areas_cover_the_disk`: The areas of a disk of 256 to 1,048,576 blocks follow one another without a gap
-/// and cover it.
+/// Proved, also of `Geometry::area_of`: Each block of a disk of 256 to 1,048,576 blocks is in exactly one area.
 #[derive(Clone, Copy, PartialEq, Eq, Hash)]
 pub struct Geometry {
     blocks: u32,
@@ -220,8 +219,3 @@ impl Geometry {
         }
     }
 }
-
-/// The areas follow one another from the first block to the last, without a gap, and none is empty.
-pub fn areas_cover_the_disk()
-    ensures { (n : ℕ) → IsDiskSize n → Follow n 0 areas }
-{}

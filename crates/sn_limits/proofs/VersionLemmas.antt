@@ -1,6 +1,5 @@
 -- The numbers of all versions.
-use Rattle.std.proofs.Common.{◌≡◌, ℕ, ◌^◌, ◌<◌, ◌≤◌, Bool, true, false, cond, ◌==◌, Some, None, refl, sym, subst, arith}
-use Rattle.std.proofs.lemmas.Bool.{eqb-true}
+use Rattle.std.proofs.Common.{◌≡◌, ℕ, ◌^◌, ◌<◌, ◌≤◌, Bool, true, false, cond, ◌==◌, Some, None, refl, subst, arith}
 use Rattle.sn_limits.specs.declared.limits.Limits.{Limits}
 use Rattle.sn_limits.specs.Versions.{Allows, limits_of, limits_written, version_1, version_2}
 
@@ -74,12 +73,3 @@ fixed = each_version AreFixed
       block_charge = omega arith;
       reserve = refl;
     })
-
--- the limits of a version are those of their own version
-pub own_version : (version : ℕ) (limits : Limits) → limits_of version ≡ Some limits → limits.version ≡ version
-own_version version limits e = told (version == 1) (version == 2) refl refl e
-  where
-    told : (a b : Bool) → (version == 1) ≡ a → (version == 2) ≡ b → cond a (Some version_1) (cond b (Some version_2) None) ≡ Some limits → limits.version ≡ version
-    told true b one two is = subst (λ (l : Limits). l.version ≡ version) (same_some version_1 limits is) (sym (eqb-true version 1 one))
-    told false true one two is = subst (λ (l : Limits). l.version ≡ version) (same_some version_2 limits is) (sym (eqb-true version 2 two))
-    told false false one two is = absurd cc

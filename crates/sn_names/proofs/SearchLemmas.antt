@@ -11,11 +11,7 @@ use Rattle.sn_names.specs.Search.{IsAtMost, IsNext, HasAll}
 pub sorted_has_all : (xs ys zs both : List ℕ) → both ≡ xs ++ ys → IsPermutation both zs → HasAll (xs ++ ys) zs
 sorted_has_all xs ys zs both e p n h = Contains-permutation both zs n p (subst (λ (l : List ℕ). Contains l n) (sym e) h)
 
--- a search finds the number itself
-pub next_found : (xs : List ℕ) (from : ℕ) → IsNext from xs (Some from)
-next_found xs from = record { after = omega arith; least = λ n h le. le }
-
--- or the place where it would be
+-- a search finds the place where a number would be
 pub next_after : (xs : List ℕ) (from at : ℕ) → IsNonDecreasing xs → ((k : ℕ) → k < at → get_or xs k 0 < from) → ((k : ℕ) → at ≤ k → k < length xs → from < get_or xs k 0) → at < length xs → IsNext from xs (Some (get_or xs at 0))
 next_after xs from at rises below above within = record {
   after = let h = above at (omega arith) within in omega arith;

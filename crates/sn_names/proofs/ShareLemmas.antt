@@ -1,5 +1,5 @@
 -- What an index takes over from another one.
-use Rattle.std.proofs.Common.{◌≡◌, ◌≢◌, ◌⊎◌, inl, inr, ℕ, ◌+◌, ◌*◌, ◌%◌, ◌<◌, ◌≤◌, ◌==◌, not, ◌&&◌, Bool, true, false, List, Option, Some, None, is_some, length, get_or, slice_index, refl, sym, ap, subst, ◌∙◌, arith}
+use Rattle.std.proofs.Common.{◌≡◌, ◌≢◌, ◌⊎◌, inl, inr, ℕ, ◌+◌, ◌*◌, ◌%◌, ◌<◌, ◌≤◌, ◌==◌, not, ◌&&◌, Bool, true, false, List, Option, Some, None, is_some, length, get_or, slice_index, refl, sym, ap, subst, arith}
 use Rattle.std.specs.List.{Contains}
 use Rattle.std.proofs.lemmas.Bool.{cases_lt, eqb-true, eqb-false}
 use Rattle.std.proofs.lemmas.List.{get_or_past}
@@ -15,18 +15,6 @@ use Rattle.sn_names.proofs.LearnLemmas.{knows_more}
 pub shares_past : (numbers others : List ℕ) (rooms : List (Option ℕ)) (i : ℕ) → length numbers ≤ i → shares numbers others rooms i ≡ false
 shares_past numbers others rooms i past =
     ap (λ (n : ℕ). not (n == 0) && (n == slice_index others i) && is_some (get_or rooms i None)) (get_or_past numbers i 0 past)
-
-shared_zero : (n : ℕ) (known : Bool) → (not (n == 0) && (n == 0) && known) ≡ false
-shared_zero n known = by_test (n == 0)
-  where
-    by_test : (b : Bool) → (not b && b && known) ≡ false
-    by_test true = refl
-    by_test false = refl
-
-pub shares_other_past : (numbers others : List ℕ) (rooms : List (Option ℕ)) (i : ℕ) → length others ≤ i → shares numbers others rooms i ≡ false
-shares_other_past numbers others rooms i past =
-    ap (λ (m : ℕ). not (slice_index numbers i == 0) && (slice_index numbers i == m) && is_some (get_or rooms i None)) (get_or_past others i 0 past)
-    ∙ shared_zero (slice_index numbers i) (is_some (get_or rooms i None))
 
 shared : (n m : ℕ) (known : Bool) → (not (n == 0) && (n == m) && known) ≡ true → (n ≢ 0) × (n ≡ m)
 shared n m known is = by_test (n == 0) (n == m) refl refl is

@@ -23,10 +23,6 @@ ShowsState g = moments.ShowsState (OpensOn g)
 abbrev pub ShowsOne : Ground → List State → Contents → Type 0
 ShowsOne g = moments.ShowsOne (OpensOn g)
 
--- An event leads from a state to the next, and a crash leaves one of the two.
-abbrev pub LastsOver : Ground → State → State → Disk → Disk → Type 0
-LastsOver g = moments.LastsOver (OpensOn g)
-
 -- Events, one after the other, lead to these states so.
 abbrev pub RunsOver : Ground → State → Disk → List State → Disk → Type 0
 RunsOver g = moments.RunsOver (OpensOn g)

@@ -4,7 +4,7 @@ ghost use Rattle.sn_device.specs.Disk.{reads};
 ghost use Rattle.sn_block.specs.Lending.{device_of};
 ghost use Rattle.sn_layout.specs.Pointers.{levels_of};
 ghost use Rattle.sn_ondisk.specs.Trees.{store_of, tree_reach};
-ghost use Rattle.sn_tree.specs.Orders.{AreInOrder, KeepsWithin};
+ghost use Rattle.sn_tree.specs.Orders.{AreInOrder};
 ghost use Rattle.sn_tree.specs.Replanned.{IsPlanned};
 ghost use Rattle.sn_tree.specs.Steps.{IsTooFull, LeadsOutsideAt, CountsPlan};
 ghost use Rattle.sn_tree.specs.declared.fault.PlanFault.TheVariants.{Tree};
@@ -24,8 +24,8 @@ pub struct Dirty {
     /// How many bytes it is to have.
     pub size: u64,
     /// How many of its data blocks stay, counted from the first one, where they aren't dirty. Those
-    /// behind them are cut off. So that the tree ends at its size, none of them may begin past it
-    /// (`keeps_within`), and the one that a cut goes through has to be dirty, or a hole, or zeros from there on:
+    /// after them are cut off. So that the tree ends at its size, none of them may begin past it
+    /// (`KeepsWithin`), and the one that a cut goes through has to be dirty, or a hole, or zeros from there on:
     /// where it stays as it was, so do its bytes past the size.
     pub keep: u64,
     /// The data blocks with other bytes, their indices rising. None begins past the size (`is_in_order`).
@@ -36,8 +36,7 @@ impl Dirty {
     /// Whether the indices of the dirty blocks rise, and each begins before the new size. A plan takes no
     /// others, since one past the end would have no place in the tree.
     ///
-    /// Proved, also of `Dirty::keeps_within`: The tests are exact whether dirty blocks are ones that a plan takes, rising
-    /// and none past the new end, and whether what stays begins before it.
+    /// Proved: The test is exact whether dirty blocks are ones that a plan takes, rising and none past the new end.
     pub fn is_in_order(&self) -> bool
         ensures { IsTrue result ↔ AreInOrder self.now.size self.now.blocks.items }
     {
@@ -54,13 +53,6 @@ impl Dirty {
             least = index + 1;
         }
         true
-    }
-
-    /// Whether none of the blocks that stay begins past the new size.
-    pub fn keeps_within(&self) -> bool
-        ensures { IsTrue result ↔ KeepsWithin self.now.size self.now.keep }
-    {
-        self.keep <= self.size.div_ceil(BLOCK_SIZE as u64)
     }
 }
 

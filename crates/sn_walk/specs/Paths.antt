@@ -1,6 +1,6 @@
 -- Paths: POSIX.1-2017, 3.271 Pathname. That a path is absolute, and which of its faults is told first, are rules of this project.
 use Rattle.std.specs.Prelude.{ℕ, ◌==◌, nat_lt, List, [], ◌∷◌, length, Option, None, Some, Result, Ok, Err, if◌then◌else◌}
-use Rattle.std.specs.List.{list_all, slice_split, flat_map}
+use Rattle.std.specs.List.{list_all, slice_split}
 use Rattle.sn_walk.specs.declared.fault.PathFault.{PathFault}
 use Rattle.sn_walk.specs.declared.fault.PathFault.TheVariants.{Misspelt, TooLong}
 use Rattle.sn_limits.specs.Names.{is_name_spelled, has_name_length}
@@ -18,11 +18,6 @@ pieces_of (Some text) = pieces text
 abbrev pub components : List ℕ → List (List ℕ)
 components [] = []
 components (b ∷ bs) = pieces (b ∷ bs)
-
--- the one spelling of a path: a slash before each name, or a slash alone
-abbrev pub spelling : List (List ℕ) → List ℕ
-spelling [] = 47 ∷ []
-spelling (name ∷ names) = flat_map (λ n. 47 ∷ n) (name ∷ names)
 
 -- names that are all spelled as names: the path, or a fault where one is too long
 abbrev pub of_length : List (List ℕ) → Result (List (List ℕ)) PathFault
