@@ -24,7 +24,7 @@ pub struct Dirty {
     /// How many bytes it is to have.
     pub size: u64,
     /// How many of its data blocks stay, counted from the first one, where they aren't dirty. Those
-    /// behind them are cut off. So that the tree ends at its size, none of them may begin past it
+    /// after them are cut off. So that the tree ends at its size, none of them may begin past it
     /// (`keeps_within`), and the one that a cut goes through has to be dirty, or a hole, or zeros from there on:
     /// where it stays as it was, so do its bytes past the size.
     pub keep: u64,
