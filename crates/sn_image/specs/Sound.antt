@@ -2,7 +2,7 @@
 -- - each pointer names a block of the data area, and no block is reached twice: `IsPlaced`;
 -- - the size of the inode file, and the indices past the end of any tree: `IsInodeFile`, `EndsAtSize`;
 -- - the spelling of records, of ACL blocks and of directory blocks: `HasRecords`, `HasAcls`, `HasBlocks`. That the links of
--- a directory are 1 and those of a file at most 32,767, that up to 64 bytes are in the inode, and that the sixteen pointers
+--   a directory are 1 and those of a file at most 32,767, that up to 64 bytes are in the inode, and that the sixteen pointers
 --   of indices past the size are 0, is in the spelling of a record; which numbers and names a directory block can have, and
 --   that none of them crosses the block, in the spelling of that; that the entries of ACLs are valid and in order, and not
 --   both lists empty, in the spelling of those;

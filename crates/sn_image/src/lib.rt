@@ -17,7 +17,7 @@
 //!
 //! The way through the laws, each of them named by the contract of a function that does nothing:
 //! - `image_laws`: the node of a number is that of its inode, and the name of a directory denotes the
-//! number that is listed with it there. Above this crate `image` is known by these two alone.
+//!   number that is listed with it there. Above this crate `image` is known by these two alone.
 //! - `footprints`: images and reach depend on the blocks that are reached, and so on a disk on the sectors
 //!   of those. A write elsewhere changes neither.
 //! - `reach_laws`: a root reaches a block as often as the inode file and its inodes do together.
