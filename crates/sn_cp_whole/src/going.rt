@@ -60,7 +60,7 @@ pub struct Begun {
 }
 
 /// Begins a point of what changed since the root that counts, with the snapshots that are asked for. From then on the log
-/// goes on under the next epoch, after the root that is being made, and what changes goes into an overlay of its own, with
+/// continues under the next epoch, after the root that is being made, and what changes goes into an overlay of its own, with
 /// room for so many drops of files. Where a snapshot is to be brought back, what changed is what drops the files without
 /// names of its tree; nothing may then be logged before the point is finished.
 ///
