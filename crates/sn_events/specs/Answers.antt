@@ -321,7 +321,7 @@ LeavesCall old mid session c (Some m) new = IsUnchanged m mid new
 abbrev pub IsCutLast : Held → Disk → Status → Type 0
 IsCutLast old disk status = IsCutPoint (BuildsLast old) old disk status ⊎ IsCutFinish old event.Restart disk status
 
--- A step has begun a point of what changed since the root, with a write and a sync: the log goes on in the other half, under the next epoch. Nothing is charged, has changed or is kept back since.
+-- A step has begun a point of what changed since the root, with a write and a sync: the log continues in the other half, under the next epoch. Nothing is charged, has changed or is kept back since.
 pub record HasBegun (old new : Held) : Type 0 where
   pub between : old.point ≡ None
   pub going : Going

@@ -18,7 +18,7 @@ use std::marker::Model;
 /// The most bytes that a name in a listing has.
 pub const NAME_MAX: usize = 255;
 
-// How many bytes stand before a name.
+// How many bytes are before a name.
 const NAME_OFFSET: usize = 24;
 
 // The most bytes that an entry has.
@@ -42,7 +42,7 @@ impl EntryKind {
 /// One entry of a listing.
 #[derive(Clone, Copy, PartialEq, Eq, Debug)]
 pub struct DirectoryEntry<'a> {
-    /// The number that `d_ino` tells.
+    /// The number that `d_ino` reports.
     pub number: u64,
     /// What a later READDIR gives to begin after this entry.
     pub offset: u64,
