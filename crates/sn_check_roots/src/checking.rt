@@ -83,7 +83,7 @@ fn check_marks<D: Device>(
 /// Checks all roots of a disk, the live one and those of its snapshots: the pointers and the spelling of each,
 /// then the words of the slot's copy of the map, then the names and links of each. At `Ok` they are sound, and
 /// the map that is answered has the words of the copy. What is reported otherwise is so, and nothing of an earlier
-/// group does. The memory for the map and for the count of names is taken here.
+/// group is. The memory for the map and for the count of names is taken here.
 ///
 /// Proved: At `Ok` all roots of a disk, the live one and those of its snapshots, are sound, and the words of the slot's copy
 /// of the map are those of what they reach; the map that is returned has those words.

@@ -12,7 +12,7 @@ use sn_layout::{Geometry, LogHalf};
 use sn_log::{Log, close_half};
 
 /// Clears the first place of the half that the root's own epoch doesn't have, and has the log continue there: what is logged
-/// from then on, while the point runs, comes behind its root. It reads a gate, so memory may be refused, before its one
+/// from then on, while the point runs, comes after its root. It reads a gate, so memory may be refused, before its one
 /// write. Where it isn't done, the log continues as it did.
 ///
 /// Proved: A point begins with one write and one sync in the half of the next epoch: a crash at any moment of it leaves the

@@ -351,7 +351,7 @@ pub record HasEnded (old new : Held) : Type 0 where
   pub finished : HasFinished old new
   pub last : finished.going.stage ≡ Bodied
 
--- A step says that there is more where it has begun a point or gone on with one, and that it is done where the tree that was frozen became
+-- A step says that there is more where it has begun or continued a point, and that it is done where the tree that was frozen became
 -- durable: it writes outside the root that counts.
 pub record HasStepped (reply : Reply) (old new : Held) : Type 0 where
   pub touched : Touches (IsBesideRoot old) old.disk new.disk

@@ -31,7 +31,7 @@ pub struct Head {
 /// What bytes say.
 #[derive(Drop)]
 pub enum Decoded<'a> {
-    /// No head with a length of bytes that are there: they can't even be answered.
+    /// No head, or one whose length the bytes don't have: they can't even be answered.
     Short,
     /// An opcode that isn't known here.
     Unknown { head: Head },
@@ -64,7 +64,7 @@ fn read_head(reader: &mut Reader<'_>) -> Head
     }
 }
 
-// The head, and the body by its length; `None` where that many bytes aren't there.
+// The head, and the body by its length; `None` where the bytes have no such length.
 fn read_frame(bytes: &[u8]) -> Option<(Head, &[u8])>
     ensures found { IfSome result (λ frame. Frames bytes.now frame.0 frame.1.now) }
     ensures none { IsNone result → IsShort bytes.now }

@@ -11,7 +11,7 @@
 //!   says that the disk shows a root with records that make of its tree one that covers the live one, and `RunsReady` that a
 //!   point can begin of what changed since.
 //! - `Events`: what a call leaves of the tree, and its append of the records.
-//! - `Moments`: what contents are an image of while events go on.
+//! - `Moments`: what contents are an image of while events continue.
 //!
 //! What the sources leave open is decided in `docs/DECISIONS.md`, under "What a disk opens to".
 #![tactic(auto)]

@@ -78,7 +78,7 @@ pub record IsStored (n : ℕ) (d : Disk) (slot : Slot) (plan : Plan) : Type 0 wh
   pub blocks : Always d (λ c. HoldsAll (store_of c) plan.blocks)
   pub map : Always d (λ c. HasMap n c slot plan.words)
 
--- A point has come so far, in the slot that is to be replaced.
+-- A point is this far, in the slot that is to be replaced.
 abbrev pub HasReached : ℕ → Disk → Slot → Plan → Stage → Type 0
 HasReached n d slot plan (Blocks k) = HoldsAll (store_of (reads d)) (take k plan.blocks)
 HasReached n d slot plan (MapBlocks k) = (k ≤ map_blocks n) × HoldsAll (store_of (reads d)) plan.blocks × HasMapBlocks n (reads d) slot plan.words k
