@@ -1,4 +1,4 @@
--- A table whose keys are lent names, against the finite map that it stands for, and the map that accounts make one after the other.
+-- A table whose keys are lent names, against the finite map that it denotes, and the map that accounts make one after the other.
 use Rattle.std.proofs.Common.{◌≡◌, ℕ, Bool, true, false, cond, List, [], ◌∷◌, ◌++◌, Option, Some, None, is_some, map, refl, sym, ap, ◌∙◌, ⊎_elim, Bor, append_assoc}
 use Rattle.std.specs.Prelude.{All, ◌==◌}
 use Rattle.std.specs.List.{slice_split}
@@ -91,7 +91,7 @@ find-known told k q v known =
     (λ other. ap (λ b. option_or (fin.find (slice_cmp nat_cmp) q told) (cond b (Some v) None)) other ∙ or_none _)
     (cases_Bool (eq_by_cmp (slice_cmp nat_cmp) q k))
 
--- a line that tells of a name anew, and one that tells of a new name
+-- a line with a name that an earlier one has, and one with a new name
 pub told_again : (told : Told) (o : Option (List ℕ × ℕ)) (k : List ℕ) (v : ℕ) → Some (k, v) ≡ o → is_some (fin.get (told_map told) k) ≡ true → told_map told ≡ told_map (told ++ option_to_list o)
 told_again told o k v e known =
     let there : is_some (fin.find (slice_cmp nat_cmp) k told) ≡ true = ap is_some (sym (fin.get-from_entries nat_list_cmp_total told k)) ∙ known in

@@ -1,4 +1,4 @@
--- Which names and numbers the text of /etc/passwd or /etc/group tells.
+-- Which names and numbers the text of /etc/passwd or /etc/group has.
 use Rattle.std.specs.Prelude.{ℕ, ◌^◌, Bool, false, not, ◌&&◌, ◌||◌, ◌==◌, nat_le, if◌then◌else◌, List, [], ◌∷◌, ◌++◌, drop, Option, None}
 use Rattle.std.specs.List.{before_first, after_first, position_or_len, slice_split}
 use Rattle.std.specs.Option.{option_map, option_to_list}
@@ -18,7 +18,7 @@ is_blank b = (b == 32) || (nat_le 9 b && nat_le b 13)
 abbrev pub past_blanks : List ℕ → List ℕ
 past_blanks line = drop (position_or_len (λ b. not (is_blank b)) line) line
 
--- whether a line that begins so tells an account: no comment, no mark of another source of names, and some name
+-- whether a line that begins so has an account: no comment, no mark of another source of names, and some name
 abbrev pub begins_account : List ℕ → Bool
 begins_account [] = false
 begins_account (b ∷ name) = not ((b == 35) || (b == 43) || (b == 45))
@@ -30,15 +30,15 @@ account_in line =
     let number = before_first is_colon (after_first is_colon (after_first is_colon line)) in
     if begins_account name then option_map (λ n. (name, n)) (number_below (2 ^ 32) number) else None
 
--- the account that a line tells
+-- the account of a line
 unfoldable pub account_of : List ℕ → Option (List ℕ × ℕ)
 account_of line = account_in (past_blanks line)
 
--- those that lines tell, in their order
+-- those of lines, in their order
 abbrev pub accounts_in : List (List ℕ) → List (List ℕ × ℕ)
 accounts_in [] = []
 accounts_in (line ∷ lines) = option_to_list (account_of line) ++ accounts_in lines
 
--- those that a text tells
+-- those of a text
 abbrev pub accounts_of : List ℕ → List (List ℕ × ℕ)
 accounts_of text = accounts_in (slice_split is_line_end text)

@@ -52,7 +52,7 @@ impl<'a> Accounts<'a> {
         Ok(())
     }
 
-    // Takes in what a line tells, unless an earlier line told of the name.
+    // Takes in the account of a line, unless an earlier line has the name.
     fn add_line(&mut self, line: &'a [u8]) -> Result<(), AllocError>
         ensures { OnOk result ((told : List (List ℕ × ℕ)) → self.old ≡ map.from_entries told → self.new ≡ map.from_entries (told ++ option_to_list (account_of line.now))) }
     {
@@ -66,10 +66,10 @@ impl<'a> Accounts<'a> {
         Ok(())
     }
 
-    /// Those that a text tells, as the C library's files tell them: of two lines with one name the first counts. An error is a
+    /// Those of a text, as the C library reads them from files: of two lines with one name the first counts. An error is a
     /// want of memory.
     ///
-    /// Proved: A text is read as the map of the accounts that its lines tell, in which the first line with a name counts.
+    /// Proved: A text is read as the map of the accounts of its lines, in which the first line with a name counts.
     pub fn read(alloc: Global, text: &'a [u8]) -> Result<Self, AllocError>
         ensures { IfOk result (λ accounts. accounts ≡ map.from_entries (accounts_of text.now)) }
     {

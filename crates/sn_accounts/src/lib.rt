@@ -2,11 +2,11 @@
 //! into the ACLs of an archive, and an image knows numbers alone.
 //!
 //! A line is `NAME:PASSWORD:NUMBER`, and whatever follows another colon isn't looked at. As in getpwnam() over files (glibc), blanks
-//! before the name go, and of two lines with one name the first counts. No account is told by a line that is empty or a comment
+//! before the name go, and of two lines with one name the first counts. No account is in a line that is empty or a comment
 //! (`#`), by one that sends to another source of names (`+`, `-`), and by one whose number isn't of 32 bits, in decimal digits
 //! without zeros before them.
 //!
-//! The model. `account_of` says what a line tells, `accounts_of` what a text does, in the order of its lines, and `Accounts` is the
+//! The model. `account_of` is the account of a line, `accounts_of` those of a text, in the order of its lines, and `Accounts` is the
 //! finite map of these, which has the first number of each name.
 //!
 //! The way through: `lines` reads a line, and `accounts` has the table.

@@ -1,4 +1,4 @@
-//! What a line tells.
+//! What a line says.
 ghost use Rattle.std.specs.Prelude.{◌≡◌, ◌^◌, not, position, IfOk};
 ghost use Rattle.std.specs.List.{before_first, after_first};
 ghost use Rattle.std.specs.Option.{option_map};
@@ -73,7 +73,7 @@ pub struct Account<'a> {
     pub number: u32,
 }
 
-/// The account that a line tells, if it tells one. An error is a want of memory.
+/// The account of a line, if it has one. An error is a want of memory.
 #[tactic(auto, unfolding(crate::specs::Lines::account_of))]
 pub fn account_of(line: &[u8]) -> Result<Option<Account<'_>>, AllocError>
     ensures { IfOk result (λ told. option_map (λ a. (a.name.now, a.number)) told ≡ lines.account_of line.now) }

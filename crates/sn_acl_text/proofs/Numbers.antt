@@ -16,7 +16,7 @@ number_is digits n small is =
     let same : bytes_eq digits (decimal (digits_value 10 digits)) ≡ true = (bytes_eq-Decides digits (decimal (digits_value 10 digits))).1 (is ∙ ap decimal (sym value)) in
     ap (λ (b : Bool). cond (b && nat_lt (digits_value 10 digits) 4294967296) (Some (digits_value 10 digits)) None) same ∙ ap (λ v. cond (nat_lt v 4294967296) (Some v) None) value
 
--- a number of 32 bits is told, and another isn't
+-- a number of 32 bits is read, and another isn't
 pub as_tried : {E : Type 0} (tried : Result ℕ E) (n : ℕ) → OkIff tried (n < 4294967296) n → result_ok tried ≡ cond (nat_lt n 4294967296) (Some n) None
 as_tried (Ok x) n is = ap (λ v. Some v) is.1 ∙ sym (ap (λ (b : Bool). cond b (Some n) None) (lt-ltb n 4294967296 is.0))
 as_tried (Err e) n is =

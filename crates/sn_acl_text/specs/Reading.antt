@@ -71,7 +71,7 @@ is_word word long short = bytes_eq word long || bytes_eq word short
 abbrev pub plain : Whom → Fields → Option Whom
 plain whom fields = if (length fields.qualifier == 0) && (length fields.number == 0) then Some whom else None
 
--- an entry of the object's own user or group, or of the one that is told
+-- an entry of the object's own user or group, or of the one that is given
 abbrev pub own_or : Whom → (Qualifier → Whom) → Fields → Option Whom
 own_or own of fields = if length fields.qualifier == 0 then plain own fields else option_map of (qualifier_of fields)
 
@@ -83,7 +83,7 @@ whom_of fields =
     if is_word fields.kind (codes "mask") (codes "m") then plain Mask fields else
     if is_word fields.kind (codes "other") (codes "o") then plain Other fields else None
 
--- an entry for somebody with some rights, if both are told
+-- an entry for somebody with some rights, if both are given
 abbrev pub with_rights : Option Whom → Option ℕ → Option TextEntry
 with_rights None rights = None
 with_rights (Some whom) None = None

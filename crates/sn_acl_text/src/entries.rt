@@ -31,11 +31,11 @@ impl<'a> Name<'a> {
     }
 }
 
-/// A user or a group, as a text tells it.
+/// A user or a group, as a text gives it.
 #[derive(Drop)]
 pub enum Qualifier<'a> {
     Number(u32),
-    /// A name, whose number the text doesn't tell.
+    /// A name, whose number the text doesn't give.
     Name(Name<'a>),
 }
 
@@ -61,7 +61,7 @@ impl Default for Whom<'_> {
     }
 }
 
-/// An entry of a text. That of others, which grants nothing, where none is told.
+/// An entry of a text. That of others, which grants nothing, where none is given.
 #[derive(Default, Drop)]
 pub struct TextEntry<'a> {
     pub whom: Whom<'a>,

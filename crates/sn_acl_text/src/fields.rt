@@ -86,7 +86,7 @@ impl<'a> Fields<'a> {
         }
     }
 
-    // Whether nobody is told.
+    // Whether nobody is given.
     fn is_plain(&self) -> bool
         ensures { result ≡ ((length self.now.qualifier == 0) && (length self.now.number == 0)) }
     {
@@ -108,7 +108,7 @@ impl<'a> Fields<'a> {
         if self.is_plain() { Some(whom) } else { None }
     }
 
-    // An entry of the object's own user, or of the user that is told.
+    // An entry of the object's own user, or of the user that is given.
     fn user(&self) -> Option<Whom<'a>>
         ensures { result ≡ reading.own_or Whom.UserObj Whom.User self.now }
     {
@@ -121,7 +121,7 @@ impl<'a> Fields<'a> {
         }
     }
 
-    // An entry of the object's own group, or of the group that is told.
+    // An entry of the object's own group, or of the group that is given.
     fn group(&self) -> Option<Whom<'a>>
         ensures { result ≡ reading.own_or Whom.GroupObj Whom.Group self.now }
     {

@@ -1,4 +1,4 @@
-//! The entries of a value, as they stand there and as entries of an ACL.
+//! The entries of a value, as they are there and as entries of an ACL.
 ghost use Rattle.std.specs.Prelude.{◌≡◌, ℕ, ◌+◌, ◌*◌, ◌<◌, ◌≤◌, List, ◌++◌, length, true, Some, IfSome};
 ghost use Rattle.std.specs.List.{AllByRecursion, list_all};
 ghost use Rattle.sn_acl.specs.Entries.{qualifier_of};
@@ -15,7 +15,7 @@ use sn_bytes::{Reader, put_u16, put_u32};
 /// The bytes of an entry.
 pub const ENTRY_SIZE: usize = 8;
 
-// What stands for a user or a group where the tag has none.
+// What is in place of a user or a group where the tag has none.
 const NO_ID: u32 = 0xffff_ffff;
 
 /// The numbers of an entry, which may be those of none.

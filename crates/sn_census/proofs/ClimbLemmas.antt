@@ -5,7 +5,7 @@ use Rattle.sn_census.specs.Climbs.{AreClimbed, AreUnclimbed, LeadsUp, root, belo
 use Rattle.sn_census.specs.Rows.{Sets, row_at}
 use Rattle.sn_census.specs.declared.table.Row.{Row}
 
--- The way from a directory has come to a number. Each number behind leads up if that does, and has its parent on the way.
+-- The way from a directory has reached a number. Each number passed leads up if that does, and has its parent on the way.
 pub record IsClimbing (parents : ℕ → ℕ) (directory at : ℕ) (rows : List Row) : Type 0 where
   pub parents_are : (number : ℕ) → (row_at rows number).parent ≡ parents number
   pub before : (number : ℕ) → (row_at rows number).climb ≤ directory
@@ -80,7 +80,7 @@ module _ (parents : ℕ → ℕ) (directory at next : ℕ) (a b : List Row) (new
   }
 
 module _ (parents : ℕ → ℕ) (directory at : ℕ) (rows : List Row) (way : IsClimbing parents directory at rows) where
-  -- the way has come to one that leads up
+  -- the way has reached one that leads up
   module _ (some : (row_at rows at).climb ≢ 0) (apart : (row_at rows at).climb ≢ directory) where
     last_up : LeadsUp parents at
     last_up = way.up at some apart

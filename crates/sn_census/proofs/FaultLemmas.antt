@@ -1,4 +1,4 @@
--- What the census tells stands.
+-- What the census reports is so.
 use Rattle.std.proofs.Common.{◌≡◌, ◌≢◌, ⊎_elim, ℕ, ◌<◌, ◌≤◌, Bool, if◌then◌else◌, List, Option, None, Some, Ok, Err, Result, OnOk, Contains, refl, sym, ap, subst, ◌∙◌, arith}
 use Rattle.std.proofs.lemmas.Bool.{cases_eq, eq-eqb, ne_eqb}
 use Rattle.sn_block.specs.declared.fault.ReadFault.{ReadFault}
@@ -20,7 +20,7 @@ use Rattle.sn_census.specs.declared.table.Row.{Row}
 
 -- ---- readers
 
--- what is told of a block isn't a block that isn't read
+-- what is reported at a block isn't a block that isn't read
 pub never_read : {T : Type 0} (damage : Damage) (block : ℕ) (fault : CheckFault) (result : Result T CheckFault) → result ≡ Err fault → fault ≡ check.Damaged damage block → (read : ReadFault) → result ≢ Err (check.Read read)
 never_read damage block fault result here told read is = absurd cc
 

@@ -88,7 +88,7 @@ module _ (limits : Limits) (sectors : ℕ) (s : Store) (inodes : BlockTree) (rea
       let d = named_directory s inodes directory name among in
       climb.below name.number (subst (LeadsUp (parents_of rows)) (sym (parent_is directory name inode among is kind)) (reached_up directory above d.0 d.1 d.2))
 
-  -- ---- what stands
+  -- ---- what there is
 
   pub apart_stands : (body number : ℕ) → (row_at rows number).kind ≡ Some Directory → (LeadsUp (parents_of rows) number → ⊥) → IsLinkFault s inodes body (record_block s inodes body number)
   apart_stands body number kind never_up = told (inode_at s inodes number) refl

@@ -43,7 +43,7 @@ unused_kind row is kind = never Directory (sym (ap (λ (r : Row). r.kind) is) �
     never : (k : Kind) → None ≡ Some k → ⊥
     never k same = cc
 
--- behind a row that was set they stay so
+-- after a row that was set they stay so
 pub unused_behind : (begin number end : ℕ) (row : Row) (old new : List Row) → Sets number row old new → begin ≤ end → number < end → AreUnused begin old → AreUnused end new
 unused_behind begin number end row old new put least below unused n behind = put.others n (λ (same : n ≡ number). omega (arith, same, below, behind)) ∙ unused n (omega (arith, least, behind))
 

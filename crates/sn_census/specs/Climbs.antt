@@ -3,7 +3,7 @@ use Rattle.std.specs.Prelude.{◌≡◌, ◌≢◌, ℕ, ◌<◌, List}
 use Rattle.sn_census.specs.Rows.{row_at}
 use Rattle.sn_census.specs.declared.table.Row.{Row}
 
--- the parents that rows tell
+-- the parents in the rows
 abbrev pub parents_of : List Row → ℕ → ℕ
 parents_of rows number = (row_at rows number).parent
 

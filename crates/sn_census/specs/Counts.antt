@@ -42,7 +42,7 @@ pub record HasSpare (names : List Link) (number : ℕ) (old new : List Row) : Ty
   pub more : (row_at old number).links < (row_at old number).names + times_in number names
   pub kind : (row_at new number).kind ≡ (row_at old number).kind
 
--- the block that is told of a number with a name too many, which stands in the block of a pointer
+-- the block that is reported for a number with a name too many, which is in the block of a pointer
 abbrev pub blamed : Store → BlockTree → ℕ → ℕ → ℕ → Option Kind → ℕ
 blamed s inodes body pointer number None = pointer
 blamed s inodes body pointer number (Some kind) = record_block s inodes body number
@@ -56,12 +56,12 @@ abbrev pub links_under : ℕ → Option Inode → ℕ
 links_under number None = 0
 links_under number (Some inode) = links_of number inode
 
--- A row tells what inode its number has.
+-- A row says what inode its number has.
 pub record IsOf (s : Store) (inodes : BlockTree) (number : ℕ) (row : Row) : Type 0 where
   pub kind : row.kind ≡ kind_of (inode_at s inodes number)
   pub links : row.links ≡ links_under number (inode_at s inodes number)
 
--- These names can be counted too: no number comes to more than it has in all directories.
+-- These names can be counted too: no number gets more than it has in all directories.
 pub record HasRoom (s : Store) (inodes : BlockTree) (names : List Link) (rows : List Row) : Type 0 where
   pub of : (number : ℕ) → IsOf s inodes number (row_at rows number)
   pub room : (number : ℕ) → (row_at rows number).names + times_in number names ≤ name_count s inodes number
@@ -85,7 +85,7 @@ pub record IsCounted (s : Store) (inodes : BlockTree) (end number : ℕ) (row : 
 abbrev pub AreCounted : Store → BlockTree → ℕ → List Row → Type 0
 AreCounted s inodes end rows = (number : ℕ) → IsCounted s inodes end number (row_at rows number)
 
--- All names are told: how many each number has, and a directory in which one is.
+-- All names are found: how many each number has, and a directory in which one is.
 pub record HasFound (s : Store) (inodes : BlockTree) (rows : List Row) : Type 0 where
   pub names : (number : ℕ) → names_found rows number ≡ name_count s inodes number
   pub parents : (number : ℕ) → 0 < name_count s inodes number → HasName s inodes (parents_of rows number) number

@@ -1,4 +1,4 @@
--- What the answers of the census come to.
+-- What follows from the answers of the census.
 use Rattle.std.specs.Prelude.{ℕ}
 use Rattle.sn_limits.specs.declared.limits.Limits.{Limits}
 use Rattle.sn_layout.specs.declared.tree.BlockTree.{BlockTree}
@@ -8,7 +8,7 @@ use Rattle.sn_image.specs.Sound.{IsLinked}
 use Rattle.sn_check_root.specs.Rules.{IsSoundButLinks}
 use Rattle.sn_census.specs.Faults.{StandsInLinks}
 
--- Where one of the faults stands, a root that is sound but for its links isn't linked.
+-- Where there is one of the faults, a root that is sound but for its links isn't linked.
 abbrev pub LinkFaultsAreReal : Type 0
 LinkFaultsAreReal = (limits : Limits) (n : ℕ) (s : Store) (inodes : BlockTree) (body : ℕ) (damage : Damage) (block : ℕ) → StandsInLinks s inodes body damage block
     → IsSoundButLinks limits n s inodes → IsLinked s inodes → ⊥

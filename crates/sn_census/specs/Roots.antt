@@ -13,7 +13,7 @@ use Rattle.sn_inode.specs.Reads.{CanReadRecord}
 use Rattle.sn_check_root.specs.Reading.{TreeLies}
 use Rattle.sn_check_root.specs.Rules.{IsSoundButLinks}
 
--- A root is sound but for its links, on a disk that lies on a device of so many sectors.
+-- A root is sound but for its links, on a disk that fits on a device of so many sectors.
 pub record IsChecked (limits : Limits) (sectors : ℕ) (s : Store) (inodes : BlockTree) : Type 0 where
   pub blocks : ℕ
   pub room : 8 * blocks ≤ sectors

@@ -84,10 +84,10 @@ fn test_counted<D: Device>(
 }
 
 /// Counts the names of a root, all else in which was checked, and compares them with the links that its
-/// inodes say. `body` is the block of the root body. At `Ok` the root is linked, and so sound. What is told
-/// otherwise stands: a name of an unused number, told of the block of its directory, or, told of the block
+/// inodes say. `body` is the block of the root body. At `Ok` the root is linked, and so sound. What is reported
+/// otherwise is so: a name of an unused number, at the block of its directory, or, at the block
 /// of its record, a number with too many or too few names, or a directory that isn't reached from the root.
-/// At `Ok` the census tells the names of each number. Whatever the census counted before, it counts anew.
+/// At `Ok` the census has the names of each number. Whatever the census counted before, it counts anew.
 ///
 /// Proved: At `Ok` a root that is sound but for its links is linked, and so sound: each name leads to an inode, the root has
 /// none, each other inode has as many as it says, which for a directory is one, and each directory is reached from the root.

@@ -38,7 +38,7 @@ fn load_row<D: Device>(
     Ok(())
 }
 
-/// Fills the row of each number, whatever stood there. Behind the inode file's records the numbers are unused.
+/// Fills the row of each number, whatever was there. Past the inode file's records the numbers are unused.
 /// No name is counted yet.
 pub(crate) fn load_rows<D: Device>(
     census: &mut Census,

@@ -27,7 +27,7 @@ use sn_layout_node::{Content, DirectoryBlock, Inode};
 use sn_limits::{Kind, Limits};
 use sn_marks::CheckFault;
 
-// Counts a name of a directory, if the number that it stands for is to have one more.
+// Counts a name of a directory, if the number that it denotes is to have one more.
 fn count_name(census: &mut Census, directory: u16, number: u16) -> bool
     ensures counted { IsTrue result → Counts directory (one_name number ∷ []) census.old census.new }
     ensures spare { result ≡ false → (row_at census.old number).links ≤ (row_at census.old number).names }
@@ -61,7 +61,7 @@ fn count_entries(census: &mut Census, directory: u16, names: &DirectoryBlock<'_>
     None
 }
 
-// Tells of a number that it has a name too many: of an unused one by the block in which the name stands.
+// The fault of a number with a name too many: of an unused one at the block that has the name.
 fn spare_fault<D: Device>(
     census: &Census,
     blocks: &mut Blocks<D>,
@@ -84,7 +84,7 @@ fn spare_fault<D: Device>(
     }
 }
 
-// Counts the names of one block of a directory. The first of a number that has one too many is told.
+// Counts the names of one block of a directory. The first of a number that has one too many is reported.
 fn count_block<D: Device>(
     census: &mut Census,
     blocks: &mut Blocks<D>,
@@ -204,7 +204,7 @@ fn count_inode<D: Device>(
     }
 }
 
-// Counts the names that stand under a number.
+// Counts the names under a number.
 fn count_number<D: Device>(
     census: &mut Census,
     blocks: &mut Blocks<D>,
@@ -230,7 +230,7 @@ fn count_number<D: Device>(
     }
 }
 
-/// Counts the names of all directories. The first of a number that has one too many is told. Before, the
+/// Counts the names of all directories. The first of a number that has one too many is reported. Before, the
 /// rows are loaded, and no name is counted.
 pub(crate) fn count_names<D: Device>(
     census: &mut Census,

@@ -1,5 +1,5 @@
 //! Readers of what was checked before. Where the device tells its bytes, all of it can be read. One that gives other bytes at
-//! the second reading has no block to be blamed: that is told of the root body, as misspelt.
+//! the second reading has no block to be blamed: that is reported at the root body, as misspelt.
 ghost use Rattle.std.specs.Prelude.{◌≡◌, ◌/◌, min, IsTrue, IsSome, IfOk, IfErr, OnOk};
 ghost use Rattle.sn_device.specs.Disk.{reads};
 ghost use Rattle.sn_block.specs.Lending.{device_of, fetched_number, fetched_bytes};
@@ -91,7 +91,7 @@ pub(crate) fn spelled_names(block: &Block, body: u32) -> Result<DirectoryBlock<'
     }
 }
 
-// The fault of a number, which is told of the block of its record.
+// The fault of a number, which is reported at the block of its record.
 pub(crate) fn record_fault<D: Device>(
     blocks: &mut Blocks<D>,
     file: &BlockTree,
@@ -110,7 +110,7 @@ pub(crate) fn record_fault<D: Device>(
     Err(link_fault(block))
 }
 
-// Names and inodes don't agree, which is told of a block.
+// Names and inodes don't agree, which is reported at a block.
 pub(crate) fn link_fault(block: u32) -> CheckFault
     ensures { result ≡ Damaged Links block }
 {

@@ -50,7 +50,7 @@ KeepsNoneIf (Some live) = KeepsNone live
 
 -- ---- one change
 
--- A change was applied to what is shown under these limits, is charged this much by them, and lies over what changed before.
+-- A change was applied to what is shown under these limits, is charged this much by them, and is over what changed before.
 pub record MakesChange (limits : Limits) (charge : ℕ) (live : Option LiveTree) (below : Tree) (change : Change) (after : Option LiveTree) : Type 0 where
   pub applied : apply limits change (tree_of live below) ≡ Some (tree_of after below)
   pub charged : charge ≡ charge_for limits (tree_of live below) change

@@ -17,7 +17,7 @@ use sn_log::{Buffer, Position};
 use sn_model::MountFault;
 use std::alloc::Global;
 
-// Where the log goes on: after the records of the newer epoch, or of the older one where the newer has none.
+// Where the log continues: after the records of the newer epoch, or of the older one where the newer has none.
 fn last_of(older: Position, newer: Position) -> Position
     ensures last { ((newer.count ≡ 0) × (result ≡ older)) ⊎ (result ≡ newer) }
     ensures none { result.count ≡ 0 → (older.count ≡ 0) × (newer.count ≡ 0) }
@@ -26,7 +26,7 @@ fn last_of(older: Position, newer: Position) -> Position
 }
 
 /// Tries the records of the root's epoch and then those of the next one on the root's tree, by the limits of the root.
-/// Answers where the log goes on, after the last of them, what they are charged together, and the live tree after them,
+/// Answers where the log continues, after the last of them, what they are charged together, and the live tree after them,
 /// `None` where there is no record: then it is the root's tree. What changed of that is what they changed. Damaged is a
 /// record that is misspelt or can't be applied, reported at the block of its gate.
 ///

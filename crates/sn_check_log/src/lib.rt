@@ -2,7 +2,7 @@
 //!
 //! Whether a record can be applied depends on those before it. What these changed is kept as a live tree of `sn_live`: an
 //! overlay, with the tables that are seen through it. The next one is asked of the root's tree below: no tree is loaded, and
-//! of a file no more blocks are read than a write leaves in part. The live tree after the last record is what a mount goes on
+//! of a file no more blocks are read than a write leaves in part. The live tree after the last record is what a mount continues
 //! with.
 //!
 //! The model is that of `sn_examine`: the records of the root's epoch and then those of the next one make a tree of the one

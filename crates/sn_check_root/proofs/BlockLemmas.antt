@@ -45,7 +45,7 @@ module _ (s : Store) (inodes : BlockTree) (body number pointer : ℕ) (is : poin
 
 -- ---- the blocks of a directory
 
--- a block that spells no names is told of itself
+-- a block that spells no names is reported itself
 pub bad_here : (s : Store) (tree : BlockTree) (i top pointer : ℕ) (bytes : List ℕ) → bytes ≡ data_block s tree i → pointer ≡ entry s (levels_of tree.size) tree.pointers i
     → (IsDirectoryBlock bytes → ⊥) → IsBadBlock s tree i top pointer
 bad_here s tree i top pointer bytes same is wrong =

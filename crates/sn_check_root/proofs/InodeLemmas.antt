@@ -1,4 +1,4 @@
--- What one number stands for.
+-- What there is of one number.
 use Rattle.std.proofs.Common.{◌≡◌, inl, inr, ℕ, ◌+◌, ◌*◌, ◌/◌, ◌%◌, ◌≤◌, ◌==◌, Bool, true, false, List, [], Option, None, Some, refl, sym, ap, subst, ◌∙◌, arith}
 use Rattle.std.specs.Prelude.{nat_le, ◌||◌, Result, Ok, Err, OnOk}
 use Rattle.std.proofs.lemmas.Bool.{eqb-true, eqb-false, le-leb, and_parts, true≢false}
@@ -112,7 +112,7 @@ module _ (limits : Limits) (s : Store) (inodes : BlockTree) (number : ℕ) where
         (subst (λ (names : List Link). IsContentFault limits s inode.kind inode.content names (record_block s inodes body number) block) (names_are inode is)
         (subst (λ (t : ℕ). IsContentFault limits s inode.kind inode.content (names_by s inode.kind inode.content) t block) at wrong))
 
-    -- a record that isn't read where its block lies on the device is misspelt
+    -- a record that isn't read where its block is on the device is misspelt
     pub record_wrong : (sectors top : ℕ) → TreeLies sectors s inodes → top ≡ record_block s inodes body number → (CanReadRecord limits sectors s inodes number → ⊥) → IsMisspelt limits s inodes body top
     record_wrong sectors top lies at wrong = told (is_number inodes number) refl
       where

@@ -1,4 +1,4 @@
--- Sorted names, of which a name that stands twice has two places side by side.
+-- Sorted names, of which a name that occurs twice has two places side by side.
 use Rattle.std.proofs.Common.{◌≡◌, ◌≢◌, ℕ, zero, suc, ◌+◌, ◌<◌, ◌≤◌, Bool, true, false, cond, List, [], ◌∷◌, length, map, refl, sym, ap, subst, ◌∙◌, arith}
 use Rattle.std.specs.Prelude.{count_by, slice_index_or}
 use Rattle.std.specs.List.Sorted.{IsSorted, IsSortedBy, IsPermutation, IsNonDecreasingBy}
@@ -46,7 +46,7 @@ module _ (xs : List ListedName) (sorted : IsSorted listed_cmp xs) where
       let most = up (i + 1) j d (omega (arith, below)) within in
       exact_bytes _ _ (index_one _ (omega (arith, first, last, least, most)))
 
--- ---- how often a name stands
+-- ---- how often a name occurs
 
 abbrev named : List ℕ → List ListedName → ℕ
 named name xs = count_by (λ (l : Link). bytes_eq l.name name) (map link_of xs)
@@ -79,7 +79,7 @@ once_from_apart (x ∷ xs) apart name =
         omega (arith, one_here name x xs same, none_among name xs (λ i d within e. apart 0 (suc i) d (omega arith) (omega (arith, within)) (e ∙ sym same)))
     told rest false is = omega (arith, rest, none_here name x xs (λ same. true≢false (sym ((bytes_eq-Decides x.name name).1 same) ∙ is)))
 
--- one that stands side by side with itself stands twice
+-- one that is side by side with itself occurs twice
 twice_at : (xs : List ListedName) (k : ℕ) (d : ListedName) → k + 1 < length xs → (slice_index_or xs (suc k) d).name ≡ (slice_index_or xs k d).name → 2 ≤ named (slice_index_or xs k d).name xs
 twice_at [] k d within same = absurd (omega (arith, within))
 twice_at (x ∷ []) k d within same = absurd (omega (arith, within))
@@ -101,7 +101,7 @@ any_default [] i d e within = absurd (omega (arith, within))
 any_default (x ∷ xs) zero d e within = refl
 any_default (x ∷ xs) (suc i) d e within = any_default xs i d e (omega (arith, within))
 
--- two elements that stand side by side
+-- two elements side by side
 pub side_by_side : (xs : List ListedName) (k i j : ℕ) (a b : ListedName) → i ≡ k + 1 → j ≡ k → i < length xs → bytes_eq (slice_index_or xs i a).name (slice_index_or xs j b).name ≡ true → StandsTwice (map link_of xs)
 side_by_side xs k i j a b next here within same =
     let first : (slice_index_or xs (k + 1) b).name ≡ (slice_index_or xs i a).name =

@@ -16,7 +16,7 @@ use Rattle.sn_dir.proofs.NameLemmas.{range-more}
 use Rattle.sn_check_root.specs.Rules.{IsSoundNumber, IsWrong}
 use Rattle.sn_check_root.proofs.WrongLemmas.{marks_append, wrong_behind}
 
--- n more numbers behind the ones that came before
+-- n more numbers after the ones that came before
 range-joined : (a n m : ℕ) → range_with_len a (n + m) ≡ range_with_len a n ++ range_with_len (a + n) m
 range-joined a zero m =
     let none : 0 + m ≡ m = omega arith in
@@ -69,7 +69,7 @@ module _ (s : Store) (inodes : BlockTree) where
       )
 
   module _ (limits : Limits) (n k : ℕ) where
-    -- what stands under the numbers from 2 on and below one is sound, and what they reach was gone through
+    -- what is under the numbers from 2 on and below one is sound, and what they reach was gone through
     pub record IsChecked (number : ℕ) (a b : List ℕ) : Type 0 where
       pub marks : Marks n k (reach_below number) a b
       pub sound : (i : ℕ) → 2 ≤ i → i < number → IsSoundNumber limits s inodes i

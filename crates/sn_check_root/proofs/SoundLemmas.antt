@@ -1,4 +1,4 @@
--- What makes a root sound, and what stands in one.
+-- What makes a root sound, and what is in one.
 use Rattle.std.proofs.Common.{◌≡◌, ⊎_elim, ℕ, ◌+◌, ◌*◌, ◌/◌, ◌<◌, ◌≤◌, List, [], flat_map, Contains, slice_index, Option, None, Some, true, refl, sym, ap, subst, ◌∙◌, arith}
 use Rattle.std.specs.Prelude.{IsSomeAnd, codes, Result, Ok, Err, OnOk}
 use Rattle.std.specs.Int.{bit_at}
@@ -107,13 +107,13 @@ module _ (limits : Limits) (s : Store) (inodes : BlockTree) where
       stands_astray clear _ _ (outside block among wrong) = record { among = among; outside = wrong }
       stands_astray clear _ _ (twice block two) = omega (arith, two, clear block)
 
-      -- what is told of a root whose bit was clear stands
+      -- what is reported of a root whose bit was clear is so
       pub stands : ((block : ℕ) → bit_at (slice_index a block) k ≡ 0) → (damage : Damage) (block : ℕ) → IsWrong n k (reach s inodes) a (IsMisspelt limits s inodes body) damage block → StandsInRoot limits n s inodes body damage block
       stands clear _ _ (astray damage block wrong) = stands_astray clear damage block wrong
       stands clear _ _ (misspelt block wrong) = wrong
 
   module _ (n k : ℕ) (a b c : List ℕ) where
-    -- what the root directory reaches lies in the data area
+    -- what the root directory reaches is in the data area
     pub root_data : (sectors : ℕ) → IsInodeFile limits inodes → 8 * n ≤ sectors → Marks n k (flat_map (reach_at s inodes) (numbers inodes)) a b
         → (block : ℕ) → Contains (reach_at s inodes 2) block → 8 * block + 8 ≤ sectors
     root_data sectors file room marks block among =
@@ -171,7 +171,7 @@ records_checked limits s r inodes same reserved each (Ok done) root hidden =
     records_sound limits s inodes each reserved (subst (λ (q : Store). IsSomeAnd (inode_at q inodes 2) (λ inode. inode.kind ≡ Directory)) same root)
     (subst (λ (q : Store). number_of (codes ".snapshot") (names_at q inodes 2) ≡ None) same hidden)
 
--- the blocks of a root directory can be read, where what it reaches lies on the device
+-- the blocks of a root directory can be read, where what it reaches is on the device
 pub root_read : SoundDirectoriesAreRead → (limits : Limits) (sectors : ℕ) (s : Store) (inodes : BlockTree) (inode : Inode) → IsSoundNumber limits s inodes 2 → ((block : ℕ) → Contains (reach_at s inodes 2) block → 8 * block + 8 ≤ sectors)
     → inode_at s inodes 2 ≡ Some inode → inode.kind ≡ Directory → (tree : BlockTree) → inode.content ≡ Tree tree → (i : ℕ) → i < tree.size / 4096 → CanRead sectors s tree i
 root_read law limits sectors s inodes inode sound reached is kind tree content = law sectors s tree blocks all

@@ -1,4 +1,4 @@
--- What is told of a part is so of the whole.
+-- What is reported of a part is so of the whole.
 use Rattle.std.proofs.Common.{◌≡◌, ◌≢◌, ℕ, ◌+◌, ◌*◌, ◌<◌, ◌≤◌, List, [], ◌++◌, refl, ap, arith, Option}
 use Rattle.std.specs.Prelude.{Result, Ok, Err}
 use Rattle.sn_model.specs.declared.fault.Damage.{Damage}
@@ -27,7 +27,7 @@ module _ (n k : ℕ) where
   pub marks_append : (xs ys a b c : List ℕ) → Marks n k xs a b → Marks n k ys b c → Marks n k (xs ++ ys) a c
   marks_append xs ys a b c first second = marks_joined n k xs ys (xs ++ ys) a b c (λ block. times-append block xs ys) first second
 
-  -- behind blocks that were gone through
+  -- after blocks that were gone through
   pub wrong_behind : (xs ys zs a b : List ℕ) (P Q : ℕ → Type 0) (damage : Damage) (block : ℕ) → ((x : ℕ) → times x xs + times x ys ≤ times x zs) → ((x : ℕ) → P x → Q x)
       → Marks n k xs a b → IsWrong n k ys b P damage block → IsWrong n k zs a Q damage block
   wrong_behind xs ys zs a b P Q _ _ sum weaker marks (astray damage block wrong) = astray damage block (astray_behind n k xs ys zs a b damage block sum marks wrong)
@@ -46,7 +46,7 @@ module _ (n k : ℕ) where
       → Marks n k xs a b → IsWrong n k ys b P damage block → IsWrong n k (xs ++ ys) a Q damage block
   wrong_back xs ys a b P Q damage block weaker marks wrong = wrong_behind xs ys (xs ++ ys) a b P Q damage block (λ x. omega (arith, times-append x xs ys)) weaker marks wrong
 
-  -- what is misspelt behind marks
+  -- what is misspelt after marks
   pub wrong_spelt : (ys a : List ℕ) (P Q : ℕ → Type 0) (damage : Damage) (block : ℕ) → ((x : ℕ) → P x → Q x) → IsSpeltWrong P damage block → IsWrong n k ys a Q damage block
   wrong_spelt ys a P Q _ _ weaker (spelt block wrong) = misspelt block (weaker block wrong)
 
@@ -65,14 +65,14 @@ module _ (n k : ℕ) where
   pub wrong_rule : (Rule : Type 0) (ys a : List ℕ) (Q : ℕ → Type 0) (at : ℕ) (damage : Damage) (block : ℕ) → ((Rule → ⊥) → Q at) → Breaks Rule at damage block → IsWrong n k ys a Q damage block
   wrong_rule Rule ys a Q at _ _ weaker (breaks wrong) = misspelt at (weaker wrong)
 
-  -- a tree that was gone through lies on a device that has the data area
+  -- a tree that was gone through is on a device that has the data area
   pub tree_lies : ReachedBlocksLie → (sectors : ℕ) (s : Store) (it : BlockTree) (a b : List ℕ) → 8 * n ≤ sectors → Marks n k (tree_reach s it) a b → TreeLies sectors s it
   tree_lies law sectors s it a b room marks = law sectors s it (λ block among. fits block (marks.within block among).below)
     where
       fits : (block : ℕ) → block < n → 8 * block + 8 ≤ sectors
       fits block under = omega (arith, under, room)
 
--- ---- what is told
+-- ---- what is reported
 
 pub spelt_rule : (Rule : Type 0) (Q : ℕ → Type 0) (at : ℕ) (damage : Damage) (block : ℕ) → ((Rule → ⊥) → Q at) → Breaks Rule at damage block → IsSpeltWrong Q damage block
 spelt_rule Rule Q at _ _ weaker (breaks wrong) = spelt at (weaker wrong)
@@ -80,7 +80,7 @@ spelt_rule Rule Q at _ _ weaker (breaks wrong) = spelt at (weaker wrong)
 pub spelt_weaker : (P Q : ℕ → Type 0) (damage : Damage) (block : ℕ) → ((x : ℕ) → P x → Q x) → IsSpeltWrong P damage block → IsSpeltWrong Q damage block
 spelt_weaker P Q _ _ weaker (spelt block wrong) = spelt block (weaker block wrong)
 
--- a reader's fault, where what it reads is told to be wrong only where a rule is broken
+-- a reader's fault, where what it reads is reported to be wrong only where a rule is broken
 pub rule_told : (Rule : Type 0) (block : ℕ) (fault : TreeFault) → ((found : Option ℕ) → fault ≡ tree.Damaged found → Rule → ⊥) → Tells (fault_at block fault) (Breaks Rule block)
 rule_told Rule block (tree.Read fault) wrong = tt
 rule_told Rule block (tree.Damaged found) wrong = breaks (wrong found refl)

@@ -20,7 +20,7 @@ use Rattle.sn_marks.specs.Marks.{IsAstray}
 
 -- ---- what is wrong
 
--- A rule is broken, which is told of one block.
+-- A rule is broken, which is reported at one block.
 pub data Breaks (Rule : Type 0) (block : ℕ) : Damage → ℕ → Type 0 where
   breaks : (Rule → ⊥) → Breaks Rule block Misspelt block
 
@@ -33,7 +33,7 @@ pub data IsWrong (n k : ℕ) (blocks old : List ℕ) (Wrong : ℕ → Type 0) : 
   astray : (damage : Damage) (block : ℕ) → IsAstray n k blocks old damage block → IsWrong n k blocks old Wrong damage block
   misspelt : (block : ℕ) → Wrong block → IsWrong n k blocks old Wrong Misspelt block
 
--- A fault of one root that stands, of its pointers or of what is spelled. `body` is the block of the root body.
+-- A fault that one root has, of its pointers or of what is spelled. `body` is the block of the root body.
 abbrev pub StandsInRoot : Limits → ℕ → Store → BlockTree → ℕ → Damage → ℕ → Type 0
 StandsInRoot limits n s inodes body Pointer block = LeadsOut n s inodes block
 StandsInRoot limits n s inodes body ReachedTwice block = IsReachedTwice s inodes block
@@ -56,11 +56,11 @@ pub data IsBadBlock (s : Store) (tree : BlockTree) (i top : ℕ) : ℕ → Type 
 abbrev pub HasBadBlock : Store → BlockTree → ℕ → ℕ → Type 0
 HasBadBlock s tree top block = (i : ℕ) × (i < tree.size / 4096) × IsBadBlock s tree i top block
 
--- A name stands twice among these.
+-- A name occurs twice among these.
 abbrev pub StandsTwice : List Link → Type 0
 StandsTwice names = (name : List ℕ) × (2 ≤ count_by (λ l. bytes_eq l.name name) names)
 
--- Names of one directory: none stands twice, and there aren't too many.
+-- Names of one directory: none occurs twice, and there aren't too many.
 pub record AreNames (limits : Limits) (names : List Link) : Type 0 where
   pub once : AreOnce names
   pub few : length names ≤ limits.names
@@ -81,7 +81,7 @@ pub record IsSoundInode (limits : Limits) (s : Store) (inode : Inode) : Type 0 w
 abbrev pub IsInodeFault : Limits → Store → Inode → ℕ → ℕ → Type 0
 IsInodeFault limits s inode top block = ((block ≡ inode.acl_block) × (HasAcls s inode → ⊥)) ⊎ IsContentFault limits s inode.kind inode.content (names_by s inode.kind inode.content) top block
 
--- What stands under a number is sound: a record, and the inode that it may be of.
+-- What is under a number is sound: a record, and the inode that it may be of.
 pub record IsSoundNumber (limits : Limits) (s : Store) (inodes : BlockTree) (number : ℕ) : Type 0 where
   pub spelled : is_number inodes number ≡ true → SpellsRecord limits (record_at s inodes number)
   pub used : (inode : Inode) → inode_at s inodes number ≡ Some inode → IsSoundInode limits s inode
@@ -94,7 +94,7 @@ pub record IsRootInode (s : Store) (inode : Inode) : Type 0 where
 
 -- ---- roots
 
--- All that stands in an inode file is sound, but for its links.
+-- All that is in an inode file is sound, but for its links.
 pub record HasSoundRecords (limits : Limits) (s : Store) (inodes : BlockTree) : Type 0 where
   pub records : HasRecords limits s inodes
   pub used : HasInodes s inodes

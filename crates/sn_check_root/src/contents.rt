@@ -1,4 +1,4 @@
-//! What one number stands for: its record, its ACL block and its content.
+//! What there is of one number: its record, its ACL block and its content.
 ghost use Rattle.std.specs.Prelude.{◌≡◌, ◌*◌, ◌%◌, ◌<◌, ◌≤◌, length, Some, IsTrue, IfOk, IfErr, IfSome, OnOk};
 ghost use Rattle.sn_device.specs.Disk.{reads};
 ghost use Rattle.sn_block.specs.Lending.{device_of};
@@ -31,7 +31,7 @@ use sn_marks::{CheckFault, RootBit, mark, mark_tree};
 use sn_tree_read::read_laws;
 use std::alloc::Global;
 
-// Tests the ACLs of an inode. What is wrong with them is told of their block.
+// Tests the ACLs of an inode. What is wrong with them is reported at their block.
 fn test_acls<D: Device>(blocks: &mut Blocks<D>, inode: &Inode) -> Result<(), CheckFault>
     ensures acls { IsTrue D.tells_bytes → OnOk result (HasAcls
         (store_of (reads (D.disk (device_of blocks.old)))) inode.now) }
@@ -95,7 +95,7 @@ fn check_kind<D: Device>(
     }
 }
 
-// Marks the tree of an inode, and tests what stands in it. `top` is the block of the inode's record.
+// Marks the tree of an inode, and tests what is in it. `top` is the block of the inode's record.
 fn check_tree<D: Device>(
     alloc: Global,
     blocks: &mut Blocks<D>,
@@ -122,7 +122,7 @@ fn check_tree<D: Device>(
     ensures counts { CountsCheck result (D.status (device_of blocks.old)) (D.status (device_of blocks.new)) }
 {
     mark_tree(blocks, map, root, tree, top)?;
-    // What was gone through lies on the device.
+    // What was gone through is on the device.
     read_laws();
     check_kind(alloc, blocks, limits, kind, tree, top)
 }
@@ -188,7 +188,7 @@ fn check_used<D: Device>(
     check_content(alloc, blocks, map, root, limits, inode, top)
 }
 
-// The inode of a number. A record that spells none is told of its block.
+// The inode of a number. A record that spells none is reported at its block.
 pub(crate) fn inode_of<D: Device>(
     blocks: &mut Blocks<D>,
     limits: &Limits,
@@ -214,8 +214,8 @@ pub(crate) fn inode_of<D: Device>(
     }
 }
 
-/// Tests what stands under a number, and marks the blocks that its inode reaches. The inode file's own
-/// blocks are marked by then. What is told is so: a record that spells nothing, a rule of its inode that
+/// Tests what is under a number, and marks the blocks that its inode reaches. The inode file's own
+/// blocks are marked by then. What is reported is so: a record that spells nothing, a rule of its inode that
 /// is broken, or a block that can't be gone through. `body` is the block of the root body.
 pub(crate) fn check_inode<D: Device>(
     alloc: Global,

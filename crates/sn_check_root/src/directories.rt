@@ -27,7 +27,7 @@ use sn_limits::Limits;
 use sn_marks::CheckFault;
 use std::alloc::Global;
 
-// How many names a block spells. One that spells none is told.
+// How many names a block spells. One that spells none is reported.
 fn count_of(block: &Block, pointer: u32) -> Result<u64, CheckFault>
     ensures count { IfOk result (λ count. count ≡ length (names_in block.now)) }
     ensures few { IfOk result (λ count. count ≤ 4096) }
@@ -41,7 +41,7 @@ fn count_of(block: &Block, pointer: u32) -> Result<u64, CheckFault>
     }
 }
 
-// Makes a block of a directory the one that is lent. A hole is told of the block of the record.
+// Makes a block of a directory the one that is lent. A hole is reported at the block of the record.
 fn fetch_there<D: Device>(
     blocks: &mut Blocks<D>,
     tree: &BlockTree,
@@ -64,7 +64,7 @@ fn fetch_there<D: Device>(
     }
 }
 
-// How many names there are in one block of a directory. A hole, and one that spells none, is told.
+// How many names there are in one block of a directory. A hole, and one that spells none, is reported.
 fn count_in<D: Device>(
     blocks: &mut Blocks<D>,
     tree: &BlockTree,
@@ -88,7 +88,7 @@ fn count_in<D: Device>(
     count_of(blocks.fetched(), pointer)
 }
 
-// How many names a directory has. The first block that is a hole or spells none is told.
+// How many names a directory has. The first block that is a hole or spells none is reported.
 fn count_names<D: Device>(
     blocks: &mut Blocks<D>,
     tree: &BlockTree,
@@ -113,7 +113,7 @@ fn count_names<D: Device>(
     Ok(count)
 }
 
-// Whether no name stands twice among sorted ones.
+// Whether no name occurs twice among sorted ones.
 fn are_once(names: &[ListedName]) -> bool
     requires { IsSorted listed_cmp names.now }
     ensures once { IsTrue result → AreOnce (map link_of names.now) }
@@ -149,7 +149,7 @@ fn listed<D: Device>(
     }
 }
 
-// Tests that no name stands twice in a directory whose blocks were tested.
+// Tests that no name occurs twice in a directory whose blocks were tested.
 fn check_listed<D: Device>(
     alloc: Global,
     blocks: &mut Blocks<D>,
@@ -173,7 +173,7 @@ fn check_listed<D: Device>(
 }
 
 /// Tests the blocks of a directory and the names in them. `top` is the block of the directory's record.
-/// What is told is so: a hole, a name that stands twice or too many names, all told of `top`, or a block
+/// What is reported is so: a hole, a name that occurs twice or too many names, all at `top`, or a block
 /// that spells no names.
 pub(crate) fn check_directory<D: Device>(
     alloc: Global,

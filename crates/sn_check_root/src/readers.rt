@@ -1,4 +1,4 @@
-//! Readers of trees whose blocks lie on the device. What they find wrong is told of a block.
+//! Readers of trees whose blocks are on the device. What they find wrong is reported at a block.
 ghost use Rattle.std.specs.Prelude.{◌≡◌, ◌/◌, IsTrue, IfOk, IfErr};
 ghost use Rattle.sn_device.specs.Disk.{reads};
 ghost use Rattle.sn_block.specs.Lending.{device_of};
@@ -14,7 +14,7 @@ use sn_layout::BlockTree;
 use sn_marks::CheckFault;
 use sn_tree_read::{TreeFault, entry};
 
-/// A reader's fault: what spells nothing of its kind is told of the block.
+/// A reader's fault: what spells nothing of its kind is reported at the block.
 pub fn fault_at(fault: TreeFault, block: u32) -> CheckFault
     ensures { result ≡ fault_at block fault }
 {
@@ -24,8 +24,8 @@ pub fn fault_at(fault: TreeFault, block: u32) -> CheckFault
     }
 }
 
-/// The pointer to a data block of a tree whose blocks lie on the device, 0 where it is a hole. A block on the
-/// way to it may not be read, and nothing else is told.
+/// The pointer to a data block of a tree whose blocks are on the device, 0 where it is a hole. A block on the
+/// way to it may not be read, and nothing else is reported.
 pub fn pointer_to<D: Device>(
     blocks: &mut Blocks<D>,
     tree: &BlockTree,
@@ -46,9 +46,9 @@ pub fn pointer_to<D: Device>(
     }
 }
 
-/// The block of a number's record, where the inode file's blocks lie on the device. Where there is a hole, it
+/// The block of a number's record, where the inode file's blocks are on the device. Where there is a hole, it
 /// is `body`, the block of the inode file's root. A block on the way to it may not be read, and nothing else
-/// is told.
+/// is reported.
 pub fn record_block<D: Device>(
     blocks: &mut Blocks<D>,
     file: &BlockTree,

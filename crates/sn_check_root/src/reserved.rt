@@ -184,7 +184,7 @@ fn check_root_inode<D: Device>(
 }
 
 /// Tests that the root is a directory, and that none of its names hides the directory of snapshots. What
-/// stands under its number was tested by then.
+/// is under its number was tested by then.
 pub(crate) fn check_top<D: Device>(
     blocks: &mut Blocks<D>,
     limits: &Limits,
@@ -205,7 +205,7 @@ pub(crate) fn check_top<D: Device>(
     ensures same { IsTrue D.tells_bytes → D.disk (device_of blocks.new) ≡ D.disk (device_of blocks.old) }
     ensures counts { CountsCheck result (D.status (device_of blocks.old)) (D.status (device_of blocks.new)) }
 {
-    // Where a directory is sound, and lies on the device, its names can be read.
+    // Where a directory is sound, and is on the device, its names can be read.
     directory_laws();
     let top = record_block(blocks, file, body, 2)?;
     match inode_of(blocks, limits, file, 2, top)? {

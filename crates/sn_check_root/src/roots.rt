@@ -31,7 +31,7 @@ fn number_law(number: u16)
     ensures { number < 65536 }
 {}
 
-// Tests what stands under each number from the root directory's on, and marks what it reaches.
+// Tests what is under each number from the root directory's on, and marks what it reaches.
 fn check_inodes<D: Device>(
     alloc: Global,
     blocks: &mut Blocks<D>,
@@ -95,7 +95,7 @@ fn check_records<D: Device>(
     check_top(blocks, limits, file, body)
 }
 
-// Marks the inode file, and tests what stands in it.
+// Marks the inode file, and tests what is in it.
 fn check_file<D: Device>(
     alloc: Global,
     blocks: &mut Blocks<D>,
@@ -120,17 +120,17 @@ fn check_file<D: Device>(
     ensures counts { CountsCheck result (D.status (device_of blocks.old)) (D.status (device_of blocks.new)) }
 {
     mark_tree(blocks, map, root, file, body)?;
-    // What was gone through lies on the device.
+    // What was gone through is on the device.
     read_laws();
     check_records(alloc, blocks, map, root, limits, file, body)
 }
 
 /// Tests a root but for its links, and marks each block that it reaches. The root's bit is clear in all
 /// words of the map, and `body` is the block of the root body. At `Ok` what is tested is sound, and the
-/// bit is set in the words of the reached blocks. What is told otherwise stands: a pointer out of the data
+/// bit is set in the words of the reached blocks. What is reported otherwise is so: a pointer out of the data
 /// area, a block that is reached twice, or what is misspelt. After a fault the map has some of the marks.
 ///
-/// Proved: At `Ok` a root is sound but for its links, whatever is in its blocks: these lie in the data area, each reached
+/// Proved: At `Ok` a root is sound but for its links, whatever is in its blocks: these are in the data area, each reached
 /// once, the inode file has its size, each tree ends at its own, and all records, ACL blocks and directory blocks are
 /// spelled.
 /// Proved: At `Ok` the two records that no node can have are zeros, the root is a directory, no directory has a hole, too

@@ -54,7 +54,7 @@ module _ (n : ℕ) (s : Store) (root : RootBody) (fits : IsRootBody root) (i : �
     checked = each_more (λ (q : Rooted). IsSoundButLinks root.limits n s q.inodes) (rooted_in root) i r d within is done.checked sound;
   }
 
--- ---- what is told is of the first group
+-- ---- what is reported is of the first group
 
 module _ (n : ℕ) (c : Contents) (slot : Slot) (root : RootBody) where
   -- no group is before the first one

@@ -26,7 +26,7 @@ frozen_rise before (s ∷ more) rise =
     let parts = and_parts (nat_lt before s.bit) (are_rising s.bit more) rise in
     (ltb-true before s.bit parts.0, frozen_rise s.bit more parts.1)
 
--- one root is above all that stand before it
+-- one root is above all that are before it
 rises : (before : ℕ) (rs : List Rooted) → AreRising before rs → (i : ℕ) (d : Rooted) → i < length rs → (before < (get_or rs i d).bit) × ((r : Rooted) → Contains (take i rs) r → r.bit < (get_or rs i d).bit)
 unfolding AreRising
 rises before [] rise i d within = absurd (omega (arith, within))
@@ -104,7 +104,7 @@ each_more {A} P xs i x d within is before here r among = ⊎_elim
     (cases (get_or xs i d) [] r new))
     (Contains-append_cases (take i xs) (get_or xs i d ∷ []) r (subst (λ (ys : List A). Contains ys r) (take_more xs i d within) among))
 
--- one that stands before another
+-- one that is before another
 pub before_contains : {A : Type 0} (xs : List A) (i j : ℕ) (d : A) → j < i → i < length xs → Contains (take i xs) (get_or xs j d)
 before_contains {A} xs i j d before within =
     let short : j < length (take i xs) = omega (arith, before, length-take-le i xs (omega (arith, within))) in

@@ -15,7 +15,7 @@ use Rattle.sn_ondisk.specs.MapCopy.{map_bytes, map_word, map_words}
 use Rattle.sn_ondisk.proofs.BlockLemmas.{bytes_at-more, length-bytes_at, length-numbers_in, numbers_in-numbers_bytes}
 use Rattle.sn_check_roots.specs.Words.{HasFirst, HasOtherWord, IsOther, in_block, other}
 
--- numbers of bytes that are one behind the other
+-- numbers of bytes that follow one another
 numbers_behind : (a b : ℕ) (xs ys : List ℕ) → length xs ≡ 4 * a → numbers_in (a + b) (xs ++ ys) ≡ numbers_in a xs ++ numbers_in b ys
 unfolding numbers_in
 numbers_behind zero b [] ys size = let same : 0 + b ≡ b = omega arith in ap (λ (n : ℕ). numbers_in n ys) same
@@ -58,7 +58,7 @@ pub first_none : (n : ℕ) (c : Contents) (slot : Slot) (wanted : List ℕ) → 
 first_none n c slot wanted block under = absurd (omega (arith, under))
 
 module _ (n : ℕ) (c : Contents) (slot : Slot) (whole : AreSectors c) (room : 8 * (start_of n (MapCopy slot) + map_blocks n) ≤ length c) where
-  -- a word of the copy stands in its block
+  -- a word of the copy is in its block
   pub word_in : (i k : ℕ) → i < map_blocks n → k < 1024 → map_word n c slot (1024 * i + k) ≡ slice_index (numbers_in 1024 (block_at c (start_of n (MapCopy slot) + i))) k
   unfolding map_words
   word_in i k within small = ap (λ (xs : List ℕ). slice_index xs (1024 * i + k)) split ∙ behind ∙ front

@@ -25,12 +25,12 @@ pub record AreDone (n : ℕ) (s : Store) (root : RootBody) (i : ℕ) (words : Li
 abbrev pub AreLinked : Store → List Rooted → Type 0
 AreLinked s roots = (r : Rooted) → Contains roots r → IsLinked s r.inodes
 
--- All roots are sound but for their links, and the map tells what they reach.
+-- All roots are sound but for their links, and the map says what they reach.
 pub record AreMarked (n : ℕ) (c : Contents) (slot : Slot) (root : RootBody) : Type 0 where
   pub checked : AreChecked n (store_of c) root (rooted_in root)
   pub map : TellsRoots n (store_of c) root (map_word n c slot)
 
--- The fault stands, and none of an earlier group does.
+-- The fault is there, and none of an earlier group is.
 pub record IsFirstOf (n : ℕ) (c : Contents) (slot : Slot) (root : RootBody) (damage : Damage) (block : ℕ) : Type 0 where
   pub stands : Stands n c slot root damage block
   pub before : (other : Damage) (place : ℕ) → group_of other < group_of damage → Stands n c slot root other place → ⊥

@@ -26,7 +26,7 @@ SetsGrow = (n : ℕ) (s : Store) (roots : List Rooted) (root : Rooted) (old new 
 abbrev pub FitWords : List ℕ → Type 0
 FitWords words = (block : ℕ) → slice_index words block < 2 ^ 32
 
--- Where the words of a copy are those of the marks of all roots, they tell what the roots reach.
+-- Where the words of a copy are those of the marks of all roots, they say what the roots reach.
 abbrev pub RightWordsTellRoots : Type 0
 RightWordsTellRoots = (n : ℕ) (c : Contents) (slot : Slot) (root : RootBody) (words : List ℕ) → FitWords words → AreSets (store_of c) (rooted_in root) words
     → HasWords n c slot words → TellsRoots n (store_of c) root (map_word n c slot)

@@ -10,7 +10,7 @@ HaveOneFile roots i j = (other : Rooted) → (slice_index_or roots i other).inod
 abbrev pub NoneHasFileOf : List Rooted → ℕ → ℕ → Type 0
 NoneHasFileOf roots i count = (j : ℕ) → j < count → HaveOneFile roots i j → ⊥
 
--- Root j is the first that has the inode file of root i, and stands before it.
+-- Root j is the first that has the inode file of root i, and is before it.
 pub record IsFirstSeen (roots : List Rooted) (i j : ℕ) : Type 0 where
   pub before : j < i
   pub same : HaveOneFile roots i j

@@ -1,4 +1,4 @@
--- What marks of all roots come to.
+-- What marks of all roots result in.
 use Rattle.std.specs.Prelude.{◌≡◌, ◌↔◌, ℕ, List, slice_index}
 use Rattle.std.specs.Int.{bit_at}
 use Rattle.sn_ondisk.specs.Trees.{Store}

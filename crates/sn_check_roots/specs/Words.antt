@@ -15,7 +15,7 @@ HasWords n c slot wanted = (block : ℕ) → block < 1024 * map_blocks n → map
 abbrev pub HasFirst : ℕ → Contents → Slot → List ℕ → ℕ → Type 0
 HasFirst n c slot wanted i = (block : ℕ) → block < 1024 * i → map_word n c slot block ≡ slice_index wanted block
 
--- One isn't, and is told by the block that it stands for.
+-- One isn't, and is reported at the block that it is the word of.
 pub data HasOtherWord (n : ℕ) (c : Contents) (slot : Slot) (wanted : List ℕ) : Damage → ℕ → Type 0 where
   other : (block : ℕ) → block < 1024 * map_blocks n → map_word n c slot block ≢ slice_index wanted block → HasOtherWord n c slot wanted MapWord block
 
@@ -26,6 +26,6 @@ pub record HasOther (words wanted : List ℕ) (from block : ℕ) : Type 0 where
   pub here : block ≡ from + k
   pub apart : slice_index words k ≢ slice_index wanted block
 
--- the same, as it is told
+-- the same, as it is reported
 pub data IsOther (words wanted : List ℕ) (from : ℕ) : Damage → ℕ → Type 0 where
   in_block : (block : ℕ) → HasOther words wanted from block → IsOther words wanted from MapWord block

@@ -69,7 +69,7 @@ fn check_marks<D: Device>(
     ensures same { IsTrue D.tells_bytes → D.disk (device_of blocks.new) ≡ D.disk (device_of blocks.old) }
     ensures counts { CountsCheck result (D.status (device_of blocks.old)) (D.status (device_of blocks.new)) }
 {
-    // Where words are those of the marks of all roots, they tell what the roots reach.
+    // Where words are those of the marks of all roots, they say what the roots reach.
     set_laws();
     root_laws();
     let body = geometry.start(Area::RootBody(slot));
@@ -82,8 +82,8 @@ fn check_marks<D: Device>(
 
 /// Checks all roots of a disk, the live one and those of its snapshots: the pointers and the spelling of each,
 /// then the words of the slot's copy of the map, then the names and links of each. At `Ok` they are sound, and
-/// the map that is answered has the words of the copy. What is told otherwise stands, and nothing of an earlier
-/// group does. The memory for the map and for the count of names is taken here.
+/// the map that is answered has the words of the copy. What is reported otherwise is so, and nothing of an earlier
+/// group is. The memory for the map and for the count of names is taken here.
 ///
 /// Proved: At `Ok` all roots of a disk, the live one and those of its snapshots, are sound, and the words of the slot's copy
 /// of the map are those of what they reach; the map that is returned has those words.
@@ -108,7 +108,7 @@ pub fn check_roots<D: Device>(
     ensures same { IsTrue D.tells_bytes → D.disk (device_of blocks.new) ≡ D.disk (device_of blocks.old) }
     ensures counts { CountsCheck result (D.status (device_of blocks.old)) (D.status (device_of blocks.new)) }
 {
-    // A root is sound with its links, and what stands makes it unsound.
+    // A root is sound with its links, and a fault makes it unsound.
     root_laws();
     let map = check_marks(alloc, blocks, geometry, slot, root)?;
     let mut census = new_census(alloc)?;

@@ -1,20 +1,20 @@
 //! Checking all roots of a disk, the live one and those of its snapshots, and the copy of the block map that
-//! tells of them.
+//! says what they reach.
 //!
-//! The model is that of `sn_sound`: `IsSoundRoot` says when all roots are sound and the words of the map tell
-//! what they reach, and `Stands` which fault stands at which block. Faults come in groups: pointers and
+//! The model is that of `sn_sound`: `IsSoundRoot` says when all roots are sound and the words of the map say
+//! what they reach, and `Stands` which fault is at which block. Faults come in groups: pointers and
 //! spelling, the map, names and links. A group is looked at in all roots before the next one begins, so a
-//! fault that is told is one of the first group that has one (`IsFirstOf`). Over a device that tells its bytes
+//! fault that is reported is one of the first group that has one (`IsFirstOf`). Over a device that tells its bytes
 //! the answer is exact.
 //!
 //! Whoever goes through the roots sets in a `Map` the bit of each root for each block that it reaches. `AreSets` says what that
-//! comes to: the word of each block is the set of the roots that were gone through and reach it. It begins with zeros, and grows by
-//! each root whose bit no other has ([`set_laws`]). A copy of the map tells the roots (`TellsRoots` of `sn_sound`) exactly where
+//! results in: the word of each block is the set of the roots that were gone through and reach it. It begins with zeros, and grows by
+//! each root whose bit no other has ([`set_laws`]). A copy of the map agrees with the roots (`TellsRoots` of `sn_sound`) exactly where
 //! each of its words is that of the marks, those past the last block of the disk too, which are 0.
 //!
-//! The way through: `rooted` lists the roots with their bits, and tells which earlier one has the same inode
+//! The way through: `rooted` lists the roots with their bits, and says which earlier one has the same inode
 //! file; `marking` checks each but for its links (`sn_check_root`), which leaves its marks in one map;
-//! `words` compares that with the copy on the disk, block after block, and tells the first word that is another
+//! `words` compares that with the copy on the disk, block after block, and reports the first word that is another
 //! ([`check_map`]); `linking` counts the names of each root (`sn_census`). A root whose inode file an earlier one has is read by neither: its marks are copied, and its
 //! links are those of that one. `checking` puts them together.
 //!

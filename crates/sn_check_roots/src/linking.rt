@@ -44,7 +44,7 @@ fn link_one<D: Device>(
     count_links(census, blocks, &root.limits, &root_at(root, i).file, body)
 }
 
-/// Counts the names of all roots, which were checked but for their links. The first fault found so is told.
+/// Counts the names of all roots, which were checked but for their links. The first fault found so is reported.
 pub(crate) fn link_roots<D: Device>(
     census: &mut Census,
     blocks: &mut Blocks<D>,

@@ -44,7 +44,7 @@ fn mark_one<D: Device>(
     ensures same { IsTrue D.tells_bytes → D.disk (device_of blocks.new) ≡ D.disk (device_of blocks.old) }
     ensures counts { CountsCheck result (D.status (device_of blocks.old)) (D.status (device_of blocks.new)) }
 {
-    // The marks of a root come to its part of the sets.
+    // The marks of a root are its part of the sets.
     set_laws();
     let it = root_at(root, i);
     if let Some(j) = seen_before(root, i) {
@@ -59,7 +59,7 @@ fn mark_one<D: Device>(
 }
 
 /// Checks all roots but for their links, and marks in a map of zeros what each reaches. `body` is the block of
-/// the root body. The first fault found so is told.
+/// the root body. The first fault found so is reported.
 pub(crate) fn mark_roots<D: Device>(
     alloc: Global,
     blocks: &mut Blocks<D>,

@@ -82,8 +82,8 @@ fn check_words<D: Device>(
 }
 
 /// Compares each word of a slot's copy of the map with that of a map, which has a word for each block of the
-/// disk. The words past the last block are to be 0. The first word that is another is told by the block that
-/// it stands for.
+/// disk. The words past the last block are to be 0. The first word that is another is reported at the block that
+/// it is the word of.
 ///
 /// Proved: At `Ok` each word of a slot's copy of the map is that of the map that is given, and 0 past the last block of the
 /// disk.
@@ -104,7 +104,7 @@ pub fn check_map<D: Device>(
     ensures same { IsTrue D.tells_bytes → D.disk (device_of blocks.new) ≡ D.disk (device_of blocks.old) }
     ensures counts { CountsCheck result (D.status (device_of blocks.old)) (D.status (device_of blocks.new)) }
 {
-    // It tells how large a disk can be.
+    // It says how large a disk can be.
     geometry.blocks();
     let copy = geometry.range(Area::MapCopy(slot));
     for i in 0..geometry.map_blocks() {

@@ -30,7 +30,7 @@ unfolding walk_fault walked
 stopped_faults s w name seen [] = refl
 stopped_faults s w name seen (word ∷ words) = stopped_faults s w name (seen ++ word ∷ []) words
 
--- the faults of all, by those of the walk and by where it stood at its end
+-- the faults of all, by those of the walk and by where it was at its end
 abbrev by_walk : Kinds → Walk → Kinds
 by_walk faults w = or_else faults (or_else (entered_fault whole w.stopped)
     (or_else (settle_fault whole.top.rules whole.top.args_override_self w.held)

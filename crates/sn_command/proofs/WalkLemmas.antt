@@ -34,7 +34,7 @@ abbrev pub OpenAlong : List Rule → Walk → List Text → Type 0
 OpenAlong c w [] = ⊤
 OpenAlong c w (word ∷ words) = IsOpen w × OpenAlong c (after c w word) words
 
--- the faults of these words, and then of those behind them
+-- the faults of these words, and then of those after them
 abbrev pub along : Shape → Walk → List Text → (Walk → Kinds) → Kinds
 along s w [] rest = rest w
 along s w (word ∷ words) rest = or_else (step_fault s w.position w.held value) (along s (after s.rules w word) words rest)

@@ -1,4 +1,4 @@
--- Contents whose bytes lie in the inode, move out of it, or are cut back to it.
+-- Contents whose bytes are in the inode, move out of it, or are cut back to it.
 use Rattle.std.proofs.Common.{◌≡◌, ◌≢◌, ℕ, zero, suc, ◌+◌, ◌-◌, ◌*◌, ◌/◌, ◌<◌, ◌≤◌, ◌&&◌, ◌==◌, Bool, true, false, List, [], ◌∷◌, ◌++◌, length, take, get_or, slice_index, replicate, Contains, Bor, refl, sym, ap, subst, ◌∙◌, arith, if◌then◌else◌}
 use Rattle.std.specs.Prelude.{◌^◌, nat_lt, is_some, Option, Some, None, IfSome, IsNone, IfOk, Result, Ok, Err}
 use Rattle.std.proofs.Math.Nat.{mul-le-mul_left}

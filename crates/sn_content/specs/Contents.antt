@@ -19,7 +19,7 @@ use Rattle.sn_tree.specs.Replanned.{EndsAt, IsReplanned}
 use Rattle.sn_tree.specs.declared.new_block.NewBlock.{NewBlock}
 use Rattle.sn_tree.specs.declared.new_block.DirtyBlock.{DirtyBlock}
 
--- data block i of a file whose bytes lie in the inode: the first one has them, with zeros behind them
+-- data block i of a file whose bytes are in the inode: the first one has them, followed by zeros
 abbrev pub inline_block : List ℕ → ℕ → List ℕ
 inline_block bytes i = if i == 0 then bytes ++ zeros (4096 - length bytes) else zeros 4096
 
@@ -33,7 +33,7 @@ abbrev pub HasDataBlocks : Store → Content → (ℕ → List ℕ) → Type 0
 HasDataBlocks s (Inline bytes) wanted = bytes ≡ take (length bytes) (wanted 0)
 HasDataBlocks s (Tree tree) wanted = (i : ℕ) → i < 16 * 1024 ^ levels_of tree.size → data_block s tree i ≡ wanted i
 
--- Up to 64 bytes lie in the inode, and more in blocks.
+-- Up to 64 bytes are in the inode, and more in blocks.
 abbrev pub HasItsForm : Content → Type 0
 HasItsForm (Inline bytes) = length bytes ≤ 64
 HasItsForm (Tree tree) = 64 < tree.size

@@ -1,4 +1,4 @@
-//! The content of a file, whose bytes lie in the inode or in blocks.
+//! The content of a file, whose bytes are in the inode or in blocks.
 ghost use Rattle.std.specs.Prelude.{◌≡◌, ℕ, ◌≢◌, ◌+◌, ◌*◌, ◌≤◌, ◌<◌, length, take, Option as TheOption, Err, IsTrue, IfOk, OnOk};
 ghost use Rattle.sn_device.specs.Disk.{reads};
 ghost use Rattle.sn_block.specs.Lending.{device_of};
@@ -155,7 +155,7 @@ fn plan_moved<D: Device>(
     plan_new(build, blocks, size, changed)
 }
 
-/// Plans the content of a file with another size and other data blocks. At most 64 bytes lie in the inode,
+/// Plans the content of a file with another size and other data blocks. At most 64 bytes are in the inode,
 /// more in blocks: where a file grows past that, its bytes become the first ones of data block 0, if that
 /// stays and isn't dirty, and where it is cut back, the inode gets the first bytes of data block 0 and all
 /// blocks are released. Else it is `plan_tree` of `sn_tree`, with its errors: after one the build can only be given up.

@@ -1,4 +1,4 @@
-//! The bytes of a content that lie in the inode.
+//! The bytes of a content that are in the inode.
 ghost use Rattle.std.specs.Prelude.{◌≡◌, ℕ, ◌-◌, ◌≤◌, List, ◌++◌, length, take, Option as TheOption, Err, IsTrue, IsNone, IfOk, IfSome};
 ghost use Rattle.sn_device.specs.Disk.{reads};
 ghost use Rattle.sn_block.specs.Lending.{device_of};
@@ -25,7 +25,7 @@ fn hole() -> Block
     [0; BLOCK_SIZE]
 }
 
-/// The first data block of a file whose bytes lie in the inode.
+/// The first data block of a file whose bytes are in the inode.
 pub(crate) fn inline_block(inline: &InlineBytes) -> Block
     ensures { result ≡ inline.now ++ zeros (4096 - length inline.now) }
 {

@@ -1,8 +1,8 @@
-//! Planning the content of a file, whose bytes lie in its inode or in blocks.
+//! Planning the content of a file, whose bytes are in its inode or in blocks.
 //!
-//! The model is that of `sn_image` and `sn_tree`. Up to 64 bytes of a content lie in the inode, and more in the
-//! blocks of a tree. Of either form `content_block` tells the data blocks: where the bytes lie in the inode, data
-//! block 0 has them, with zeros behind them. What a plan says of the new content holds in every store that has the
+//! The model is that of `sn_image` and `sn_tree`. Up to 64 bytes of a content are in the inode, and more in the
+//! blocks of a tree. Of either form `content_block` gives the data blocks: where the bytes are in the inode, data
+//! block 0 has them, followed by zeros. What a plan says of the new content holds in every store that has the
 //! new blocks and agrees with the old one in what the old content reaches (`IsContentPlanned`): each data block is
 //! the dirty one if there is one, the old one if it stays, and else zeros, and what the content reaches with what
 //! is released is what the old one reached with what was added, each block as often. So where a file grows out of

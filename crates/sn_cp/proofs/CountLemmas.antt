@@ -48,7 +48,7 @@ map_next : (w : Work) (k : ℕ) (more : Bool) → nat_lt (k + 1) (map_blocks w.b
 map_next w k true is = ltb-true (k + 1) (map_blocks w.blocks) is
 map_next w k false is = root_next w w.gate refl
 
--- behind each step but the last there is one more
+-- after each step but the last there is one more
 pub goes_on : (w : Work) (stage : Stage) → IsWhole w → IsWithin w stage → IsBeforeOpening stage → IsWithin w (next_stage w stage)
 goes_on w (Blocks k) whole within before = block_next w whole k (nat_lt (k + 1) (length w.plan.blocks)) refl
 goes_on w (MapBlocks k) whole within before = map_next w k (nat_lt (k + 1) (map_blocks w.blocks)) refl
@@ -57,7 +57,7 @@ goes_on w Shut whole within before = tt
 goes_on w Bodied whole within before = absurd before
 goes_on w Done whole within before = absurd before
 
--- behind a step it is at a stage again
+-- after a step it is at a stage again
 pub stage_next : (w : Work) (stage : Stage) → IsWhole w → IsWithin w stage → IsStageOf w (next_stage w stage)
 stage_next w (Blocks k) whole within = stage_within w (next_stage w (Blocks k)) (goes_on w (Blocks k) whole within tt)
 stage_next w (MapBlocks k) whole within = stage_within w (next_stage w (MapBlocks k)) (goes_on w (MapBlocks k) whole within tt)
@@ -68,7 +68,7 @@ stage_next w Done whole within = tt
 
 -- ---- counts
 
--- what is left behind a step
+-- what is left after a step
 record LeavesLess (w : Work) (stage after : Stage) : Type 0 where
   steps : steps_left w after + 1 ≡ steps_left w stage
   writes : writes_left w stage ≡ writes_of w stage + writes_left w after

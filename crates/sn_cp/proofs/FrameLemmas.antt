@@ -25,9 +25,9 @@ use Rattle.sn_root.proofs.ReplacingLemmas.{gate_depends}
 use Rattle.sn_root.proofs.SlotLemmas.{open_in}
 use Rattle.sn_opening.specs.Points.{HoldsAll, IsStored, Plan, Written}
 
--- ---- where things lie
+-- ---- where things are
 
--- the sectors behind superblock, bodies and gates
+-- the sectors after superblock, bodies and gates
 abbrev pub FromMaps : ℕ → Type 0
 FromMaps i = 32 ≤ i
 
@@ -51,7 +51,7 @@ block_and_gate n block slot lie i is same = let below = gate_below slot in omega
 pub map_and_gate : (n k : ℕ) (slot other : Slot) → AreDisjoint (InBlock (start_of n (MapCopy slot) + k)) (Single (gate_sector other))
 map_and_gate n k slot other i is same = let below = gate_below other in let start = map_start n slot in omega (arith, is.0, same, below, start)
 
--- ---- what stands there stays
+-- ---- what is there stays
 
 pub holds_depend : (n : ℕ) (blocks : List Written) → AllByRecursion (λ (b : Written). IsIn n Data b.0) blocks → DependsOn FromMaps (λ c. HoldsAll (store_of c) blocks)
 holds_depend n [] lie c d whole_c whole_d agrees holds = tt

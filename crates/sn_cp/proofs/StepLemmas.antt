@@ -57,7 +57,7 @@ others_differ (x ∷ xs) (suc k) b pairs at =
     let below : x.0 < slice_index_or (numbers_written xs) k 0 = pairs 0 (suc k) 0 (omega arith) (omega (arith, there.1)) in
     (λ same. omega (arith, same, below, there.0), others_differ xs k b (λ i j d before within. pairs (suc i) (suc j) d (omega (arith, before)) (omega (arith, within))) at)
 
--- where it lies
+-- where it is
 pub lies_at : (n : ℕ) (blocks : List Written) (k : ℕ) (b : Written) → AllByRecursion (λ (x : Written). IsIn n Data x.0) blocks → StandsAt blocks k b → IsIn n Data b.0
 lies_at n [] k b lie at = absurd at
 lies_at n (x ∷ xs) zero b lie at = subst (λ (y : Written). IsIn n Data y.0) at lie.0
@@ -119,7 +119,7 @@ module _ (w : Work) (whole : IsWhole w) (k : ℕ) (within : k < map_blocks w.blo
         map_reached;
   }
 
-  -- the last, and the sync behind it
+  -- the last, and the sync after it
   module _ (last : nat_lt (k + 1) (map_blocks w.blocks) ≡ false) (wrote : HasReached w.blocks mid w.slot w.plan (far.MapBlocks (k + 1))) {U F : Type 0} (answer : Result U F) (new : Disk) (syncs : SyncsAll answer mid new) where
     both : Touches (InBlock (start_of w.blocks (MapCopy w.slot) + k)) old new
     both = Touches-join (InBlock (start_of w.blocks (MapCopy w.slot) + k)) old mid new writes.touched

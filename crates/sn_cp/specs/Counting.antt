@@ -39,7 +39,7 @@ writes_left w Shut = 9
 writes_left w Bodied = 1
 writes_left w Done = 0
 
--- and how many syncs: one behind the map, and one in each step of the root
+-- and how many syncs: one after the map, and one in each step of the root
 abbrev pub syncs_left : Work → Stage → ℕ
 syncs_left w Stored = 3
 syncs_left w Shut = 2

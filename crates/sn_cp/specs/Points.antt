@@ -30,7 +30,7 @@ stage_of p = p.stage
 abbrev pub first_stage : ℕ → Stage
 first_stage count = if count == 0 then MapBlocks 0 else Blocks 0
 
--- The point has come so far: what `HasReached` says of each stage, and once it is done, blocks and map stand behind the open gate, and nothing is unsynced.
+-- The point is this far: what `HasReached` says of each stage, and once it is done, blocks and map are in place with the gate open, and nothing is unsynced.
 abbrev pub HasCome : Work → Stage → Disk → Type 0
 HasCome w (Blocks k) d = HasReached w.blocks d w.slot w.plan (far.Blocks k)
 HasCome w (MapBlocks k) d = HasReached w.blocks d w.slot w.plan (far.MapBlocks k)

@@ -47,7 +47,7 @@ pub record ShowsBeside (w : Work) (s : Store) (slot : Slot) (root : RootBody) (o
   pub has_third : Always d (HasRecords w.blocks w.plan.next.epoch third)
   pub has_fourth : Always d (HasRecords w.blocks (w.plan.next.epoch + 1) fourth)
 
--- The disk shows the next root. The new blocks stand with the words of its map, and what the root before it reached is as it was: so whatever holds of its tree over such blocks does here.
+-- The disk shows the next root. The new blocks are in place with the words of its map, and what the root before it reached is as it was: so whatever holds of its tree over such blocks does here.
 pub record ShowsNext (w : Work) (s : Store) (root : RootBody) (third fourth : List Change) (c : Contents) : Type 0 where
   pub shown : Shown w.blocks c w.slot w.plan.next (payloads_of third) (payloads_of fourth)
   pub same : SameIn (all_reach s root) s (store_of c)
@@ -87,7 +87,7 @@ LogKeepsTheStage = (w : Work) (stage : Stage) (epoch : ℕ) (old new : Disk) →
     → Touches (InHalf (base_of w.blocks epoch)) old new
     → StandsAtStage w stage old → StandsAtStage w stage new
 
--- ---- behind the gate
+-- ---- after the gate
 
 -- What was built denotes the tree that was frozen, and with the records of its two epochs the next root stands for a world: contents that show it open to that.
 abbrev pub NextRootsOpen : Type 0
@@ -110,7 +110,7 @@ pub record InPoint (w : Work) (sector : ℕ) : Type 0 where
   pub within : IsWithin w stage
   pub of_step : InStep w stage sector
 
--- Whatever the answer, only sectors of the point were written, and a crash at any moment leaves the root that counts, with its records, or the next one. At `Ok` the point stands done, and every crash leaves the next one.
+-- Whatever the answer, only sectors of the point were written, and a crash at any moment leaves the root that counts, with its records, or the next one. At `Ok` the point is done, and every crash leaves the next one.
 pub record Finishes {T E : Type 0} (w : Work) (result : Result T E) (old new : Disk) : Type 0 where
   pub touched : Touches (InPoint w) old new
   pub done : OnOk result (StandsAtStage w Done new)

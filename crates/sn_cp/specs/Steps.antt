@@ -23,7 +23,7 @@ use Rattle.sn_cp.specs.declared.stage.Stage.TheVariants.{Blocks, MapBlocks, Stor
 
 -- ---- stages
 
--- behind the last of the map all is synced, and a gate that stands closed isn't closed again
+-- after the last of the map all is synced, and a gate that is closed isn't closed again
 abbrev pub with_map : Gate → Stage
 with_map Open = Stored
 with_map Closed = Shut
@@ -45,7 +45,7 @@ IsWithin w stage = Unit {0}
 
 -- ---- what a step takes for granted
 
--- What it writes lies in the data area, no block twice, and its map has a word for each block.
+-- What it writes is in the data area, no block twice, and its map has a word for each block.
 pub record IsWhole (w : Work) : Type 0 where
   pub size : IsDiskSize w.blocks
   pub place : AllByRecursion (λ (b : Written). IsIn w.blocks Data b.0) w.plan.blocks
@@ -83,7 +83,7 @@ InStep w Shut = InBlock (body_block w.slot)
 InStep w Bodied = Single (gate_sector w.slot)
 InStep w Done = Nowhere
 
--- In the root's parts a crash at any moment leaves the root that was newest, with its records; in the gate's opening the next one, too. Blocks and map lie apart from these: what is said of them is where they lie.
+-- In the root's parts a crash at any moment leaves the root that was newest, with its records; in the gate's opening the next one, too. Blocks and map are apart from these: what is said of them is where they are.
 abbrev pub TakesRoot : {T E : Type 0} → Work → Stage → Result T E → Disk → Disk → Type 0
 TakesRoot w (Blocks k) result old new = Unit {0}
 TakesRoot w (MapBlocks k) result old new = Unit {0}
@@ -92,7 +92,7 @@ TakesRoot w Shut result old new = KeepsRoot w.slot old new
 TakesRoot w Bodied result old new = ChangesRoot w.slot w.plan.next result old new
 TakesRoot w Done result old new = Unit {0}
 
--- Whatever the answer, only the step's own sectors were written. At `Ok` the point stands at its next stage, in all that a crash may leave where that is said of the stage.
+-- Whatever the answer, only the step's own sectors were written. At `Ok` the point is at its next stage, in all that a crash may leave where that is said of the stage.
 pub record StepsTo {T E : Type 0} (w : Work) (stage : Stage) (result : Result T E) (old new : Disk) : Type 0 where
   pub touched : Touches (InStep w stage) old new
   pub root : TakesRoot w stage result old new

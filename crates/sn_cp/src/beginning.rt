@@ -11,14 +11,14 @@ use sn_device::Device;
 use sn_layout::{Geometry, LogHalf};
 use sn_log::{Log, close_half};
 
-/// Clears the first place of the half that the root's own epoch doesn't have, and has the log go on there: what is logged
-/// from then on, while the point runs, comes behind its root. It reads a gate, so memory may be refused, before its one
-/// write. Where it isn't done, the log goes on as it did.
+/// Clears the first place of the half that the root's own epoch doesn't have, and has the log continue there: what is logged
+/// from then on, while the point runs, comes after its root. It reads a gate, so memory may be refused, before its one
+/// write. Where it isn't done, the log continues as it did.
 ///
 /// Proved: A point begins with one write and one sync in the half of the next epoch: a crash at any moment of it leaves the
 /// root with its records and none newer, and at `Ok` the log is at the first place of that epoch, ready for a record
 /// whatever a crash leaves.
-/// Proved: Where a point isn't begun, the log goes on where it was, and want of memory comes before the write.
+/// Proved: Where a point isn't begun, the log continues where it was, and want of memory comes before the write.
 pub fn begin<D: Device>(
     blocks: &mut Blocks<D>,
     geometry: Geometry,

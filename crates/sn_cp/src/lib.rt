@@ -8,13 +8,13 @@
 //! - Whatever the answer, only the step's own sectors were written: a new block, a block of the slot's map copy, its
 //!   gate, its body. In the parts of the root a crash at any moment leaves the root that was newest with its records,
 //!   and in the gate's opening that or the next one (`TakesRoot`).
-//! - At `Ok` the point stands at its next stage (`StandsAtStage`), which is what the step behind it asks for.
+//! - At `Ok` the point is at its next stage (`StandsAtStage`), which is what the step after it asks for.
 //! - Each step has at least one write and at most eight, and exactly so many of them and syncs as its stage has.
 //!
 //! [`Point::finish`] makes all that are left and says so of them together: what was touched, exact counts, and that a
-//! crash at any moment leaves the root that was newest or the next one (`Finishes`). [`Point::steps_left`] tells how many
-//! they are. [`begin`] comes first where calls go on in the course of the point: it clears the half of the log that the
-//! next epoch has, and has the log go on there.
+//! crash at any moment leaves the root that was newest or the next one (`Finishes`). [`Point::steps_left`] says how many
+//! they are. [`begin`] comes first where calls continue in the course of the point: it clears the half of the log that the
+//! next epoch has, and has the log continue there.
 //!
 //! What the disk shows is said by laws, on a disk of the point's own size and beside a root that is given:
 //! - [`shown_laws`]: until the gate is opened a crash at any moment of a step leaves that root with its records, in the
@@ -25,8 +25,8 @@
 //! - [`count_laws`]: each step leaves one less, and with its beginning a point of F new blocks and M blocks of the map
 //!   has at most F + M + 4.
 //!
-//! The order is that of Hitz, Lau and Malcolm 1994: new blocks first, then the map, synced behind its last block; then
-//! the three parts of the root, each synced. A gate that stands closed isn't closed again, since a torn write might open
+//! The order is that of Hitz, Lau and Malcolm 1994: new blocks first, then the map, synced after its last block; then
+//! the three parts of the root, each synced. A gate that is closed isn't closed again, since a torn write might open
 //! it over a body that never counted.
 //!
 //! The way through: `specs/Points.antt` has what a point is, `Steps.antt` its stages and what a step does,

@@ -70,7 +70,7 @@ impl Point {
         self.stage
     }
 
-    /// The stage behind a step.
+    /// The stage after a step.
     fn following(&self) -> Stage
         requires { IsWithin (work_of self.now) (stage_of self.now) }
         ensures { result ≡ next_stage (work_of self.now) (stage_of self.now) }

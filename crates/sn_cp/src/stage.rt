@@ -1,6 +1,6 @@
 //! How far a point is.
 
-/// How far a consistency point is. What stands unsynced may be torn by a crash; from `Stored` on nothing of it is.
+/// How far a consistency point is. What is unsynced may be torn by a crash; from `Stored` on nothing of it is.
 #[derive(Clone, Copy, PartialEq, Eq)]
 pub enum Stage {
     /// So many of the new blocks are written.
@@ -11,7 +11,7 @@ pub enum Stage {
     Stored,
     /// The slot's gate is closed, synced.
     Shut,
-    /// The next root stands behind it, synced.
+    /// The next root's body is written, synced; the gate is still closed.
     Bodied,
     /// The gate is open, synced: the next root counts.
     Done,

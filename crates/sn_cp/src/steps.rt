@@ -44,7 +44,7 @@ impl Point {
         blocks.write_block(block.number, &block.bytes)
     }
 
-    /// Writes one block of the map copy, and syncs behind the last.
+    /// Writes one block of the map copy, and syncs after the last.
     fn write_map<D: Device>(&self, blocks: &mut Blocks<D>, k: u32) -> Result<(), Fault>
         requires room { 8 * (work_of self.now).blocks ≤ (D.status (device_of blocks.old)).sectors }
         requires whole { IsWhole (work_of self.now) }

@@ -77,9 +77,9 @@ no_zero t inodes = ⊎_elim
     (λ (nothing : times 0 (reach t inodes) ≤ 0). omega (arith, nothing))
     (cases_lt 0 (times 0 (reach t inodes)))
 
--- ---- what a map tells
+-- ---- what a map says
 
--- none of the blocks that are told can be taken
+-- none of the blocks with this bit can be taken
 pub told_kept : (k : ℕ) (words reached : List ℕ) (first block : ℕ) → TellsBit k words reached → Contains reached block → IsFreeData words first block → ⊥
 told_kept k words reached first block tells among free =
     let one : bit_at (slice_index words block) k ≡ 1 = (tells block).1 among in

@@ -45,7 +45,7 @@ turned a b = ⊎_elim
     (λ (other : a ≢ b). ap one_if (ne_eqb a b other ∙ sym (ne_eqb b a (λ e. other (sym e)))))
     (cases_eq a b)
 
--- Of entries, those that belong to one of some numbers, of which each stands once, are no more than all.
+-- Of entries, those that belong to one of some numbers, of which each occurs once, are no more than all.
 module _ {X : Type 0} (number : X → ℕ) (numbers : List ℕ) (once : (n : ℕ) → times n numbers ≤ 1) where
   abbrev of_each : List X → ℕ
   of_each es = sum_by (λ (n : ℕ). count_by (λ (e : X). number e == n) es) numbers

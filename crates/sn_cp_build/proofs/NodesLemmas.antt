@@ -152,7 +152,7 @@ module _ (layer left : Layer) (xs : List ℕ) (x : ℕ) (so_far : IsLeft layer x
         ∙ so_far.blocks number (λ among. apart (Contains-append_left xs (x ∷ []) number among));
   }
 
--- ---- a node that was built over a store that is the same where bytes are told
+-- ---- a node that was built over a store that is the same where the device tells its bytes
 
 module _ (Told : Type 0) (limits : Limits) (s t : Store) (file : BlockTree) (layer : Layer) (same : Told → t ≡ s) (number : ℕ) (change : Option InodeChange) (a b : Draft) where
   abbrev ReachesAt : BuildsNode Told limits t file layer number change a b → Store → Type 0

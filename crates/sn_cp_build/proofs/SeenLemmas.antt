@@ -48,7 +48,7 @@ module _ (limits : Limits) (n : ℕ) (s r : Store) (file : BlockTree) (layer : L
   alike : RootReadsAlike s r file
   alike = roots_depend s r file same
 
-  -- the old root as it stands in the other store
+  -- the old root as it is in the other store
   pub sound_there : IsSound limits n r file
   sound_there = sound_depends s r file same limits n ground.sound
 

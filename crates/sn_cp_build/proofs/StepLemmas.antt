@@ -57,7 +57,7 @@ module _ (Told : Type 0) (limits : Limits) (s t : Store) (file : BlockTree) (lay
 pub left_first : (layer : Layer) → IsLeft layer [] layer
 left_first layer = record { nodes = refl; names = refl; blocks = λ number apart. refl }
 
--- each number stands in what is left, too
+-- each number is in what is left, too
 pub inside_left : (layer left : Layer) (k : ℕ) (xs : List ℕ) → IsLeft layer xs left → (entries : List (ℕ × NodeChange)) → entries ≡ fin.entries layer.nodes → k < length entries → k < length (numbers_of left)
 inside_left layer left k xs so_far entries is within =
     let same : numbers_of left ≡ numbers_of layer = ap (λ m. map (λ (e : ℕ × NodeChange). e.0) (fin.entries m)) so_far.nodes in

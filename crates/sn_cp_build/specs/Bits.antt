@@ -26,7 +26,7 @@ pub record MakesUp (was is added released : List ℕ) : Type 0 where
   pub once : (block : ℕ) → times block was + times block added ≤ 1
   pub no_zero : times 0 is + times 0 was + times 0 added ≡ 0
 
--- The map tells what is reached where it told what was in the bit that the build begins from, and the bits of snapshots are edited.
+-- The map says what is reached where it did before in the bit that the build begins from, and the bits of snapshots are edited.
 pub record BitsFollow (added released : List ℕ) (edit : SnapshotEdit) (old new : List ℕ) : Type 0 where
   pub as_many : length new ≡ length old
   pub snapshots : IsEdited edit old new

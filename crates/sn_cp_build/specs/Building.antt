@@ -33,14 +33,14 @@ pub record IsTreePlanned (Told : Type 0) (limits : Limits) (s : Store) (file : B
   pub larger : file.size ≤ new.size
   pub file_is : IsInodeFile limits new
 
--- What the new inode file is in a store: it denotes the tree that is seen through the layer, is sound, and bit 0 of the map tells exactly what it reaches, which is nothing but new blocks and those that the old one reached.
+-- What the new inode file is in a store: it denotes the tree that is seen through the layer, is sound, and bit 0 of the map says exactly what it reaches, which is nothing but new blocks and those that the old one reached.
 pub record IsFrozen (n : ℕ) (limits : Limits) (s : Store) (file : BlockTree) (layer : Layer) (built : Built) (r : Store) : Type 0 where
   pub tree : image r built.inode_file ≡ through layer (image s file)
   pub sound : IsSound limits n r built.inode_file
   pub bits : TellsBlocks built.map (reach r built.inode_file)
   pub within : (block : ℕ) → Contains (reach r built.inode_file) block → Contains (reach s file) block ⊎ Contains (blocks_of built.blocks.items) block
 
--- What stands whatever the device tells: the new blocks were free, rise, and are no more than the layer needs; of the map nothing changes but bit 0 and what the edit says of the bits of snapshots.
+-- What holds whether or not the device tells its bytes: the new blocks were free, rise, and are no more than the layer needs; of the map nothing changes but bit 0 and what the edit says of the bits of snapshots.
 pub record IsWellBuilt (n : ℕ) (limits : Limits) (words : List ℕ) (layer : Layer) (edit : SnapshotEdit) (built : Built) : Type 0 where
   pub free : All (IsFreeData words (start_of n Data)) (blocks_of built.blocks.items)
   pub rise : IsStrictlyIncreasing (blocks_of built.blocks.items)
@@ -48,7 +48,7 @@ pub record IsWellBuilt (n : ℕ) (limits : Limits) (words : List ℕ) (layer : L
   pub as_many : length built.map ≡ length words
   pub snapshots : IsEdited edit words built.map
 
--- Over a sound root whose map tells in this bit what it reaches, and a layer that shows a name tree, the new inode file is what is wanted in each store that has the new blocks and agrees with the old one in what the old root reaches: so writes elsewhere don't matter.
+-- Over a sound root whose map says in this bit what it reaches, and a layer that shows a name tree, the new inode file is what is wanted in each store that has the new blocks and agrees with the old one in what the old root reaches: so writes elsewhere don't matter.
 abbrev pub Builds : ℕ → Limits → Store → BlockTree → ℕ → List ℕ → Layer → Built → Type 0
 Builds n limits s file bit words layer built = IsGround limits n s file layer → TellsBit bit words (reach s file)
     → (r : Store) → SameIn (reach s file) s r → Holds r built.blocks.items → IsFrozen n limits s file layer built r

@@ -25,7 +25,7 @@ IsEdited (edit.Freeze bit) old new = Freezes bit old new
 IsEdited (edit.Thaw bit) old new = Thaws bit old new
 IsEdited (edit.Restore bit) old new = SnapshotsStay old new
 
--- the bit that tells what a build begins from: that of a snapshot that is brought back, and else the live tree's
+-- the bit that says what a build begins from: that of a snapshot that is brought back, and else the live tree's
 abbrev pub base_bit : SnapshotEdit → ℕ
 base_bit (edit.Restore bit) = bit
 base_bit edit = 0

@@ -42,7 +42,7 @@ pub struct Built {
     pub inode_file: BlockTree,
     /// The new blocks, their numbers rising.
     pub blocks: Vec<NewBlock>,
-    /// The map in which bit 0 tells what the new inode file reaches, and the bits of snapshots are edited.
+    /// The map in which bit 0 says what the new inode file reaches, and the bits of snapshots are edited.
     pub map: Map,
 }
 
@@ -101,28 +101,28 @@ fn finished(build: Build, inode_file: BlockTree, edit: SnapshotEdit) -> Result<B
 }
 
 /// Builds the tree that is seen through an overlay over that of an inode file, the live one or that of the snapshot that is
-/// brought back: its new blocks, and the map in which bit 0 tells what it reaches. Of the bits of snapshots only the edited
+/// brought back: its new blocks, and the map in which bit 0 says what it reaches. Of the bits of snapshots only the edited
 /// one changes: a snapshot that is frozen reaches what the new tree does. It only reads. `Full` comes where there are too few
 /// free blocks, over a sound inode file only where they are fewer than the overlay needs, and `Damaged` where what was read
-/// can't be used, over a sound one never: one whose blocks lie on the device, with a map that tells in its bit what it
+/// can't be used, over a sound one never: one whose blocks are on the device, with a map that says in its bit what it
 /// reaches. What a snapshot alone reaches that goes isn't free yet, nor what the live tree alone reaches where a snapshot
 /// takes its place. After an error there is nothing to undo.
 ///
-/// Proved: Over a sound inode file that the map's bit 0 tells, with an overlay over its tree that shows a name tree, the new
+/// Proved: Over a sound inode file whose blocks bit 0 of the map marks, with an overlay over its tree that shows a name tree, the new
 /// inode file denotes the tree seen through the overlay, and is sound, in every store that has the new blocks and agrees
 /// with the old one in what the old inode file reaches.
-/// Proved: The row above asks that the old one is sound, that the map tells in its bit what it reaches, which is bit 0 but
-/// for a snapshot that is brought back, and that the overlay lies over its tree and shows a name tree.
-/// Proved: Over a sound inode file that the map's bit 0 tells, bit 0 of the new map is set for exactly what the new inode
+/// Proved: The row above asks that the old one is sound, that the map says in its bit what it reaches, which is bit 0 but
+/// for a snapshot that is brought back, and that the overlay is over its tree and shows a name tree.
+/// Proved: Over a sound inode file whose blocks bit 0 of the map marks, bit 0 of the new map is set for exactly what the new inode
 /// file reaches in these stores, which is nothing but new blocks and those that the old one reached.
-/// Proved: Whatever the device tells, the new blocks were free, their numbers rise, and they are no more than the overlay
+/// Proved: Whether or not the device tells its bytes, the new blocks were free, their numbers rise, and they are no more than the overlay
 /// needs; of the map bit 0 alone changes, but for the bit of a snapshot that is made or goes.
-/// Proved: A snapshot that is brought back keeps its bit, and bit 0 tells the new tree as above, whatever it was before. The
+/// Proved: A snapshot that is brought back keeps its bit, and bit 0 marks the new tree as above, whatever it was before. The
 /// new blocks were free in the old map, so none is one that the live tree of before reaches.
 /// Proved: The bit of a snapshot that is made becomes what bit 0 of the new map is, in each word; that of one that goes is
 /// cleared in each word, so that what nothing else reaches is free after this build; no other snapshot's bit changes.
 /// Proved: Over such an inode file it is never `Full` where what the overlay needs is free, and never `Damaged` where the
-/// disk's blocks lie on the device.
+/// disk's blocks are on the device.
 /// Proved: Nothing is written, and nothing is counted but a failure of the device.
 pub fn build<D: Device>(
     alloc: Global,

@@ -54,7 +54,7 @@ impl SnapshotBit {
 pub enum SnapshotEdit {
     /// Nothing: each snapshot keeps what it reaches.
     None,
-    /// A snapshot of the new tree is made: once bit 0 tells that tree, its bit becomes what bit 0 is, in each word.
+    /// A snapshot of the new tree is made: once bit 0 marks that tree, its bit becomes what bit 0 is, in each word.
     Freeze(SnapshotBit),
     /// A snapshot goes: its bit is cleared in each word, and what nothing else reaches is free from this map on.
     Thaw(SnapshotBit),

@@ -26,7 +26,7 @@ use sn_overlay::Overlay;
 use sn_tree::{Build, PlanFault};
 use std::alloc::{AllocError, Global};
 
-// Plans the node that stands at this index of the overlay's nodes, with the blocks that it has of it.
+// Plans the node at this index of the overlay's nodes, with the blocks that it has of it.
 fn plan_next<D: Device>(
     alloc: Global,
     build: &mut Build,
@@ -67,7 +67,7 @@ fn plan_next<D: Device>(
     )
 }
 
-// Puts what is to become of an inode behind the others, if anything is.
+// Appends what is to become of an inode, if anything is.
 fn push_listed(
     planned: &mut Vec<InodeChange>,
     change: Option<InodeChange>,

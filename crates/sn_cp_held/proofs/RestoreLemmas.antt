@@ -47,7 +47,7 @@ use Rattle.sn_cp_held.proofs.BuildLemmas.{reached_among}
 use Rattle.sn_cp_held.proofs.EditLemmas.{begins_among, catalogue_of, one_of_name}
 use Rattle.sn_cp_held.proofs.LiveLemmas.{of_asked, ready_can_be_built}
 
--- ---- what a name stands for
+-- ---- what a name denotes
 
 -- what is found under a name is said of a snapshot that has it
 module _ {X : Type 0} (f : Snapshot → X) where

@@ -103,7 +103,7 @@ RestoresAreOfLive = (h : Held) (world : World) (k : Kept) (layer : Layer) (name 
     → IsBuiltOf h.at.blocks (reads h.disk) Ordinary (over_layer layer k) file (Restores name) bit built next
     → IsOfLive h world r.runs (Restores name) (work_for h.at.blocks k gate built next) (room_behind h.at.blocks built)
 
--- What `build` needs of a sound inode file so that nothing is damaged, and enough is free: the layer lies over its ground, the map says in
+-- What `build` needs of a sound inode file so that nothing is damaged, and enough is free: the layer is over its ground, the map says in
 -- this bit what it reaches, and what changed needs no more than is free.
 pub record CanBeBuiltOver (n : ℕ) (s : Store) (k : Kept) (file : BlockTree) (bit : ℕ) : Type 0 where
   pub ground : IsGround k.root.limits n s file k.changed
@@ -123,7 +123,7 @@ abbrev pub RestoresHaveRoom : Type 0
 RestoresHaveRoom = (h : Held) (world : World) (k : Kept) (layer : Layer) (name : List ℕ) (file : BlockTree) (bit : ℕ) → RunsReady h world k → CanBeRestored name layer h.room world → BeginsFrom (Restores name) bit k.root file
     → CanBeBuiltOver h.at.blocks (store_of (reads h.disk)) (over_layer layer k) file bit
 
--- It is what a point needs: its blocks lie in the data area, none that a root reaches, the snapshots' too, and in any store that
+-- It is what a point needs: its blocks are in the data area, none that a root reaches, the snapshots' too, and in any store that
 -- has them and what the root reaches the next root denotes the tree that is seen through the layer, and is sound, and its
 -- snapshots denote the frozen trees that are asked for.
 abbrev pub BuildsAreBuilt : Type 0

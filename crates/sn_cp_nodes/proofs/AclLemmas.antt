@@ -34,7 +34,7 @@ use Rattle.sn_cp_nodes.specs.Built.{IsGround}
 use Rattle.sn_cp_nodes.specs.Inodes.{AreAclsFor}
 use Rattle.sn_cp_nodes.proofs.OldLemmas.{old_of}
 
--- ACLs stand behind a pointer, in a block that spells them
+-- ACLs are at a pointer, in a block that spells them
 pub record AclsAre (r : Store) (state : NodeState) (objects : Mode) (pointer : ℕ) : Type 0 where
   pub access : joined objects (acls_at r pointer).access ≡ state.ownership.acl
   pub default : (acls_at r pointer).default ≡ state.ownership.default_acl

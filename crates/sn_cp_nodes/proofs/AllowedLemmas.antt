@@ -30,10 +30,10 @@ use Rattle.sn_cp_nodes.proofs.ListedLemmas.{listed_of, number_in}
 use Rattle.sn_cp_nodes.proofs.NameLemmas.{AreIn, names_in_it, no_pair, pairs_of}
 use Rattle.sn_cp_nodes.proofs.RoomLemmas.{IsSeenAs, changed_sorted, made_seen}
 
--- ---- none stands twice
+-- ---- none occurs twice
 
 module _ (name : List ℕ) where
-  -- how often a name stands among pairs
+  -- how often a name occurs among pairs
   abbrev times_paired : List Pair → ℕ
   times_paired pairs = count_by (λ (p : Pair). bytes_eq p.0 name) pairs
 

@@ -85,7 +85,7 @@ directory_names s inode tree is of = told inode.kind is ∙ ap (names_of s) of
 
 -- ---- the tree in which names change
 
--- What is so of it: it is read alike, no name stands twice, its blocks are names, and it has the names below unless they are hidden.
+-- What is so of it: it is read alike, no name occurs twice, its blocks are names, and it has the names below unless they are hidden.
 pub record IsBase (s r : Store) (tree : BlockTree) (below : List ℕ → Option ℕ) : Type 0 where
   pub same : SameIn (tree_reach s tree) s r
   pub once : AreOnce (names_of s (Tree tree))

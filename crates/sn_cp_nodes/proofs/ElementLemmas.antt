@@ -38,7 +38,7 @@ cases_name a b = told (bytes_eq a b) refl
     told true is = inl ((bytes_eq-Decides a b).0 is)
     told false is = inr (λ same. true≢false (sym (same_name a b same) ∙ is))
 
--- ---- how often a name stands among links
+-- ---- how often a name occurs among links
 
 module _ (name : List ℕ) where
   abbrev pub times_named : List Link → ℕ

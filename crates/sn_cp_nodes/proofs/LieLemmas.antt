@@ -1,4 +1,4 @@
--- Each block that a sound root reaches lies on the device.
+-- Each block that a sound root reaches is on the device.
 use Rattle.std.proofs.Common.{◌≡◌, ℕ, ◌+◌, ◌*◌, ◌<◌, ◌≤◌, ◌==◌, true, List, Contains, sym, ◌∙◌, arith}
 use Rattle.std.specs.Prelude.{nat_le}
 use Rattle.std.proofs.lemmas.Bool.{le-leb, or_right, true≢false}

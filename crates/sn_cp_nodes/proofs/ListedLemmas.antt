@@ -78,7 +78,7 @@ count_listed d (e ∷ es) = told (e.0.directory == d) refl (count_listed d es)
 pub count_in : (tree : Tree) (d : ℕ) → length (listed_of tree d) ≡ names_in tree d
 count_in tree d = count_listed d (fin.entries tree.links)
 
--- ---- none stands twice
+-- ---- none occurs twice
 
 once_listed : (d : ℕ) (es : List (Link × ℕ)) → T (is_sorted link_cmp es) → AreOnce (listed_in d es)
 once_listed d [] h name = omega arith

@@ -18,7 +18,7 @@ use Rattle.sn_tree.specs.declared.fault.PlanFault.{PlanFault}
 use Rattle.sn_cp_nodes.specs.Made.{ChangeThem, IsBegun, IsDirectoryMade}
 use Rattle.sn_cp_nodes.specs.Parts.{Names}
 
--- a plan over a store that is the same where bytes are told
+-- a plan over a store that is the same where the device tells its bytes
 planned_there : (Told : Type 0) (s t : Store) (tree new : BlockTree) (changes : List NameChange) (a b : Draft) → (Told → t ≡ s) → IsDirectoryPlanned Told t tree new changes a b → IsDirectoryPlanned Told s tree new changes a b
 planned_there Told s t tree new changes a b same p = record {
   dirty = p.dirty;

@@ -49,7 +49,7 @@ changed_at layer directory name =
 
 -- ---- a name among them
 
--- the names with what they are to stand for
+-- the names with what they are to denote
 abbrev pub pairs_of : Names → List Pair
 pairs_of es = map pair_in es
 
@@ -57,7 +57,7 @@ module _ (directory : ℕ) (name : List ℕ) where
   abbrev link : Link
   link = link_to directory name
 
-  -- a name that is found stands with what it is to stand for
+  -- a name that is found is paired with what it is to denote
   pub found_pair : (es : Names) (value : Option ℕ) → find link_cmp link es ≡ Some value → Contains (pairs_of es) (name, value)
   found_pair [] value e = absurd cc
   found_pair (x ∷ es) value e = told (eq_by_cmp link_cmp link x.0) refl e (found_pair es value)
@@ -69,7 +69,7 @@ module _ (directory : ℕ) (name : List ℕ) where
           (0, omega arith, λ i. (same i, one i))
       told false is found later = let w = later found in (suc w.0, omega (arith, w.1), w.2)
 
-  -- one that isn't stands nowhere among them
+  -- one that isn't is nowhere among them
   pub no_pair : (es : Names) → AreIn directory es → find link_cmp link es ≡ None → All (λ (p : Pair). p.0 ≢ name) (pairs_of es)
   no_pair [] are e = All-nil (λ (p : Pair). p.0 ≢ name)
   no_pair (x ∷ es) are e = told (eq_by_cmp link_cmp link x.0) refl e (no_pair es are.1)

@@ -28,7 +28,7 @@ use Rattle.sn_cp_nodes.specs.Made.{IsChangeMade, IsNodeMade}
 use Rattle.sn_cp_nodes.specs.Parts.{Blocks, IsPartOf, Names, content_of}
 use Rattle.sn_cp_nodes.proofs.BuildLemmas.{changed_builds, gone_builds}
 
--- what is built over a store that is the same where bytes are told
+-- what is built over a store that is the same where the device tells its bytes
 pub builds_there : (Told : Type 0) (limits : Limits) (s t : Store) (file : BlockTree) (layer : Layer) (number : ℕ) (change : Option InodeChange) (a b : Draft)
     → (Told → t ≡ s) → BuildsNode Told limits t file layer number change a b → BuildsNode Told limits s file layer number change a b
 builds_there Told limits s t file layer number change a b same builds = record {

@@ -18,7 +18,7 @@ use Rattle.sn_cp_nodes.specs.Built.{KeepsReach}
 use Rattle.sn_cp_nodes.specs.Made.{HasTaken}
 use Rattle.sn_cp_nodes.proofs.RiseLemmas.{first_apart, rest_rises}
 
--- ---- new blocks that stand in their places
+-- ---- new blocks that are in their places
 
 abbrev Stands : Store → NewBlock → Type 0
 Stands r block = r block.number ≡ block.bytes.value
@@ -50,7 +50,7 @@ put_elsewhere (new ∷ rest) s block apart =
     put_beside new (put_in rest s) block (λ same. apart (subst (Contains (new.number ∷ numbers_of rest)) same (Contains-first new.number (numbers_of rest))))
     ∙ put_elsewhere rest s block (λ among. apart (Contains-more new.number (numbers_of rest) block among))
 
--- blocks of other numbers stand where they stood
+-- blocks of other numbers are where they were
 still_hold : (new : NewBlock) (r : Store) (xs : List NewBlock) → ¬ Contains (numbers_of xs) new.number → Holds r xs → Holds (put_one new r) xs
 still_hold new r [] apart holds = All-nil (Stands (put_one new r))
 still_hold new r (x ∷ xs) apart holds =
@@ -74,7 +74,7 @@ module _ (s : Store) (file : BlockTree) (draft behind : Draft) (kept : KeepsReac
   pub keeps_grown : KeepsReach s file behind
   keeps_grown block among free = kept block among (subst (λ (d : Draft). IsFreeData d.words d.first block) grew free)
 
-  -- a store that has the new blocks, and stands as before in what the root reaches
+  -- a store that has the new blocks, and is as before in what the root reaches
   pub with_new : HasTaken behind → (r : Store) × SameIn (reach s file) s r × Holds r added
   with_new taken = (
     put_in behind.added s,

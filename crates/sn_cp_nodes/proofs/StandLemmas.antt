@@ -1,4 +1,4 @@
--- What was built of a node stands for what is seen of it.
+-- What was built of a node denotes what is seen of it.
 use Rattle.std.proofs.Common.{◌≡◌, ℕ, Bool, true, false, List, Option, None, Some, refl, sym, ap, subst, ◌∙◌, arith}
 use Rattle.std.specs.Prelude.{IsSomeAnd}
 use Rattle.std.specs.FinMap as fin

@@ -34,7 +34,7 @@ use Rattle.sn_cp_nodes.specs.Inodes.{Becomes, content_for}
 use Rattle.sn_cp_nodes.specs.Made.{CanPlan, IsTooSmallFor}
 use Rattle.sn_cp_nodes.specs.Parts.{Blocks, Names, content_of}
 
--- What a build stands on: an inode file that is sound, whose blocks are whole, and a layer that lies over its tree and shows a name tree.
+-- What a build begins from: an inode file that is sound, whose blocks are whole, and a layer that is over its tree and shows a name tree.
 pub record IsGround (limits : Limits) (n : ℕ) (s : Store) (file : BlockTree) (layer : Layer) : Type 0 where
   pub version : limits_of limits.version ≡ Some limits
   pub sound : IsSound limits n s file
@@ -46,13 +46,13 @@ pub record IsGround (limits : Limits) (n : ℕ) (s : Store) (file : BlockTree) (
 abbrev pub KeepsReach : Store → BlockTree → Draft → Type 0
 KeepsReach s file draft = (block : ℕ) → Contains (reach s file) block → IsFreeData draft.words draft.first block → ⊥
 
--- A ground whose blocks lie on a device of so many sectors, and can't be taken.
+-- A ground whose blocks are on a device of so many sectors, and can't be taken.
 pub record IsSafeGround (limits : Limits) (n sectors : ℕ) (s : Store) (file : BlockTree) (layer : Layer) (draft : Draft) : Type 0 where
   pub ground : IsGround limits n s file layer
   pub room : 8 * n ≤ sectors
   pub kept : KeepsReach s file draft
 
--- The inode that a number gets stands for the node that is shown, whichever block its ACLs get, and is well formed.
+-- The inode that a number gets denotes the node that is shown, whichever block its ACLs get, and is well formed.
 pub record StandsFor (shown : Tree) (number : ℕ) (r : Store) (new : Option Inode) : Type 0 where
   pub node : option_map (node_of r) new ≡ fin.get shown.nodes number
   pub names : (name : List ℕ) → number_of name (names_under r new) ≡ fin.get shown.links (link_to number name)
@@ -61,7 +61,7 @@ pub record StandsFor (shown : Tree) (number : ℕ) (r : Store) (new : Option Ino
   pub acls : IfSome new (λ inode. inode.acl_block ≢ 0 → SpellsAcls (r inode.acl_block))
   pub links : IfSome new (λ inode. inode.kind ≡ File → names_for shown number ≡ inode.links)
 
--- One node was built: how its number's inode is to change, if at all, and blocks that were added and released for its content, of which a path for each name and each block that changed and one more are the most. Over a device that tells its bytes the new content reaches, with what was released, what the old one reached with what was added, each block as often; and over a ground the inode stands for what is seen of the node. All that is so in any store that has the new blocks and agrees with the old one in what the number reached.
+-- One node was built: how its number's inode is to change, if at all, and blocks that were added and released for its content, of which a path for each name and each block that changed and one more are the most. Over a device that tells its bytes the new content reaches, with what was released, what the old one reached with what was added, each block as often; and over a ground the inode denotes what is seen of the node. All that is so in any store that has the new blocks and agrees with the old one in what the number reached.
 pub record BuildsNode (Told : Type 0) (limits : Limits) (s : Store) (file : BlockTree) (layer : Layer) (number : ℕ) (change : Option InodeChange) (old_draft new_draft : Draft) : Type 0 where
   pub added : List NewBlock
   pub released : List ℕ

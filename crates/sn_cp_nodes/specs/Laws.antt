@@ -69,7 +69,7 @@ GroundsHaveRoom = (told : Bool) (limits : Limits) (n : ℕ) (s : Store) (file : 
     → IsTrue told → IsGround limits n s file layer → IsPartOf layer number change names written → IsTooSmallAt (IsTrue told) s file number change names written draft
     → free_data draft.words draft.first < length draft.added + levels limits * (length (changed_names layer number) + length (written_blocks layer number) + 1)
 
--- Where its blocks lie on the device and can't be taken, what it has of a number can be read, and what becomes of it can be planned.
+-- Where its blocks are on the device and can't be taken, what it has of a number can be read, and what becomes of it can be planned.
 abbrev pub SafeGroundsAreBuilt : Type 0
 SafeGroundsAreBuilt = (told : Bool) (limits : Limits) (n sectors : ℕ) (s : Store) (file : BlockTree) (layer : Layer) (number : ℕ) (change : NodeChange) (names : Names) (written : Blocks) (draft : Draft)
     → IsTrue told → IsSafeGround limits n sectors s file layer draft → IsPartOf layer number change names written

@@ -33,7 +33,7 @@ use Rattle.sn_content.specs.Contents.{IsContentPlanned, IsReleased}
 use Rattle.sn_cp_nodes.specs.Inodes.{FitsRecord, IsInodeFor}
 use Rattle.sn_cp_nodes.specs.Parts.{Blocks, Names, content_of, dirty_of, empty_tree, keep_of}
 
--- a name and what it is to stand for: a number, or nothing
+-- a name and what it is to denote: a number, or nothing
 abbrev pub Pair : Type 0
 Pair = List ℕ × Option ℕ
 
@@ -43,7 +43,7 @@ pair_of change = (change.name.now, change.number)
 abbrev pub pair_in : Link × Option ℕ → Pair
 pair_in entry = (entry.0.name, entry.1)
 
--- the names of a list and what each is to stand for, as changes
+-- the names of a list and what each is to denote, as changes
 abbrev pub ChangeThem : Names → List NameChange → Type 0
 ChangeThem names changes = map pair_of changes ≡ map pair_in names
 
@@ -78,7 +78,7 @@ pub record IsTooSmall (Told : Type 0) (s : Store) (old : Content) (fresh : Bool)
 
 -- ---- what isn't damaged
 
--- A file's blocks can have these indices in it, and each block that its number reached lies on the device.
+-- A file's blocks can have these indices in it, and each block that its number reached is on the device.
 pub record CanMakeFile (sectors : ℕ) (s : Store) (old : Content) (size : ℕ) (written : Blocks) : Type 0 where
   pub order : AreInOrder size (dirty_of written)
   pub lies : LeadsOutside sectors (content_reach s old) → ⊥
@@ -91,7 +91,7 @@ pub record CanBegin (sectors : ℕ) (s : Store) (old : Content) : Type 0 where
   pub most : tree.size ≤ 35184372088832
   pub read : CannotRead sectors s tree → ⊥
 
--- A directory can have these names, the old one can be read unless it was made anew, and each block that its number reached lies on the device.
+-- A directory can have these names, the old one can be read unless it was made anew, and each block that its number reached is on the device.
 pub record CanMakeDirectory (sectors : ℕ) (s : Store) (old : Content) (fresh : Bool) (names : Names) : Type 0 where
   pub can : (changes : List NameChange) → ChangeThem names changes → AreChanges changes
   pub begin : fresh ≡ false → CanBegin sectors s old
@@ -176,7 +176,7 @@ pub record CanMakeInode (Told : Type 0) (limits : Limits) (sectors : ℕ) (s : S
   pub fits : (record_change : RecordChange) (behind : Draft) → HasTaken behind → IsInodeMade Told s was state names written record_change draft behind
       → IsChange limits (record { number = number; «record» = record_change })
 
--- Each block that an inode reached lies on the device, and the number is one that a node can have.
+-- Each block that an inode reached is on the device, and the number is one that a node can have.
 pub record CanRelease (limits : Limits) (sectors : ℕ) (s : Store) (number : ℕ) (inode : Inode) : Type 0 where
   pub fits : IsChange limits (record { number = number; «record» = Unused })
   pub lies : LeadsOutside sectors (content_reach s inode.content) → ⊥

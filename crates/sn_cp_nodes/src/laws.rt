@@ -24,7 +24,7 @@ pub fn room_laws()
     size_laws();
 }
 
-/// Over a sound root whose blocks lie on the device and can't be taken, and a layer that shows a name tree, each node
+/// Over a sound root whose blocks are on the device and can't be taken, and a layer that shows a name tree, each node
 /// can be built: `Damaged` never comes.
 pub fn damage_laws()
     ensures { SafeGroundsAreBuilt }

@@ -7,7 +7,7 @@
 //! The way through: `node` has [`build_node`], which builds one node of a layer. `files` plans the content of a file
 //! with the size and the blocks of the layer, `directories` has the tree in which a directory's names change and those
 //! names, and `inodes` makes the inode, whose ACLs are kept where the layer says that they are those below.
-//! `specs/Parts` says what a layer has of one number, `specs/Made` what each step comes to and why one fails, and
+//! `specs/Parts` says what a layer has of one number, `specs/Made` what each step results in and why one fails, and
 //! `specs/Built` what all of them are for. [`content_laws`] says that what is planned so is what is seen through the
 //! layer, [`room_laws`] how many blocks a node takes at most, and [`damage_laws`] that over a sound root each can be built.
 //!

@@ -187,7 +187,7 @@ fn planned<D: Device>(
 /// Proved, also of `room_laws`: `Full` comes only where fewer blocks are left than the node takes: over a sound inode file
 /// with a layer over its tree, a path for each changed name and written block, and one more.
 /// Proved, also of `damage_laws`: `Damaged` comes only where the number's record can't be read or the node can't be made of
-/// what is there, and never over a sound inode file with a layer over its tree, whose blocks lie on the device and can't be
+/// what is there, and never over a sound inode file with a layer over its tree, whose blocks are on the device and can't be
 /// taken.
 /// Proved: Nothing is written, and nothing is counted but a failure of the device.
 pub fn build_node<D: Device>(

@@ -93,7 +93,7 @@ bits_in root fits s among =
     let between = bit_between 0 root.limits.largest_bit root.snapshots s its.rising its.within among in
     (omega (arith, between.0), is_bit root fits s.bit between.1)
 
--- ---- what a name stands for
+-- ---- what a name denotes
 
 module _ {X : Type 0} (f : Snapshot → X) where
   pub has_key : (snapshots : List Snapshot) (name : List ℕ) → fin.contains_key (by_name f snapshots) name ≡ has_name name snapshots
@@ -109,7 +109,7 @@ module _ {X : Type 0} (f : Snapshot → X) where
       let one = fin.len-insert names_total (by_name f more) s.name (f s) ∙ ap (λ b. cond b (fin.len (by_name f more)) (fin.len (by_name f more) + 1)) new in
       omega (arith, one, rest)
 
--- the bit that a name stands for
+-- the bit that a name denotes
 module _ (root : RootBody) (name : List ℕ) (entry : Entry) (stands : fin.get (catalogue root.snapshots) name ≡ Some entry) where
   pub owns : (bit : ℕ) → bit ≡ entry.bit → HasSnapshot name bit root.snapshots
   owns bit same =
@@ -133,7 +133,7 @@ starts root name entry bit stands same =
       begins = subst (Contains root.snapshots) (λ i. record { bit = (ap (λ (e : Entry). e.bit) w.is ∙ sym same) i; name = w.name_is i; tree = (ap (λ (e : Entry). e.tree) w.is) i }) w.among;
     }
 
--- a look-up finds something where the name stands for something
+-- a look-up finds something where the name denotes something
 pub found_some : (o : Option (Bor Snapshot)) → is_some (option_map entry_of (option_copied o)) ≡ is_some o
 found_some None = refl
 found_some (Some x) = refl

@@ -296,7 +296,7 @@ pub written_count : (xs : List NewBlock) → length (map written_by xs) ≡ leng
 written_count [] = refl
 written_count (x ∷ xs) = omega (arith, written_count xs)
 
--- what is planned is what goes on
+-- what is planned is what is in progress
 pub is_going : {Told : Type 0} (s : Store) (n m : ℕ) (base : PointBase) (changed : Layer) (asked : AskedPoint) (built : Built) (next : RootBody) (slot : Slot) (gate : Gate) (going : GoingPoint) → m ≡ n → IsDiskSize m → length base.map ≡ m → IsPlanned Told m s Ordinary (kept_in base changed) asked built next → IsSpellable built
     → slot ≡ other_slot base.slot → work_of going.point ≡ record { blocks = m; slot = slot; gate = gate; plan = plan_of built next } → stage_of going.point ≡ first_stage (length built.blocks.items)
     → IsWithin (work_of going.point) (stage_of going.point) → going.free ≡ free_data built.map (start_of m Data) → IsGoing n base changed going

@@ -127,7 +127,7 @@ high_beside : (slot : Slot) (i : ℕ) → 32 ≤ i → Union (InBlock (body_bloc
 high_beside slot i high (inl body) = let low = body_low slot i body in omega (arith, high, low)
 high_beside slot i high (inr gate) = let low = gate_low slot i gate in omega (arith, high, low)
 
--- a half of the log lies apart from the root that counts
+-- a half of the log is apart from the root that counts
 pub half_apart : (n epoch : ℕ) (slot : Slot) (i : ℕ) → InHalf (base_of n epoch) i → IsApart n slot i
 half_apart n epoch slot i is (inl block) = omega (arith, is.0, block.1, half_from n (half_of_epoch epoch))
 half_apart n epoch slot i is (inr (inl map)) = (areas_apart n).maps_and_log slot epoch i map is

@@ -33,7 +33,7 @@ use Rattle.sn_cp_whole.specs.declared.fault.PointFault.TheVariants.{Memory, Age,
 abbrev pub kept_in : PointBase → Layer → Kept
 kept_in base changed = record { slot = base.slot; root = base.root; words = base.map; changed = changed }
 
--- The base is one of a disk whose log goes on at this position, between two points: its root can be written, its map has a word for each block, and the log goes on under the root's own epoch.
+-- The base is one of a disk whose log continues at this position, between two points: its root can be written, its map has a word for each block, and the log continues under the root's own epoch.
 pub record IsBaseAt (at : LogPosition) (base : PointBase) : Type 0 where
   pub body : IsRootBody base.root
   pub words : length base.map ≡ at.blocks

@@ -60,7 +60,7 @@ pub struct Begun {
 }
 
 /// Begins a point of what changed since the root that counts, with the snapshots that are asked for. From then on the log
-/// goes on under the next epoch, after the root that is being made, and what changes goes into an overlay of its own, with
+/// continues under the next epoch, after the root that is being made, and what changes goes into an overlay of its own, with
 /// room for so many drops of files. Where a snapshot is to be brought back, what changed is what drops the files without
 /// names of its tree; nothing may then be logged before the point is finished.
 ///
@@ -148,8 +148,8 @@ impl GoingPoint {
     /// Proved, also of `GoingPoint::finish`: Each step leaves an image of the settled world to a crash at any moment, and
     /// the mount with the point at its next stage; all that are left in a row leave that image or one with the point's
     /// snapshots, and the mount ready for another point over the next root.
-    /// Proved: Each step but the last leaves the tree of the root that counts as it was on the device, so that look-ups go
-    /// on over it.
+    /// Proved: Each step but the last leaves the tree of the root that counts as it was on the device, so that look-ups
+    /// continue over it.
     pub fn advance<D: Device>(&mut self, blocks: &mut Blocks<D>) -> Result<(), Fault>
         requires disk { 8 * (work_of self.old.point).blocks ≤ (D.status (device_of blocks.old)).sectors }
         requires whole { IsWhole (work_of self.old.point) }

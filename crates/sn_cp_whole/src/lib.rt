@@ -6,7 +6,7 @@
 //! an overlay beside it. [`begin_point`] builds the live tree of both in memory and begins the point: a [`GoingPoint`],
 //! with the overlay of what changes from then on. [`GoingPoint::advance`] makes a step of it, and [`GoingPoint::finish`]
 //! all that are left. [`make_point`] does both in a row; then the base is that of the next root, nothing is charged, and
-//! the log goes on empty.
+//! the log continues empty.
 //!
 //! [`make_restore`] does the same to bring a snapshot back: it builds over the snapshot's inode file an overlay that drops its
 //! files without names, and the live tree is then what is seen through it. What changed since the root goes with the root.

@@ -1,4 +1,4 @@
--- One block of a directory: where it is there, and what stands in it.
+-- One block of a directory: where it is there, and what is in it.
 use Rattle.std.proofs.Common.{◌≡◌, ◌≢◌, ℕ, ◌≤◌, true, false, List, [], ◌∷◌, Option, Result, Err, length, sym, ap, subst, ◌∙◌, arith}
 use Rattle.std.specs.Prelude.{IsErrAnd}
 use Rattle.std.proofs.lemmas.Bool.{true≢false, and_parts}
@@ -31,7 +31,7 @@ module _ (sectors : ℕ) (s : Store) (tree : BlockTree) (i levels pointer : ℕ)
   met_on_path = ap (λ (n : ℕ). block_named (pointer_met sectors s n tree.pointers i)) all
 
   module _ (is : pointer ≡ entry s levels tree.pointers i) where
-    -- the way to it ends at the block itself, where each block above it lies on the device
+    -- the way to it ends at the block itself, where each block above it is on the device
     pub met_here : path_lies_on sectors s levels tree.pointers i ≡ true → block_named pointer ≡ block_met sectors s tree i
     met_here path = ap block_named (is ∙ sym (met_last sectors s levels tree.pointers i path)) ∙ met_on_path
 
@@ -52,7 +52,7 @@ module _ (sectors : ℕ) (s : Store) (tree : BlockTree) (i levels pointer : ℕ)
       no_hole = λ none. some (last_pointer ∙ none);
     }
 
--- ---- what stands in it
+-- ---- what is in it
 
 -- the names of a block are those that its bytes spell
 pub names_read : (bytes block : List ℕ) (names : List Link) → bytes ≡ block → Spells bytes names → names ≡ names_in block
@@ -69,7 +69,7 @@ module _ (sectors : ℕ) (s : Store) (tree : BlockTree) (i : ℕ) (bytes : List 
   cannot_read : (IsDirectoryBlock bytes → ⊥) → CanRead sectors s tree i → ⊥
   cannot_read none can = none (subst (λ (b : List ℕ). IsDirectoryBlock b) (sym same) can.spelled)
 
--- ---- where it can't be read, told of the block that was met
+-- ---- where it can't be read, with the block that was met
 
 -- the fault with which a call failed, where that is what is answered
 pub was_damaged : {T : Type 0} {block : Option ℕ} (result : Result T TreeFault) (fault : TreeFault) → IsErrAnd result (λ answered. answered ≡ fault) → result ≡ Err (Damaged block) → fault ≡ Damaged block
@@ -86,6 +86,6 @@ module _ {T : Type 0} {block : Option ℕ} (sectors : ℕ) (s : Store) (tree : B
       let here : block ≡ block_named number = cc (was_damaged result fault answered is, none.0) in
       record { unread = cannot_read sectors s tree i bytes same none.1; met = here ∙ met }
 
--- where it's told of a block, there is one that can't be read
+-- where a block is named, there is one that can't be read
 pub somewhere : (IsOpen : List Link → Type 0) (sectors : ℕ) (s : Store) (tree : BlockTree) (block : Option ℕ) → IsDamagedAt IsOpen sectors s tree block → IsDamaged IsOpen sectors s tree
 somewhere IsOpen sectors s tree block (i, within, still, none) = (i, within, still, none.unread)

@@ -19,7 +19,7 @@ read_more sectors s tree i before here j under = told (cases_lt j i)
     told (inl old) = before j old
     told (inr new) = let same : i ≡ j = omega (arith, under, new) in subst (λ (n : ℕ). CanRead sectors s tree n) same here
 
--- those that are needed can be, where the answer is known behind them
+-- those that are needed can be, where the answer is known after them
 undamaged : (IsOpen : List Link → Type 0) (sectors : ℕ) (s : Store) (tree : BlockTree) (n : ℕ) → AreRead sectors s tree n
     → ((k : ℕ) → n ≤ k → k < tree.size / 4096 → IsOpen (names_before s tree k) → ⊥)
     → IsDamaged IsOpen sectors s tree → ⊥

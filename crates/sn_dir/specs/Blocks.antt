@@ -12,7 +12,7 @@ use Rattle.sn_tree_read.specs.Paths.{block_lies_on, block_met}
 abbrev pub names_before : Store → BlockTree → ℕ → List Link
 names_before s tree i = flat_map (λ j. names_in (data_block s tree j)) (range_with_len 0 i)
 
--- Block i lies on a device of so many sectors, as each block on the way to it does, and is no hole.
+-- Block i is on a device of so many sectors, as each block on the way to it is, and is no hole.
 pub record IsThere (sectors : ℕ) (s : Store) (tree : BlockTree) (i : ℕ) : Type 0 where
   pub lies : block_lies_on sectors s tree i ≡ true
   pub no_hole : entry s (levels_of tree.size) tree.pointers i ≢ 0
@@ -22,7 +22,7 @@ pub record CanRead (sectors : ℕ) (s : Store) (tree : BlockTree) (i : ℕ) : Ty
   pub there : IsThere sectors s tree i
   pub spelled : IsDirectoryBlock (data_block s tree i)
 
--- Block i can't be read, which is told of the block that the way to it ends at.
+-- Block i can't be read, and the fault names the block that the way to it ends at.
 pub record IsUnread (sectors : ℕ) (s : Store) (tree : BlockTree) (i : ℕ) (block : Option ℕ) : Type 0 where
   pub unread : CanRead sectors s tree i → ⊥
   pub met : block ≡ block_met sectors s tree i
@@ -31,6 +31,6 @@ pub record IsUnread (sectors : ℕ) (s : Store) (tree : BlockTree) (i : ℕ) (bl
 abbrev pub IsDamaged : (List Link → Type 0) → ℕ → Store → BlockTree → Type 0
 IsDamaged IsOpen sectors s tree = (i : ℕ) × (i < tree.size / 4096) × IsOpen (names_before s tree i) × (CanRead sectors s tree i → ⊥)
 
--- And it's told of that block.
+-- And the fault names that block.
 abbrev pub IsDamagedAt : (List Link → Type 0) → ℕ → Store → BlockTree → Option ℕ → Type 0
 IsDamagedAt IsOpen sectors s tree block = (i : ℕ) × (i < tree.size / 4096) × IsOpen (names_before s tree i) × IsUnread sectors s tree i block

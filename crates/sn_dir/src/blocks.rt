@@ -54,7 +54,7 @@ pub fn fetch_block<D: Device>(
         return Err(TreeFault::at(pointer));
     }
     blocks.fetch(pointer)?;
-    // It tells which bytes are lent.
+    // It says which bytes are lent.
     blocks.fetched();
     Ok(pointer)
 }

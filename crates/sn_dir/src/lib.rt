@@ -8,10 +8,10 @@
 //! read in place by `DirectoryBlock` of `sn_layout_node`. `Damaged` comes where a block that is needed isn't
 //! on the device, is a hole, or doesn't spell names (`CanRead`), and there alone: the blocks are needed in
 //! turn, up to where the answer is known (`IsDamaged`). By `directory_laws` it never comes on a sound image
-//! whose blocks lie on the device. Nothing is written.
+//! whose blocks are on the device. Nothing is written.
 //!
 //! The format has no index, so a name may be in any block. A directory of three blocks or more gets one in
-//! memory, which `Blocks` keeps beside its blocks: `begin_index` begins it, and `lookup` goes on to tell it
+//! memory, which `Blocks` keeps beside its blocks: `begin_index` begins it, and then `lookup` adds to it
 //! the names of each block that it reads. The first look-up that finds nothing reads all blocks. Each later
 //! one reads only those that may have the name, mostly one or none, and goes over the index in the time that
 //! a binary search takes. The answers are those of going through all blocks. The first

@@ -24,11 +24,11 @@ use std::alloc::{AllocError, Global};
 #[derive(Drop, PartialEq, Eq, PartialOrd, Ord)]
 pub struct ListedName {
     pub name: Word,
-    /// The number of the inode that it stands for.
+    /// The number of the inode that it denotes.
     pub number: u16,
 }
 
-// Puts the names of a block behind those that are there.
+// Appends the names of a block.
 fn push_entries(
     alloc: Global,
     block: &DirectoryBlock<'_>,
@@ -44,7 +44,7 @@ fn push_entries(
     Ok(())
 }
 
-// Puts the names of one block of a directory behind those that are there.
+// Appends the names of one block of a directory.
 fn push_names<D: Device>(
     alloc: Global,
     blocks: &mut Blocks<D>,
@@ -68,7 +68,7 @@ fn push_names<D: Device>(
     Ok(())
 }
 
-// The names of a directory as they stand there, block after block.
+// The names of a directory as they are there, block after block.
 fn gathered<D: Device>(
     alloc: Global,
     blocks: &mut Blocks<D>,
@@ -92,7 +92,7 @@ fn gathered<D: Device>(
     Ok(names)
 }
 
-/// All names of a directory with their numbers, sorted by the bytes of the names, and where a name stands
+/// All names of a directory with their numbers, sorted by the bytes of the names, and where a name occurs
 /// twice by number. `Damaged` comes exactly where one of the directory's blocks isn't on the device, is a
 /// hole, or doesn't spell names. Memory is taken for the answer, and for blocks that aren't kept.
 ///

@@ -60,7 +60,7 @@ fn count_in<D: Device>(blocks: &mut Blocks<D>, tree: &BlockTree, i: u64) -> Resu
 
 /// The number under a name of a directory. The blocks are read in turn, up to the one that has the name,
 /// and `Damaged` comes exactly where one that is read so isn't on the device, is a hole, or doesn't spell
-/// names. Where a name stands twice, the first one counts. Blocks that the directory's index knows to lack the
+/// names. Where a name occurs twice, the first one counts. Blocks that the directory's index knows to lack the
 /// name aren't read again; where the directory has no index it begins one, with the faults of `begin_index`.
 ///
 /// Proved, also of `count` and `is_empty`: The number under a name, how many names there are, and whether there is any, are

@@ -22,7 +22,7 @@ spells block (links, is) = subst (λ (ls : List Link). Spells block ls) (sym (di
 pub same_bytes : (old new : List ℕ) (links : List Link) → Spells old links → Spells new links → new ≡ old
 same_bytes old new links before behind = behind.bytes ∙ sym before.bytes
 
--- a name that is set in place has the room of the one that stood there
+-- a name that is set in place has the room of the one that was there
 pub fits_in_place : (links : List Link) (link : Link) → AreLinks links → IsLink link → is_some (number_of link.name links) ≡ true → AreLinks (without link.name links ++ link ∷ [])
 fits_in_place links link are is some = record {
   each = each_more IsLink (without link.name links) link (each_without link.name links are.each) is;

@@ -28,7 +28,7 @@ module _ {X : Type 0} where
   cases_there x xs y (zero, within, is) = inl (sym is)
   cases_there x xs y (suc k, within, is) = inr (k, omega arith, is)
 
-  -- an element with what is before and behind it
+  -- an element with what is before and after it
   pub split_at : (xs : List X) (k : ℕ) (d : X) → k < length xs → xs ≡ take k xs ++ get_or xs k d ∷ drop (suc k) xs
   split_at [] k d within = absurd (omega (arith, within))
   split_at (x ∷ xs) zero d within = refl

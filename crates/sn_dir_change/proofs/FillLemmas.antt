@@ -1,4 +1,4 @@
--- Blocks behind the old ones.
+-- Blocks after the old ones.
 use Rattle.std.proofs.Common.{◌≡◌, ◌≢◌, ◌⊎◌, inl, inr, ⊎_elim, ℕ, ◌+◌, ◌/◌, ◌<◌, ◌≤◌, ◌&&◌, true, false, List, [], ◌∷◌, ◌++◌, append-nil, length, Option, Some, None, refl, sym, ap, subst, ◌∙◌, arith}
 use Rattle.std.specs.Prelude.{Contains, IfSome, is_some}
 use Rattle.std.proofs.lemmas.Bool.{cases_lt, and_parts, leb-true}
@@ -91,7 +91,7 @@ first_of [] some = absurd (omega (arith, some))
 first_of (link ∷ links) some = (link, first_there link links)
 
 module _ (Told : Type 0) (s : Store) (tree : BlockTree) (changes : List NameChange) (bound : ℕ) where
-  -- a name that stands was found
+  -- a name that is there was found
   pub filled_begun : (ds : List DirtyBlock) (standing waiting : List NameChange) → IsThrough Told s tree changes bound (tree.size / 4096) ds standing waiting → IsFilled Told s tree changes bound (tree.size / 4096) ds waiting
   filled_begun ds standing waiting through = record {
     blocks = through.blocks;

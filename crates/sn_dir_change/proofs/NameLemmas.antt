@@ -1,4 +1,4 @@
--- Names among links: taken out, put behind the others, and lists that are joined.
+-- Names among links: taken out, put after the others, and lists that are joined.
 use Rattle.std.proofs.Common.{◌≡◌, ◌≢◌, ◌⊎◌, inl, inr, ⊎_elim, ℕ, ◌+◌, ◌<◌, ◌≤◌, Bool, true, false, cond, if◌then◌else◌, List, [], ◌∷◌, ◌++◌, length, Option, Some, None, refl, sym, ap, ◌∙◌, arith}
 use Rattle.std.specs.Prelude.{is_some}
 use Rattle.std.specs.Str.{bytes_eq}
@@ -32,7 +32,7 @@ cases_name a b = told (bytes_eq a b) refl
     told true is = inl ((bytes_eq-Decides a b).0 is)
     told false is = inr (λ same. true≢false (sym (same_name a b same) ∙ is))
 
--- ---- how often a name stands
+-- ---- how often a name occurs
 
 module _ (name : List ℕ) where
   pub times-append : (xs ys : List Link) → times_named name (xs ++ ys) ≡ times_named name xs + times_named name ys
@@ -56,7 +56,7 @@ module _ (name : List ℕ) where
   pub number-rest : (link : Link) (links : List Link) → bytes_eq link.name name ≡ false → number_of name (link ∷ links) ≡ number_of name links
   number-rest link links other = rw other refl
 
-  -- a name that stands nowhere has no number
+  -- a name that occurs nowhere has no number
   pub none-times : (links : List Link) → times_named name links ≡ 0 → number_of name links ≡ None
   none-times [] none = refl
   none-times (link ∷ links) none = ⊎_elim

@@ -1,4 +1,4 @@
--- Changes that are parted by whether their names stand.
+-- Changes that are parted by whether their names are there.
 use Rattle.std.proofs.Common.{◌≡◌, ◌⊎◌, inl, inr, ⊎_elim, ℕ, ◌+◌, ◌<◌, ◌≤◌, ◌||◌, Bool, true, if◌then◌else◌, List, [], ◌∷◌, ◌++◌, length, map, take, get_or, None, refl, sym, ap, subst, ◌∙◌, arith}
 use Rattle.std.specs.Prelude.{Contains, is_some}
 use Rattle.std.proofs.lemmas.List.{get_or-map, length-map, take_more}

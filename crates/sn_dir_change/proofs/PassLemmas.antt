@@ -56,7 +56,7 @@ module _ (list : List NameChange) (k : ℕ) (change : NameChange) (within : k < 
   rest_changes all c there = all c (subst (λ (xs : List NameChange). Contains xs c) (sym split) (rest_there ahead behind change c there))
 
   module _ (changes others : List NameChange) (front here new back old : List Link) where
-    -- a name that stands in the block
+    -- a name that is in the block
     pub amend_one : is_some (number_of change.name.now here) ≡ true → new ≡ without change.name.now here ++ link_for change
         → IsUnderWay changes list others front (front ++ here ++ back) old × AreGone (take k list) here
         → IsUnderWay changes (ahead ++ behind) others front (front ++ new ++ back) old × AreGone (take k (ahead ++ behind)) new
@@ -73,7 +73,7 @@ module _ (list : List NameChange) (k : ℕ) (change : NameChange) (within : k < 
               ∙ All-contains (gone_in here) (take k list) c gone there)),
         )
 
-    -- a name that stands nowhere
+    -- a name that is nowhere
     pub put_one : new ≡ here ++ link_for change
         → IsUnderWay changes others list front (front ++ here ++ back) old × AreGone others here
         → IsUnderWay changes others (ahead ++ behind) front (front ++ new ++ back) old × AreGone others new

@@ -24,7 +24,7 @@ seen-more front here (change ∷ changes) =
     ap (λ (b : Bool). record { change = change; stands = b } ∷ map (seen_too here) (map (seen front) changes)) one
     ∙ ap (λ (xs : List Sought). seen (front ++ here) change ∷ xs) (seen-more front here changes)
 
--- where all were found, further names tell nothing
+-- where all were found, further names add nothing
 pub seen-all : (names : List Link) (list : List Sought) → All (λ (sought : Sought). sought.stands ≡ true) list → map (seen_too names) list ≡ list
 seen-all names [] all = refl
 seen-all names (sought ∷ list) all =

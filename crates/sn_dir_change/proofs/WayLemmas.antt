@@ -16,7 +16,7 @@ pub record IsSet (name : List ℕ) (number : Option ℕ) (old new : List Link) :
   pub beside : (other : List ℕ) → other ≢ name → number_of other new ≡ number_of other old
   pub once : AreOnce new
 
--- ---- names among those before and behind them
+-- ---- names among those before and after them
 
 module _ (name : List ℕ) (front here back : List Link) where
   pub number-among : number_of name (front ++ here ++ back) ≡ or_else (or_else (number_of name front) (number_of name here)) (number_of name back)
@@ -31,7 +31,7 @@ last None = refl
 last (Some n) = refl
 
 module _ (front back : List Link) (name : List ℕ) (number : Option ℕ) where
-  -- put behind names among which it isn't
+  -- put after names among which it isn't
   set_behind : (here : List Link) → times_named name front ≡ 0 → times_named name here ≡ 0 → times_named name back ≡ 0 → number_of name (front ++ (here ++ numbered name number) ++ back) ≡ number
   set_behind here no_front no_here no_back =
       let link = numbered name number in
@@ -54,7 +54,7 @@ module _ (front back : List Link) (name : List ℕ) (number : Option ℕ) where
   times_new : (new : List Link) (other : List ℕ) → times_named other (front ++ (new ++ numbered name number) ++ back) ≡ times_named other front + (times_named other new + times_named other (numbered name number)) + times_named other back
   times_new new other = omega (arith, times-among other front (new ++ numbered name number) back, times-append other new (numbered name number))
 
-  -- a name that stands here, in the place of the one that stood
+  -- a name that is here, in the place of the one that was
   pub amended_set : (here : List Link) → AreOnce (front ++ here ++ back) → is_some (number_of name here) ≡ true
       → IsSet name number (front ++ here ++ back) (front ++ (without name here ++ numbered name number) ++ back)
   amended_set here once stands =
@@ -72,7 +72,7 @@ module _ (front back : List Link) (name : List ℕ) (number : Option ℕ) where
             (cases_name other name);
       }
 
-  -- a name that stands nowhere
+  -- a name that is nowhere
   pub put_set : (here : List Link) → AreOnce (front ++ here ++ back) → number_of name (front ++ here ++ back) ≡ None
       → IsSet name number (front ++ here ++ back) (front ++ (here ++ numbered name number) ++ back)
   put_set here once none =

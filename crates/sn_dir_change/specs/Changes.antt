@@ -6,11 +6,11 @@ use Rattle.sn_layout_node.specs.Directory.{Link, IsLink, number_of}
 use Rattle.sn_image.specs.Sound.{AreOnce}
 use Rattle.sn_dir_change.specs.declared.name_change.NameChange.{NameChange}
 
--- how often a name stands among links
+-- how often a name occurs among links
 abbrev pub times_named : List ℕ → List Link → ℕ
 times_named name links = count_by (λ (l : Link). bytes_eq l.name name) links
 
--- a name and the number that is to stand under it, if one is
+-- a name and the number that is to be under it, if one is
 abbrev pub numbered : List ℕ → Option ℕ → List Link
 numbered name None = []
 numbered name (Some number) = record { number = number; name = name } ∷ []
@@ -30,7 +30,7 @@ AreLinkChanges changes = (change : NameChange) → Contains changes change → I
 abbrev pub ArePuts : List NameChange → Type 0
 ArePuts changes = (change : NameChange) → Contains changes change → is_some change.number ≡ true
 
--- whether a change does anything: a name that is to go and doesn't stand is as it is to be
+-- whether a change does anything: a name that is to go and isn't there is as it is to be
 abbrev pub is_needed : List Link → NameChange → Bool
 is_needed names change = is_some change.number || is_some (number_of change.name.now names)
 
@@ -47,7 +47,7 @@ pub record AreChanges (changes : List NameChange) : Type 0 where
   pub each : AreLinkChanges changes
   pub once : (name : List ℕ) → count_by (λ (change : NameChange). bytes_eq change.name.now name) changes ≤ 1
 
--- The directory as a finite map from name to number: the names that were to change stand for what they were to, or not at all, the others for what they stood for, and none stands twice.
+-- The directory as a finite map from name to number: the names that were to change denote what they were to, or aren't there, the others denote what they did, and none occurs twice.
 pub record IsChanged (changes : List NameChange) (old new : List Link) : Type 0 where
   pub made : All (λ (change : NameChange). number_of change.name.now new ≡ change.number) changes
   pub others : (name : List ℕ) → All (λ (change : NameChange). change.name.now ≢ name) changes → number_of name new ≡ number_of name old

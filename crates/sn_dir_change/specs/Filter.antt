@@ -7,7 +7,7 @@ use Rattle.sn_dir_change.specs.declared.name_change.NameChange.{NameChange}
 abbrev pub print_for : NameChange → ℕ
 print_for change = print_of change.name.now
 
--- The print of each name that stands is there, and no name that waits takes fewer bytes.
+-- The print of each name that is there is in the list, and no name that waits takes fewer bytes.
 pub record Covers (prints : List ℕ) (least : ℕ) (standing waiting : List NameChange) : Type 0 where
   pub prints_there : (change : NameChange) → Contains standing change → Contains prints (print_for change)
   pub least_bytes : (change : NameChange) → Contains waiting change → least ≤ length change.name.now + 3

@@ -51,7 +51,7 @@ HasNoHole s tree = (i : ℕ) → 4096 * i < tree.size → entry s (levels_of tre
 pub record HasChanged (s r : Store) (old new : BlockTree) (changes : List NameChange) : Type 0 where
   -- its names are the old ones with the changes made
   pub names : IsChanged changes (names_of s (Tree old)) (names_of r (Tree new))
-  -- a name stands in a block behind the old ones only where no block before that has room for it
+  -- a name is in a block after the old ones only where no block before that has room for it
   pub fit : (i j : ℕ) (link : Link) → i < j → old.size ≤ 4096 * j → 4096 * j < new.size
       → Contains (names_in (data_block r new j)) link → AreLinks (names_in (data_block r new i) ++ link ∷ []) → ⊥
   -- where each block was one of names, each is
@@ -61,7 +61,7 @@ pub record HasChanged (s r : Store) (old new : BlockTree) (changes : List NameCh
   -- where the tree ended at its size, so does the new one
   pub ends : EndsAtSize s old → EndsAtSize r new
 
--- A directory was planned with these changes. At most one of its blocks changes for each name, it grows by no more blocks than change and stays small for its names, none is given back, and a path of new blocks for each changed one and one more is the most that is taken. It has a block from its first change on. Over a device that tells its bytes no other changes for a name that is to go and doesn't stand, and the tree is that of the changed blocks; where no name stood twice it is the directory that is wanted, in any store that has the new blocks and agrees with the old one in the blocks that the old tree reaches.
+-- A directory was planned with these changes. At most one of its blocks changes for each name, it grows by no more blocks than change and stays small for its names, none is given back, and a path of new blocks for each changed one and one more is the most that is taken. It has a block from its first change on. Over a device that tells its bytes no other changes for a name that is to go and isn't there, and the tree is that of the changed blocks; where no name occurred twice it is the directory that is wanted, in any store that has the new blocks and agrees with the old one in the blocks that the old tree reaches.
 pub record IsDirectoryPlanned (Told : Type 0) (s : Store) (old new : BlockTree) (changes : List NameChange) (old_draft new_draft : Draft) : Type 0 where
   pub dirty : List DirtyBlock
   pub added : List NewBlock
@@ -80,6 +80,6 @@ pub record IsDirectoryPlanned (Told : Type 0) (s : Store) (old new : BlockTree) 
 abbrev pub CannotRead : ℕ → Store → BlockTree → Type 0
 CannotRead sectors s tree = IsDamaged (λ names. ⊤) sectors s tree ⊎ LeadsOutside sectors (tree_reach s tree)
 
--- And it's told of that block.
+-- And the fault names that block.
 abbrev pub CannotReadAt : ℕ → Store → BlockTree → Option ℕ → Type 0
 CannotReadAt sectors s tree block = IsDamagedAt (λ names. ⊤) sectors s tree block ⊎ LeadsOutsideAt sectors (tree_reach s tree) block

@@ -11,6 +11,6 @@ change_of sought = sought.change
 abbrev pub seen : List Link → NameChange → Sought
 seen names change = record { change = change; stands = is_some (number_of change.name.now names) }
 
--- the same where the name may also stand before them
+-- the same where the name may also be before them
 abbrev pub seen_too : List Link → Sought → Sought
 seen_too names sought = record { change = sought.change; stands = sought.stands || is_some (number_of sought.change.name.now names) }

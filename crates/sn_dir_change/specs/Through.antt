@@ -31,7 +31,7 @@ pub record AreDirty (i : ℕ) (dirty : List DirtyBlock) : Type 0 where
   pub before : AllByRecursion (λ (d : DirtyBlock). d.index < i) dirty
   pub spelled : AllByRecursion (λ (d : DirtyBlock). IsDirectoryBlock d.bytes.value) dirty
 
--- A block with these bytes was put behind the others.
+-- A block with these bytes was appended to the others.
 pub record IsPushed (index : ℕ) (bytes : List ℕ) (old new : List DirtyBlock) : Type 0 where
   pub block : DirtyBlock
   pub index_is : block.index ≡ index
@@ -51,7 +51,7 @@ pub record IsThrough (Told : Type 0) (s : Store) (tree : BlockTree) (changes : L
 abbrev pub AreAllDirty : ℕ → ℕ → List DirtyBlock → Type 0
 AreAllDirty first end dirty = (i : ℕ) → first ≤ i → i < end → ¬ All (λ (d : DirtyBlock). d.index ≢ i) dirty
 
--- no block has room for a name of a new one behind it
+-- no block has room for a name of a new one after it
 abbrev pub HaveNoRoom : Store → BlockTree → ℕ → List DirtyBlock → Type 0
 HaveNoRoom s tree count dirty = (i j : ℕ) (link : Link) → i < j → tree.size / 4096 ≤ j → j < count
     → Contains (names_in (block_now s tree dirty j)) link → AreLinks (names_in (block_now s tree dirty i) ++ link ∷ []) → ⊥
@@ -64,7 +64,7 @@ HaveNames s tree count dirty = (j : ℕ) → tree.size / 4096 ≤ j → j < coun
 abbrev pub HaveLaterNames : Store → BlockTree → ℕ → List DirtyBlock → Type 0
 HaveLaterNames s tree count dirty = (j : ℕ) → tree.size / 4096 ≤ j → j < count → 0 < j → (link : Link) × Contains (names_in (block_now s tree dirty j)) link
 
--- The names that stood were changed, and the blocks behind the old ones are filled with those that wait.
+-- The names that were there were changed, and the blocks after the old ones are filled with those that wait.
 pub record IsFilled (Told : Type 0) (s : Store) (tree : BlockTree) (changes : List NameChange) (bound count : ℕ) (dirty : List DirtyBlock) (waiting : List NameChange) : Type 0 where
   pub blocks : AreDirty count dirty
   pub few : length dirty + length waiting ≤ bound

@@ -14,7 +14,7 @@ times_changed name changes = count_by (λ (change : NameChange). bytes_eq change
 abbrev pub AreApart : List NameChange → Type 0
 AreApart changes = (name : List ℕ) → times_changed name changes ≤ 1
 
--- none of these names stands among the links
+-- none of these names is among the links
 abbrev pub AreGone : List NameChange → List Link → Type 0
 AreGone changes links = All (λ (change : NameChange). number_of change.name.now links ≡ None) changes
 
@@ -26,7 +26,7 @@ AreFull waiting links = (change : NameChange) → Contains waiting change → Ar
 abbrev pub IsLinkFrom : List NameChange → List Link → Link → Type 0
 IsLinkFrom waiting links link = Contains links link ⊎ ((change : NameChange) × Contains waiting change × Contains (link_for change) link)
 
--- Of the changes some are still to be made: those of names that stand behind the blocks that were gone through, and those of names that stand nowhere. `names` are all names as they are now, and `front` those of the blocks that were gone through.
+-- Of the changes some are still to be made: those of names that are after the blocks that were gone through, and those of names that are nowhere. `names` are all names as they are now, and `front` those of the blocks that were gone through.
 pub record IsUnderWay (changes standing waiting : List NameChange) (front names old : List Link) : Type 0 where
   pub listed : (change : NameChange) → Contains changes change → Contains standing change ⊎ (Contains waiting change ⊎ (number_of change.name.now names ≡ change.number))
   pub others : (name : List ℕ) → All (λ (change : NameChange). change.name.now ≢ name) changes → number_of name names ≡ number_of name old
@@ -40,7 +40,7 @@ pub record IsUnderWay (changes standing waiting : List NameChange) (front names 
   pub wait_apart : AreApart waiting
   pub wait_listed : (change : NameChange) → Contains waiting change → Contains changes change
 
--- Changes that were parted by whether their names stand. A name that is to go and doesn't stand is in neither list.
+-- Changes that were parted by whether their names are there. A name that is to go and isn't there is in neither list.
 pub record AreParted (names : List Link) (changes standing waiting : List NameChange) : Type 0 where
   pub listed : (c : NameChange) → Contains changes c → Contains standing c ⊎ (Contains waiting c ⊎ (number_of c.name.now names ≡ c.number))
   pub stand : (c : NameChange) → Contains standing c → (is_some (number_of c.name.now names) ≡ true) × Contains changes c

@@ -44,7 +44,7 @@ pub(crate) fn amend_marked(block: &mut Block, marks: &NameMarks, change: &Marked
     amend(block, &change.change())
 }
 
-// Puts a name behind the others of a block. `false` where there is no room for it.
+// Puts a name after the others of a block. `false` where there is no room for it.
 pub(crate) fn put(block: &mut Block, change: &NameChange<'_>) -> bool
     requires block { IsDirectoryBlock block.old }
     requires change { IsChange change.now }

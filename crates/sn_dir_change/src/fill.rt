@@ -42,7 +42,7 @@ fn filled(change: &NameChange<'_>, waiting: &mut Vec<NameChange<'_>>) -> Block
     block
 }
 
-/// Puts the names that wait into blocks behind the others, and answers how many blocks there are then.
+/// Puts the names that wait into blocks after the others, and answers how many blocks there are then.
 pub(crate) fn fill_blocks(
     alloc: Global,
     first: u64,

@@ -13,7 +13,7 @@ use std::alloc::{AllocError, Global};
 /// What a block has that changes may touch: a name of one of these prints, or at least this room.
 #[derive(Drop)]
 pub(crate) struct BlockFilter {
-    /// The prints of the names that stand.
+    /// The prints of the names that are there.
     pub prints: Vec<Print>,
     /// The fewest bytes that a name takes that waits. Where none waits, one more than a block has.
     pub least: usize,

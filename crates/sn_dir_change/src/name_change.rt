@@ -11,11 +11,11 @@ use std::cmp::Ordering;
 #[derive(Clone, Copy)]
 pub struct NameChange<'a> {
     pub name: &'a [u8],
-    /// The number that is to stand under it, from 2 on. With `None` the name is taken out.
+    /// The number that is to be under it, from 2 on. With `None` the name is taken out.
     pub number: Option<u16>,
 }
 
-// Whether what is to stand is a link. A name that is to go may be any bytes.
+// Whether what is to be there is a link. A name that is to go may be any bytes.
 fn is_change(change: &NameChange<'_>) -> bool
     ensures { IsTrue result ↔ IsChange change.now }
 {

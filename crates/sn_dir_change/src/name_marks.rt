@@ -11,7 +11,7 @@ use std::marker::Model;
 const MARKS: usize = 4096;
 
 /// A mark for each name of a block, by a hash of its bytes. A name without a mark isn't there, so most names that
-/// a block doesn't have are told by one look at the marks, and not by one at each of its names.
+/// a block doesn't have are ruled out by one look at the marks, and not by one at each of its names.
 #[derive(Drop)]
 pub(crate) struct NameMarks {
     marks: [bool; 4096],

@@ -13,7 +13,7 @@ use crate::name_marks::{MarkedChange, NameMarks};
 use crate::pending::Pending;
 use sn_layout::{BLOCK_SIZE, Block};
 
-// Makes the changes of the names that stand in a block, whose names are marked.
+// Makes the changes of the names that are in a block, whose names are marked.
 fn amend_standing(block: &mut Block, marks: &NameMarks, standing: &mut Vec<MarkedChange<'_>>)
     requires block { IsDirectoryBlock block.old }
     requires marks { AreMarked marks.now.marks (names_in block.old) }
@@ -77,7 +77,7 @@ pub(crate) fn put_waiting(block: &mut Block, room: usize, waiting: &mut Vec<Name
     }
 }
 
-/// Makes the changes of the names that stand in a block, and puts those that wait behind the others as
+/// Makes the changes of the names that are in a block, and puts those that wait after the others as
 /// far as there is room: so a name is put where one was taken out. The names of the block are marked, and no more
 /// than so many bytes are left. Answers whether it is changed.
 pub(crate) fn change_names(

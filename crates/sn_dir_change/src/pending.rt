@@ -33,7 +33,7 @@ pub(crate) struct Pending<'a> {
     pub waiting: Vec<NameChange<'a>>,
 }
 
-// Puts a change behind those of names that stand.
+// Appends a change of a name that is there.
 fn note_standing<'a>(
     list: &mut Vec<MarkedChange<'a>>,
     change: &NameChange<'a>,
@@ -44,7 +44,7 @@ fn note_standing<'a>(
     Ok(())
 }
 
-// Puts a change behind those of names that don't.
+// Appends a change of a name that isn't.
 fn note_waiting<'a>(
     list: &mut Vec<NameChange<'a>>,
     change: &NameChange<'a>,
@@ -66,7 +66,7 @@ impl<'a> Pending<'a> {
         }
     }
 
-    // Notes a change of a name that stands or doesn't.
+    // Notes a change of a name that is there or isn't.
     fn add(&mut self, change: &NameChange<'a>, stands: bool) -> Result<(), AllocError>
         requires { IsChange change.now }
         ensures parted { (names : List Link) (taken : List TheChange) → stands ≡ is_some (number_of change.now.name.now names)

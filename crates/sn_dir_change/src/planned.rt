@@ -48,7 +48,7 @@ fn with_first(
     Ok(dirty)
 }
 
-// What the tree is to become: its changed blocks, and those behind the old ones.
+// What the tree is to become: its changed blocks, and those after the old ones.
 fn wanted<D: Device>(
     alloc: Global,
     blocks: &mut Blocks<D>,
@@ -80,8 +80,8 @@ fn wanted<D: Device>(
 }
 
 /// Plans a directory in which names were set and taken out, each name at most once in the list. A name
-/// that stands is set in its place; one that doesn't is put into a block with room, or into a new block
-/// behind the others where there is none. No block is given back, and at most one changes for each name;
+/// that is there is set in its place; one that isn't is put into a block with room, or into a new block
+/// after the others where there is none. No block is given back, and at most one changes for each name;
 /// to take out a name that isn't there changes none, but that a directory has a block from its first change on.
 ///
 /// After an error the build can only be given up. `Full` comes only where fewer blocks are left than a
@@ -125,7 +125,7 @@ pub fn change<D: Device>(
     plan_tree(build, blocks, tree, dirty)
 }
 
-/// Plans a directory in which a name stands for a number, whether it did for another or not: `change`
+/// Plans a directory in which a name denotes a number, whether it denoted another or not: `change`
 /// of one name.
 pub fn insert<D: Device>(
     alloc: Global,
@@ -153,7 +153,7 @@ pub fn insert<D: Device>(
     change(alloc, build, blocks, tree, &[NameChange { name, number }])
 }
 
-/// Plans a directory without a name, whether it stands there or not: `change` of one name.
+/// Plans a directory without a name, whether it is there or not: `change` of one name.
 pub fn remove<D: Device>(
     alloc: Global,
     build: &mut Build,

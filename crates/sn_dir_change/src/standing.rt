@@ -40,7 +40,7 @@ impl<'a> Sought<'a> {
     }
 }
 
-// Puts a change behind others, and whether its name was found.
+// Appends a change, and whether its name was found.
 fn push_sought<'a>(
     list: &mut Vec<Sought<'a>>,
     change: &NameChange<'a>,

@@ -23,7 +23,7 @@ use sn_tree_read::TreeFault;
 use std::alloc::{AllocError, Global};
 use std::collections::VecDeque;
 
-// Puts a changed block behind the others.
+// Appends a changed block.
 pub(crate) fn push_dirty(
     alloc: Global,
     dirty: &mut VecDeque<DirtyBlock>,
@@ -80,8 +80,8 @@ fn pass_block<D: Device>(
     Ok(())
 }
 
-/// Makes the changes of names that stand, and puts those that don't where there is room. Answers the
-/// changed blocks. A block isn't read where an index tells that it has none of the names that stand, and no
+/// Makes the changes of names that are there, and puts those that aren't where there is room. Answers the
+/// changed blocks. A block isn't read where an index says that it has none of the names that are there, and no
 /// room for one that waits. The changes that are left are among those at the beginning, so one filter is
 /// enough for all blocks.
 pub(crate) fn pass_blocks<D: Device>(

@@ -1,4 +1,4 @@
--- What becomes of a point that is begun, gone on with or ended.
+-- What becomes of a point that is begun, continued or ended.
 use Rattle.std.proofs.Common.{◌≡◌, inl, inr, ◌+◌, ◌≤◌, Bool, true, false, nat_lt, if◌then◌else◌, Option, Some, None, Ok, Err, refl, sym, ap, subst, ◌∙◌, arith}
 use Rattle.sn_block.specs.Counts.{IsLater}
 use Rattle.sn_device.specs.Crash.{Touches}

@@ -52,7 +52,7 @@ goes_on_lasting old new moments runs = record {
   answered = runs_show new old.world (runs_with new old.world new.point runs);
 }
 
--- it has begun a point, or gone on with one
+-- it has begun a point, or continued one
 more_step : (writes syncs : ℕ) (old new : Held) → HasBegun old new ⊎ HasGoneOn old new → new.status ≡ called writes syncs old.status → LeavesOnly old.disk new.disk (λ c. IsImage c (settle old.world)) → Touches (IsBesideRoot old) old.disk new.disk → RunsWith new.point new old.world
     → AnswersFrom (Running old.world) event.Step (answer.Progress progress.More) old new false
 more_step writes syncs old new made costs moments touched runs = record {

@@ -321,7 +321,7 @@ LeavesCall old mid session c (Some m) new = IsUnchanged m mid new
 abbrev pub IsCutLast : Held → Disk → Status → Type 0
 IsCutLast old disk status = IsCutPoint (BuildsLast old) old disk status ⊎ IsCutFinish old event.Restart disk status
 
--- A step has begun a point of what changed since the root, with a write and a sync: the log goes on in the other half, under the next epoch. Nothing is charged, has changed or is kept back since.
+-- A step has begun a point of what changed since the root, with a write and a sync: the log continues in the other half, under the next epoch. Nothing is charged, has changed or is kept back since.
 pub record HasBegun (old new : Held) : Type 0 where
   pub between : old.point ≡ None
   pub going : Going
@@ -351,7 +351,7 @@ pub record HasEnded (old new : Held) : Type 0 where
   pub finished : HasFinished old new
   pub last : finished.going.stage ≡ Bodied
 
--- A step says that there is more where it has begun a point or gone on with one, and that it is done where the tree that was frozen became
+-- A step says that there is more where it has begun or continued a point, and that it is done where the tree that was frozen became
 -- durable: it writes outside the root that counts.
 pub record HasStepped (reply : Reply) (old new : Held) : Type 0 where
   pub touched : Touches (IsBesideRoot old) old.disk new.disk

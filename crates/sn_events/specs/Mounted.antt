@@ -29,7 +29,7 @@ use Rattle.sn_cp_whole.specs.Planning.{IsBaseAt, kept_in}
 use Rattle.sn_cp_whole.specs.declared.base.PointBase.{PointBase}
 use Rattle.sn_cp_whole.specs.declared.going.GoingPoint.{GoingPoint}
 
--- A point in progress writes the slot that doesn't count, on the disk whose log goes on here, under its root's epoch.
+-- A point in progress writes the slot that doesn't count, on the disk whose log continues here, under its root's epoch.
 pub record IsUnderWay (at : LogPosition) (base : PointBase) (going : GoingPoint) : Type 0 where
   pub whole : IsWhole (work_of going.point)
   pub within : IsWithin (work_of going.point) (stage_of going.point)
@@ -81,7 +81,7 @@ holding g blocks at world room base going = holding_on (g.disk (device_of blocks
 abbrev pub RunsNow : Held → Type 0
 RunsNow h = RunsWith h.point h h.world
 
--- What holds of what it reads, where the device tells its bytes: its live tree lies over the root's, its world is one, it runs over that,
+-- What holds of what it reads, where the device tells its bytes: its live tree is over the root's, its world is one, it runs over that,
 -- and the disk is where the point in progress takes it to be.
 pub record IsMeant (disk : Disk) (status : Status) (at : LogPosition) (world : LiveWorld) (room : RoomCounts) (base : PointBase) (going : Option GoingPoint) : Type 0 where
   pub over : IsOver world (tree_at disk base.root)

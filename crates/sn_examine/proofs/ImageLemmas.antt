@@ -70,7 +70,7 @@ zero_word s all block (suc w) set none =
     let low = bit_at-trailing_zeros w32 (suc w) (omega arith) set.fits in
     absurd (none (trailing_zeros w32 (suc w)) ((set.bits (trailing_zeros w32 (suc w))).0 low.1))
 
--- a copy of the map lies on the disk
+-- a copy of the map is on the disk
 copy_within : (n : ℕ) (slot : Slot) → 256 ≤ n → start_of n (MapCopy slot) + map_blocks n ≤ n
 copy_within n A least = omega (arith, least)
 copy_within n B least = omega (arith, least)
@@ -105,7 +105,7 @@ module _ (sectors : ℕ) (c : Contents) (n : ℕ) (slot : Slot) (root : RootBody
   unfolding map_words
   all_fit = subst (AreNumbers 4) (numbers_alike (1024 * map_blocks n) bytes) (numbers_fit (1024 * map_blocks n) bytes bytes_fit)
 
-  -- no root reaches what lies past the disk
+  -- no root reaches what is past the disk
   none_past : (block : ℕ) → n ≤ block → block < 1024 * map_blocks n → slice_index all block ≡ 0
   none_past block past within =
       zero_word (store_of c) (rooted_in root) block (slice_index all block) (sound.roots.map block within)

@@ -16,7 +16,7 @@ pub record Replays (limits : Limits) (c : Contents) (from : Tree) (n epoch : ℕ
   pub of_epoch : at.epoch ≡ epoch
   pub all : HasAll limits c from at tree charges
 
--- Those of the root's epoch and then those of the next one were, and the log goes on after the last of them.
+-- Those of the root's epoch and then those of the next one were, and the log continues after the last of them.
 pub record HasBoth (limits : Limits) (c : Contents) (from : Tree) (n epoch : ℕ) (at : LogPosition) (tree : Tree) (charges : ℕ) : Type 0 where
   pub older : LogPosition
   pub newer : LogPosition

@@ -26,7 +26,7 @@ pub record HasRoot (sectors : ℕ) (c : Contents) (n : ℕ) (slot : Slot) (root 
   pub newest : IsNewest c slot root
   pub none_later : (epoch : ℕ) → HasNoLater c (base_of n epoch) (root.epoch + 1)
 
--- The tree of the newest root, with the records of both epochs on top of it, is this tree; the log goes on at this position, what is charged for the records is no more than is free, all by the limits of that root, and where something is to recover an age is left. What is kept is that root with the words of its map, and what the records changed.
+-- The tree of the newest root, with the records of both epochs on top of it, is this tree; the log continues at this position, what is charged for the records is no more than is free, all by the limits of that root, and where something is to recover an age is left. What is kept is that root with the words of its map, and what the records changed.
 pub record HasFound (sectors : ℕ) (c : Contents) (k : Kept) (at : LogPosition) (tree : Tree) (room : RoomCounts) (recovers : Bool) : Type 0 where
   pub roots : HasRoot sectors c at.blocks k.slot k.root
   pub words : (words : List ℕ) → HasMap at.blocks c k.slot words → k.words ≡ words

@@ -104,7 +104,7 @@ unbegun_same point.Read goes_on asked world h k at old new made = made
 unbegun_same point.Damaged goes_on asked world h k at old new made = absurd made
 unbegun_same point.Device goes_on asked world h k at old new made = absurd (goes_on refl)
 
--- what is kept is the same, and so is the disk where it goes on
+-- what is kept is the same, and so is the disk where it continues
 pub kept_mounted : (told : Bool) (disk now : Disk) (status after : Status) (at at1 : LogPosition) (world : LiveWorld) (room room1 : RoomCounts) (base base1 : PointBase) (going : Option GoingPoint) (was stops : Bool) → was ≡ false → base1 ≡ base → room1 ≡ room → (stops ≡ false → at1 ≡ at) → after.sectors ≡ status.sectors
     → (stops ≡ false → IsTrue told → now ≡ disk) → IsMounted told disk status at world room base going was → IsMounted told now after at1 world room1 base1 going stops
 kept_mounted told disk now status after at at1 world room room1 base base1 going was stops running base_is room_is at_is sectors same sound = record {

@@ -154,11 +154,11 @@ impl<D: Device> Fs<D> {
     /// frozen trees that the model asks for, and a crash at any moment of the call leaves the snapshots from before or after
     /// it, and all else that was answered.
     /// Proved: Calls come between any two steps, and all promises of a call hold there: what they change is logged under the
-    /// next epoch, charged on both roots, and lies over what was frozen.
+    /// next epoch, charged on both roots, and is over what was frozen.
     /// Proved: Of such calls the numbers that are kept back, and the files that are dropped, are counted since the point
     /// began.
     /// Proved: Where memory is refused for a call, or a block that it needs can't be read, its session and arguments had
-    /// passed; after its point, if it makes one, nothing was written, the world is as it was, and the mount goes on.
+    /// passed; after its point, if it makes one, nothing was written, the world is as it was, and the mount continues.
     /// Proved: A call whose outcome is a change is recorded, also where the change alters nothing, with exactly the writes
     /// of its body's sectors and two more, and two syncs; where the device fails, with at most these.
     /// Proved: After its point, if it makes one, a call whose outcome is no change, or is refused otherwise, writes nothing;

@@ -14,8 +14,8 @@
 //!   answered of the one after alone. Where its outcome lacks room in the log or on the disk, a number or an age, the
 //!   point in progress is finished first (`HasFinished`), and a whole one comes where that isn't enough (`HasMadePoint`);
 //!   else none. Each failure has a cause: EIO where the device failed, ENOSPC where the call doesn't fit right after that point.
-//! - [`Fs::step`]: begins a point, goes on with it, or ends it (`LeavesStep`), which changes no world.
-//! - [`Fs::unmount`]: makes a whole one of the tree without the files that no name stands for, and hands the device back; or
+//! - [`Fs::step`]: begins a point, continues it, or ends it (`LeavesStep`), which changes no world.
+//! - [`Fs::unmount`]: makes a whole one of the tree without the files that have no name, and hands the device back; or
 //!   it is refused as a step is, and the file system is there still.
 //! - [`mount`]: where the contents are an image of a world, that world runs; from the first sync on every
 //!   crash leaves an image of it, also where the mount fails. Only a disk without a fault is mounted; a mount fails for the

@@ -18,7 +18,7 @@ use sn_mount::{Recovered, recover};
 use std::alloc::Global;
 
 /// Mounts a device: syncs it, checks all of it, tries the log over the newest root's tree, which stays on the device, and drops
-/// the files that no name stands for. Where anything was replayed or dropped, a consistency point makes a root of it; then
+/// the files that have no name. Where anything was replayed or dropped, a consistency point makes a root of it; then
 /// the first place of the log is cleared. `NotFormatted`, `NoRoot`, `Version` and `Damaged` come in this order, each before anything
 /// is written, and as the check of the image reports them.
 ///

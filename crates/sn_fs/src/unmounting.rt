@@ -16,7 +16,7 @@ use sn_model::{AskedPoint, Errno};
 use sn_overlay::Overlay;
 
 impl<D: Device> Fs<D> {
-    /// Makes a whole consistency point of what changed without the files that no name stands for. Where it isn't made,
+    /// Makes a whole consistency point of what changed without the files that have no name. Where it isn't made,
     /// nothing that is kept changes.
     fn make_last_point(&mut self, changed: &Overlay) -> Result<(), PointFault>
         requires running { has_stopped self.old ≡ false }
@@ -50,16 +50,16 @@ impl<D: Device> Fs<D> {
         }
     }
 
-    /// Finishes the consistency point in progress, makes a whole one of the tree without the files that no name stands for,
+    /// Finishes the consistency point in progress, makes a whole one of the tree without the files that have no name,
     /// so that the next mount finds it in the root, and hands the device back. ENOMEM, EIO where a block can't be read, and
-    /// ELIMIT where no root can follow change nothing but that: the file system goes on. EIO where the device fails while it
+    /// ELIMIT where no root can follow change nothing but that: the file system stays mounted. EIO where the device fails while it
     /// is written stops it, and ESTOPPED is returned where that was before.
     ///
     /// Proved, also of `Fs::call`: The point in progress is finished first, with the writes and syncs that were left of it,
     /// where a call lacks something or asks for a point, and by an unmount: then its root counts, with what was logged since
     /// it began, and numbers that were kept back before aren't any more.
-    /// Proved: An unmount finishes the point in progress and makes a whole one of the tree without the files that no name
-    /// stands for; a crash at any moment of it leaves the settled world, and where it is refused for memory, age or a block
+    /// Proved: An unmount finishes the point in progress and makes a whole one of the tree without the files that have no
+    /// name; a crash at any moment of it leaves the settled world, and where it is refused for memory, age or a block
     /// that can't be read, nothing has changed.
     pub fn unmount(self) -> Result<D, StillMounted<D>>
         requires { IsFs self }

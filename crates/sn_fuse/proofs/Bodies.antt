@@ -20,7 +20,7 @@ begins_size (Number width value) bytes rest b = ap length b.1 ∙ omega (arith, 
 begins_size (Unread width) bytes rest b = ap length b.2 ∙ omega (arith, length-append b.0 rest, b.1)
 begins_size (Text name) bytes rest b = ap length b.1 ∙ omega (arith, length-append name (0 ∷ rest))
 
--- what is spelled is as long as its fields, and behind them stands the end
+-- what is spelled is as long as its fields, and after them is the end
 pub spelled_size : (fields : List Field) (end : End) (bytes : List ℕ) → Spells fields end bytes → (rest : List ℕ) × (length bytes ≡ sizes_of fields + length rest) × Ends end rest
 spelled_size [] end bytes s = (bytes, omega arith, s)
 spelled_size (field ∷ fields) end bytes s =
@@ -28,7 +28,7 @@ spelled_size (field ∷ fields) end bytes s =
     let later = spelled_size fields end s.0 s.2 in
     (later.0, omega (arith, here, later.1), later.2)
 
--- fields with nothing behind them
+-- fields with nothing after them
 pub whole_size : (fields : List Field) (bytes : List ℕ) → Spells fields Nothing bytes → length bytes ≡ sizes_of fields
 whole_size fields bytes s =
     let all = spelled_size fields Nothing bytes s in

@@ -45,7 +45,7 @@ take_bytes (suc n) (b ∷ bytes) are (suc i) = take_bytes n bytes (λ j. are (su
 drop_bytes : (n : ℕ) (bytes : List ℕ) → IsBytes bytes → IsBytes (drop n bytes)
 drop_bytes n bytes are i = omega (arith, get_or-drop n bytes i 0, are (n + i))
 
--- what stands behind so many bytes is bytes too
+-- what is after so many bytes is bytes too
 pub behind_bytes : (n : ℕ) (all front rest : List ℕ) → IsBytes all → length front ≡ n → all ≡ front ++ rest → IsBytes rest
 behind_bytes n all front rest are long e =
     let same : drop n all ≡ rest = ap (drop n) e ∙ drop_at front rest n long in

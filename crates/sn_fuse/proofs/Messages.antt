@@ -73,7 +73,7 @@ same_spelled (Text a ∷ fs) (Text b ∷ gs) d e bytes k l x y =
     (rw (here.0, later.0) refl, later.1)
 same_spelled (f ∷ fs) (g ∷ gs) d e bytes k l x y = absurd cc
 
--- ---- the opcode says which kinds stand in a body
+-- ---- the opcode says which kinds are in a body
 
 record SameKinds (a b : Op) : Type 0 where
   fields : map kind_of (fields_of a) ≡ map kind_of (fields_of b)

@@ -19,7 +19,7 @@ text_of (Number width value) = []
 text_of (Unread width) = []
 text_of (Text name) = name
 
--- the number, or the name, that stands at a place of the fields
+-- the number, or the name, at a place of the fields
 abbrev pub number_at : ℕ → List Field → ℕ
 number_at place fields = value_of (get_or fields place (Unread 0))
 

@@ -1,4 +1,4 @@
--- The body of a message: fields one after the other, and what stands behind them.
+-- The body of a message: fields one after the other, and what is after them.
 use Rattle.std.specs.Prelude.{◌≡◌, ℕ, ◌^◌, ◌<◌, ◌≢◌, List, [], ◌∷◌, ◌++◌, length}
 use Rattle.std.specs.List.{flat_map, AllByRecursion}
 use Rattle.sn_bytes.specs.Bytes.{number_bytes}
@@ -21,7 +21,7 @@ Begins (Number width value) bytes rest = (value < 256 ^ width) × (bytes ≡ num
 Begins (Unread width) bytes rest = (unread : List ℕ) × (length unread ≡ width) × (bytes ≡ unread ++ rest)
 Begins (Text name) bytes rest = IsName name × (bytes ≡ name ++ 0 ∷ rest)
 
--- behind the fields: nothing, data, so many forgets, or anything
+-- after the fields: nothing, data, so many forgets, or anything
 pub data End : Type 0 where
   Nothing : End
   Data : (bytes : List ℕ) → End

@@ -14,7 +14,7 @@ abbrev pub head_fields : Head → List Field
 head_fields head = Number 4 head.length ∷ Number 4 head.opcode ∷ Number 8 head.unique ∷ Number 8 head.node
     ∷ Number 4 head.user ∷ Number 4 head.group ∷ Number 4 head.process ∷ Unread 4 ∷ []
 
--- bytes are a head, the body whose end its length tells, and more, which isn't looked at
+-- bytes are a head, the body whose end its length gives, and more, which isn't looked at
 pub record Frames (bytes : List ℕ) (head : Head) (body : List ℕ) : Type 0 where
   pub more : List ℕ
   pub spelled : Spells (head_fields head) (Data (body ++ more)) bytes

@@ -88,7 +88,7 @@ fields_of (Interrupt unique) = Number 8 unique ∷ []
 fields_of (BatchForget forgets) = Number 4 (length forgets) ∷ Unread 4 ∷ []
 fields_of (Rename2 directory flags old_name new_name) = Number 8 directory ∷ Number 4 flags.0 ∷ Unread 4 ∷ Text old_name ∷ Text new_name ∷ []
 
--- what stands behind them
+-- what is after them
 abbrev pub end_of : Op → End
 end_of (Lookup name) = Nothing
 end_of (Forget lookups) = Nothing

@@ -6,13 +6,13 @@
 //! [`Decoded::Request`], whose names and data are lent from the message. It takes no memory.
 //!
 //! The model. `fields_of` and `end_of` (`specs/Operation.antt`) are the table of the protocol: which numbers, names and unread
-//! bytes stand in the body of an operation, and what ends it. `Spells` (`specs/Body.antt`) says that bytes are such fields, where
+//! bytes are in the body of an operation, and what ends it. `Spells` (`specs/Body.antt`) says that bytes are such fields, where
 //! those that aren't read may have any value, so an operation can have many spellings. `IsRequest` (`specs/Message.antt`) puts
 //! the head before. [`requests_differ`] is the law that no bytes spell two requests.
 //!
 //! The way through: `message` (`Head`, `Decoded`, `decode`) asks `opcode` which operation a number is, and `body` what the body
 //! says of it: the reader of each is in `fixed` (nothing but numbers, by the layouts of `numbers`), `named` (names) or `sized` (data
-//! of a told size), over `name` and `forgets`. `operation` has what they answer.
+//! of a given size), over `name` and `forgets`. `operation` has what they answer.
 //!
 //! What the sources leave open is decided in `docs/DECISIONS.md`, under "The messages of a mount".
 //!

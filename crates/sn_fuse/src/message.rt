@@ -31,7 +31,7 @@ pub struct Head {
 /// What bytes say.
 #[derive(Drop)]
 pub enum Decoded<'a> {
-    /// No head that tells of bytes that are there: they can't even be answered.
+    /// No head, or one whose length the bytes don't have: they can't even be answered.
     Short,
     /// An opcode that isn't known here.
     Unknown { head: Head },
@@ -64,7 +64,7 @@ fn read_head(reader: &mut Reader<'_>) -> Head
     }
 }
 
-// The head, and the body that it tells of; `None` where it tells of none that is there.
+// The head, and the body by its length; `None` where the bytes have no such length.
 fn read_frame(bytes: &[u8]) -> Option<(Head, &[u8])>
     ensures found { IfSome result (λ frame. Frames bytes.now frame.0 frame.1.now) }
     ensures none { IsNone result → IsShort bytes.now }
@@ -96,7 +96,7 @@ fn answer_to(bytes: &[u8]) -> Decoded<'_>
     }
 }
 
-/// What the bytes of one read from `/dev/fuse` say. The bytes past the length that the head tells aren't looked at.
+/// What the bytes of one read from `/dev/fuse` say. The bytes past the length in the head aren't looked at.
 ///
 /// Proved: Any bytes are exactly one of four: too short, with fewer bytes than a head or a length below a head's or above
 /// what is there; of an unknown opcode; misspelt, where the body spells no operation with its opcode; or the request that

@@ -58,7 +58,7 @@ impl<'a> Data<'a> {
     }
 }
 
-// The name at the front, past the 0 that ends it. `None` where none stands there.
+// The name at the front, past the 0 that ends it. `None` where there is none.
 pub(crate) fn read_name<'a>(reader: &mut Reader<'a>) -> Option<Name<'a>>
     ensures found { IfSome result (λ name. Begins (Text name) reader.old reader.new) }
     ensures none { IsNone result → (name rest : List ℕ) → Begins (Text name) reader.old rest → ⊥ }
@@ -72,7 +72,7 @@ pub(crate) fn read_name<'a>(reader: &mut Reader<'a>) -> Option<Name<'a>>
     Some(Name { bytes })
 }
 
-// A name, and nothing behind it.
+// A name, and nothing after it.
 pub(crate) fn read_last_name<'a>(reader: &mut Reader<'a>) -> Option<Name<'a>>
     ensures found { IfSome result (λ name. Spells (Text name ∷ []) Nothing reader.old) }
     ensures none { IsNone result → (name : List ℕ) → Spells (Text name ∷ []) Nothing reader.old → ⊥ }

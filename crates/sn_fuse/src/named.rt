@@ -50,7 +50,7 @@ pub(crate) fn read_remove_xattr(body: &[u8]) -> Option<Op<'_>>
     Some(Op::RemoveXattr { name })
 }
 
-// Two names, and nothing behind them.
+// Two names, and nothing after them.
 fn read_two_names<'a>(reader: &mut Reader<'a>) -> Option<(Name<'a>, Name<'a>)>
     ensures found { IfSome result (λ names. Spells (Text names.0 ∷ Text names.1 ∷ []) Nothing reader.old) }
     ensures none { IsNone result → (first second : List ℕ) → Spells (Text first ∷ Text second ∷ []) Nothing reader.old → ⊥ }

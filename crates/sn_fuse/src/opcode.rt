@@ -43,7 +43,7 @@ pub enum Opcode {
 impl Opcode {
     /// The operation that has this number; `None` for a number that no operation here has.
     ///
-    /// Proved: Each number stands for one operation at most, and for none only where no operation has it.
+    /// Proved: Each number denotes one operation at most, and none only where no operation has it.
     pub fn of_number(number: u32) -> Option<Self>
         ensures found { IfSome result (λ opcode. opcode_number opcode ≡ number) }
         ensures none { IsNone result → (opcode : TheOpcode) → opcode_number opcode ≡ number → ⊥ }

@@ -30,14 +30,14 @@ pub struct NewAttributes {
 #[derive(Clone, Copy, PartialEq, Eq, Debug)]
 pub struct Span {
     pub handle: u64,
-    /// Of a directory: 0, or the offset that an entry of its listing told.
+    /// Of a directory: 0, or the offset in an entry of its listing.
     pub offset: u64,
     /// How many bytes the answer may have at most.
     pub size: u32,
 }
 
 /// An operation on the node of the message's head. A node, a handle, an offset or a size is a number here: whether it
-/// stands for something is for whoever serves it.
+/// denotes something is for whoever serves it.
 #[derive(Drop)]
 pub enum Op<'a> {
     /// The node that a directory has under a name.

@@ -1,4 +1,4 @@
-//! Bodies that end in data, whose size a number before it tells, and that of INIT, which may go on.
+//! Bodies that end in data, whose size is a number before it, and that of INIT, which may have more bytes.
 ghost use Rattle.std.specs.Prelude.{◌≡◌, ℕ, ◌*◌, List, [], ◌∷◌, IfSome, IsNone};
 ghost use Rattle.sn_fuse.specs.Operation.{IsBody, opcode_of};
 ghost use Rattle.sn_fuse.specs.declared.forgets.Forget.{Forget as TheForget};

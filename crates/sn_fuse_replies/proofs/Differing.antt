@@ -118,7 +118,7 @@ error_fits (Initialized initialized) = omega arith
 
 -- ---- bodies
 
--- what stands before data or a listing is a record of numbers
+-- what is before data or a listing is a record of numbers
 flat : (answer : Answer) (rest : List ℕ) → fixed_bytes answer ++ rest ≡ numbers_then (widths_of answer) (numbers_of answer) rest
 flat (Error errno) rest = refl
 flat Nothing rest = refl
@@ -136,7 +136,7 @@ flat (Initialized initialized) rest = simp (append_assoc, zero_number)
 abbrev at : ℕ → List ℕ → ℕ
 at place numbers = get_or numbers place 0
 
--- the answers of one kind that have the same numbers and the same behind them
+-- the answers of one kind that have the same numbers and the same after them
 made_alike : (a b : Answer) → AreAlike a b → error_number a ≡ error_number b → numbers_of a ≡ numbers_of b → tail_of a ≡ tail_of b → a ≡ b
 made_alike (Error one) (Error other) alike e n t = ap Error (same_errors one other e)
 made_alike Nothing Nothing alike e n t = refl

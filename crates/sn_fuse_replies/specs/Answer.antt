@@ -66,7 +66,7 @@ fixed_bytes (XattrSize size) = count_bytes size
 fixed_bytes (Listing listed) = []
 fixed_bytes (Initialized initialized) = initialized_bytes initialized
 
--- and what stands behind them
+-- and what is after them
 abbrev pub tail_of : Answer → List ℕ
 tail_of (Data bytes) = bytes
 tail_of (Listing listed) = listed

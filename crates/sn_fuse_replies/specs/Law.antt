@@ -65,7 +65,7 @@ numbers_of (XattrSize size) = size ∷ 0 ∷ []
 numbers_of (Listing listed) = []
 numbers_of (Initialized initialized) = initialized_numbers initialized
 
--- numbers that fit their fields, and no more bytes than a length can tell
+-- numbers that fit their fields, and no more bytes than a length can say
 abbrev pub IsSpelled : Answer → Type 0
 IsSpelled answer = (reply_size answer < 256 ^ 4) × AreOfWidths (widths_of answer) (numbers_of answer)
 

@@ -5,10 +5,10 @@ use crate::listing::Listed;
 use sn_fuse::{Data, Time};
 use sn_fuse_flags::InitFlags;
 
-/// What a node is like, as stat(2) tells it.
+/// What a node is like, as stat(2) reports it.
 #[derive(Clone, Copy, PartialEq, Eq, Debug)]
 pub struct Attributes {
-    /// The number that `st_ino` tells.
+    /// The number that `st_ino` reports.
     pub number: u64,
     pub size: u64,
     /// How many pieces of 512 bytes it takes.
@@ -31,7 +31,7 @@ pub struct Entry {
     pub node: u64,
     /// Of two nodes with one number the later has another generation.
     pub generation: u64,
-    /// For how long the name stands for the node.
+    /// For how long the name denotes the node.
     pub name_lasts: Time,
     /// For how long the attributes hold.
     pub attributes_last: Time,
@@ -47,7 +47,7 @@ pub struct Opened {
     pub flags: u32,
 }
 
-/// How much room a file system has, as statvfs(3) tells it.
+/// How much room a file system has, as statvfs(3) reports it.
 #[derive(Clone, Copy, PartialEq, Eq, Debug)]
 pub struct Statistics {
     pub blocks: u64,
@@ -82,7 +82,7 @@ pub struct Initialized {
 #[derive(Drop)]
 pub enum Answer<'a> {
     Error { errno: Errno },
-    /// It was done, and there is nothing to tell.
+    /// It was done, and there is nothing to report.
     Nothing,
     /// Of LOOKUP, MKNOD, MKDIR, SYMLINK and LINK.
     Entry { entry: Entry },

@@ -1,4 +1,4 @@
-//! The errors that an answer can tell.
+//! The errors that an answer can report.
 ghost use Rattle.std.specs.Prelude.{◌≡◌, ◌<◌};
 ghost use Rattle.sn_fuse_replies.specs.Errno.{errno_number};
 

@@ -18,6 +18,12 @@ use std::marker::Model;
 /// The most bytes that a name in a listing has.
 pub const NAME_MAX: usize = 255;
 
+<<<<<<< HEAD
+=======
+// How many bytes are before a name.
+const NAME_OFFSET: usize = 24;
+
+>>>>>>> b92c33177a7af77fc939903d875cb672117adf22
 // The most bytes that an entry has.
 const ENTRY_MAX: usize = 280;
 
@@ -39,7 +45,7 @@ impl EntryKind {
 /// One entry of a listing.
 #[derive(Clone, Copy, PartialEq, Eq, Debug)]
 pub struct DirectoryEntry<'a> {
-    /// The number that `d_ino` tells.
+    /// The number that `d_ino` reports.
     pub number: u64,
     /// What a later READDIR gives to begin after this entry.
     pub offset: u64,

@@ -12,7 +12,7 @@ use std::alloc::AllocError;
 // How many bytes the head of an answer has.
 const HEAD_SIZE: usize = 16;
 
-// The most bytes that stand before data or a listing: those of an answer to CREATE.
+// The most bytes before data or a listing: those of an answer to CREATE.
 const FRONT_MAX: usize = 160;
 
 fn put_head(block: &mut [u8], size: u32, error: u32, unique: u64) -> usize

@@ -41,7 +41,7 @@ pub record Going : Type 0 where
   pub stage : Stage
   pub free : ℕ
 
--- the world in memory, the numbers that are kept back in it, in all and since the point in progress began, the room that is left for it, where its log goes on, what is kept for the next point, the point in progress, and the device
+-- the world in memory, the numbers that are kept back in it, in all and since the point in progress began, the room that is left for it, where its log continues, what is kept for the next point, the point in progress, and the device
 pub record Held : Type 0 where
   pub world : World
   pub kept : ℕ → Bool
@@ -82,7 +82,7 @@ pub record Runs (h : Held) (world : World) : Type 0 where
   pub age : IsToRecover root (older ++ newer) (image store root.inode_file) → HasAgeLeft root
   pub frozen : world.frozen ≡ frozen_of store root.snapshots
 
--- No point is in progress, so that the log goes on under the root's own epoch, and nothing is unsynced.
+-- No point is in progress, so that the log continues under the root's own epoch, and nothing is unsynced.
 pub record IsBetween (h : Held) (world : World) (r : Runs h world) : Type 0 where
   pub none_newer : r.newer ≡ []
   pub epoch : h.at.epoch ≡ r.root.epoch

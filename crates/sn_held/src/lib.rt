@@ -7,11 +7,11 @@
 //!   sound with its map, whose log is charged no more than is free, and that opens to the world. `IsImage` is
 //!   what a mount asks of a disk, and what is left of it by whatever a crash leaves.
 //! - `Room`: what is charged on top of a root, as a mounted file system keeps it, and what a mount keeps of an image.
-//! - `Held`: the world in memory, the numbers that are kept back, where the log goes on, the point in progress, and the device. `Runs`
+//! - `Held`: the world in memory, the numbers that are kept back, where the log continues, the point in progress, and the device. `Runs`
 //!   says that the disk shows a root with records that make of its tree one that covers the live one, and `RunsReady` that a
 //!   point can begin of what changed since.
 //! - `Events`: what a call leaves of the tree, and its append of the records.
-//! - `Moments`: what contents are an image of while events go on.
+//! - `Moments`: what contents are an image of while events continue.
 //!
 //! What the sources leave open is decided in `docs/DECISIONS.md`, under "What a disk opens to".
 #![tactic(auto)]

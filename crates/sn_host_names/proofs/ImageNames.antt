@@ -187,7 +187,7 @@ escape_digits [] e = absurd (true≢false (sym e))
 escape_digits (b ∷ []) e = absurd (true≢false (sym e))
 escape_digits (b ∷ c ∷ rest) e = (grind (arith, nat_tests), grind (arith, nat_tests))
 
--- an escape stands for the byte of its digits, whatever name the rest stands for
+-- an escape denotes the byte of its digits, whatever name the rest denotes
 pub escape_first : (bytes host : List ℕ) → makes_escape bytes ≡ true → image_name host ≡ drop 2 bytes
     → image_name (byte_of (get_or bytes 0 0) (get_or bytes 1 0) ∷ host) ≡ 37 ∷ bytes
 escape_first [] host e = absurd (true≢false (sym e))
@@ -205,14 +205,14 @@ escape_first (b ∷ c ∷ rest) host e = λ same.
     (or_cases (are_digits b c) ((b == 50) && (c == 53) && makes_escape rest) e) in
     ap (λ s. s ++ image_name host) (cond-true _ _ _ needs ∙ escape_of_digits b c digits.0 digits.1) ∙ ap (λ r. 37 ∷ b ∷ c ∷ r) same
 
--- any other byte of an image name stands for itself
+-- any other byte of an image name denotes itself
 pub kept_first : (b : ℕ) (rest host : List ℕ) → is_name_byte b ≡ true → (b ≡ 37 → makes_escape rest ≡ false) → image_name host ≡ rest → image_name (b ∷ host) ≡ b ∷ rest
 kept_first b rest host name plain same =
     let plain_host : (b ≡ 37 → makes_escape host ≡ false) = λ sign. sym (image_makes_escape host) ∙ ap makes_escape same ∙ plain sign in
     let none : needs_escape b host ≡ false = grind (arith, nat_tests, plain_host) in
     image_itself b host none ∙ ap (λ r. b ∷ r) same
 
--- ---- which bytes stand on which side
+-- ---- which bytes are on which side
 
 pub all_drop : (p : ℕ → Bool) (n : ℕ) (xs : List ℕ) → list_all p xs ≡ true → list_all p (drop n xs) ≡ true
 all_drop p zero xs h = h

@@ -1,4 +1,4 @@
--- Host names, which are names of a mount, and the names of an image that stand for them.
+-- Host names, which are names of a mount, and the names of an image that denote them.
 use Rattle.std.specs.Prelude.{ℕ, ◌+◌, ◌*◌, Bool, false, not, ◌&&◌, ◌||◌, ◌==◌, nat_lt, nat_le, if◌then◌else◌, List, [], ◌∷◌, ◌++◌, length}
 use Rattle.std.specs.Char.{digit_value}
 use Rattle.std.specs.List.{list_all}
@@ -43,7 +43,7 @@ needs_escape b rest = is_escaped b || ((b == 37) && makes_escape rest)
 abbrev pub spelled : ℕ → List ℕ → List ℕ
 spelled b rest = if needs_escape b rest then percent_encode_byte b else b ∷ []
 
--- the name of an image that stands for a host name
+-- the name of an image that denotes a host name
 abbrev pub image_name : List ℕ → List ℕ
 image_name [] = []
 image_name (b ∷ rest) = spelled b rest ++ image_name rest

@@ -1,4 +1,4 @@
-//! What a name's bytes stand for, one at a time.
+//! What a name's bytes denote, one at a time.
 ghost use Rattle.std.specs.Prelude.{◌≡◌, ◌<◌, ◌∷◌, [], List, ℕ, true, IsTrue, IsNone, IfSome, length};
 ghost use Rattle.std.specs.Char.{digit_value};
 ghost use Rattle.std.specs.List.{list_all};

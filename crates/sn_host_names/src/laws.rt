@@ -6,15 +6,15 @@ ghost use Rattle.sn_host_names.specs.Escapes.{image_name, is_host_name};
 
 /// No two host names have the same image name.
 ///
-/// Proved, also of `names_have_host_names`: No two names of a mount stand for one name of an image, and each name of an
-/// image stands for a name of a mount.
+/// Proved, also of `names_have_host_names`: No two names of a mount are denoted by one name of an image, and each name of an
+/// image denotes a name of a mount.
 pub fn image_names_are_distinct()
     ensures { (a b : List ℕ) → image_name a ≡ image_name b → a ≡ b }
 {}
 
 /// An image name is spelled as a name, and may only be too long for one.
 ///
-/// Proved: The name that stands for a name of a mount is spelled as a name of an image.
+/// Proved: The name that denotes a name of a mount is spelled as a name of an image.
 pub fn image_names_are_spelled()
     ensures { (host : List ℕ) → IsTrue (is_host_name host) → IsTrue (is_name_spelled (image_name host)) }
 {}

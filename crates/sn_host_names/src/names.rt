@@ -35,7 +35,7 @@ pub fn is_host_name(name: &[u8]) -> bool
 
 /// The image name of a host name. `None` where it has more than 255 bytes.
 ///
-/// Proved: A name of a mount has the name of an image that stands for it as its answer, or none exactly where that has more
+/// Proved: A name of a mount has the name of an image that denotes it as its answer, or none exactly where that has more
 /// than 255 bytes; it is always a name that a directory can have.
 pub fn to_image(name: &[u8]) -> Option<ArrayVec<u8, NAME_MAX>>
     requires { IsTrue (escapes.is_host_name name.now) }
@@ -54,7 +54,7 @@ pub fn to_image(name: &[u8]) -> Option<ArrayVec<u8, NAME_MAX>>
 
 /// The host name whose image name this is, which has no more bytes.
 ///
-/// Proved: A name of an image has the one name of a mount that it stands for as its answer, which is no longer.
+/// Proved: A name of an image has the one name of a mount that it denotes as its answer, which is no longer.
 pub fn to_host(name: &[u8]) -> ArrayVec<u8, NAME_MAX>
     requires { IsTrue (names.is_name name.now) }
     ensures value { image_name result.items ≡ name.now }

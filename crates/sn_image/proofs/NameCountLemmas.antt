@@ -1,4 +1,4 @@
--- How many names the tree has that a root denotes, where no name stands twice in a directory.
+-- How many names the tree has that a root denotes, where no name occurs twice in a directory.
 use Rattle.std.proofs.Common.{◌≡◌, ◌≢◌, ⊎_elim, ℕ, zero, suc, ◌+◌, ◌-◌, ◌/◌, ◌==◌, Bool, true, cond, List, [], ◌∷◌, ◌++◌, flat_map, length, Option, Some, None, Contains, count_by, refl, sym, ap, subst, ◌∙◌, arith}
 use Rattle.std.specs.declared.cmp.Ordering.{Ordering}
 use Rattle.std.specs.List.{range_with_len}
@@ -47,7 +47,7 @@ count_apart p (e ∷ es) apart =
 rest_once : (l : Link) (ls : List Link) → AreOnce (l ∷ ls) → AreOnce ls
 rest_once l ls once name = omega (arith, once name, sum_by-cons (λ y. cond (bytes_eq y.name name) 1 0) l ls)
 
--- a name that stands in front stands nowhere behind
+-- the first name occurs nowhere later
 none_behind : (l : Link) (ls : List Link) → AreOnce (l ∷ ls) → number_of l.name ls ≡ None
 none_behind l ls few = told (number_of l.name ls) refl
   where

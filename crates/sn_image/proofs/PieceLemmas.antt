@@ -65,7 +65,7 @@ weight_of b = cond b 1 0
 pub once : (b : Bool) → b ≡ true → weight_of b ≡ 1
 once b is = ap weight_of is
 
--- ---- the number under a name that stands once
+-- ---- the number under a name that occurs once
 
 -- 1 where the names are the same
 abbrev pub same_name : Link → Link → ℕ

@@ -130,7 +130,7 @@ other_names d e name (l ∷ ls) other = told (eq_by_cmp link_cmp (link_to d name
     told true is rest = absurd (other (sym (ap (λ (k : TreeLink). k.directory) (tells_apart exact_links (link_to d name) (link_to e l.name) is))))
     told false is rest = rest
 
--- the number under a name stands with it
+-- the number under a name is listed with it
 pub number_among : (name : List ℕ) (names : List Link) (number : ℕ) → number_of name names ≡ Some number → Contains names (record { number = number; name = name })
 number_among name [] number e = absurd cc
 number_among name (l ∷ ls) number e = told (number_among name ls number) (bytes_eq l.name name) refl e

@@ -114,7 +114,7 @@ module _ (limits : Limits) (n : ℕ) (s : Store) (inodes : BlockTree) (formed : 
   unfolding node_of
   no_default number inode e is = (tree.nodes.nodes number (node_of s inode) (node_there number inode e)).of_file is
 
-  -- a name that stands in a directory is one of the tree
+  -- a name in a directory is one of the tree
   link_there : (directory : ℕ) (name : Link) → Contains (names_at s inodes directory) name → fin.get (image s inodes).links (link_to directory name.name) ≡ Some name.number
   link_there directory name among = name_found s inodes directory name.name ∙ found_once (names_at s inodes directory) name (formed.once directory name.name) among
 

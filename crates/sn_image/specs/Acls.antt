@@ -39,6 +39,6 @@ acls_in block = record {
 abbrev pub no_acls : AclBlock
 no_acls = record { access = []; default = None }
 
--- the ACLs behind an inode's pointer, which is 0 where there are none
+-- the ACLs at an inode's pointer, which is 0 where there are none
 unfoldable pub acls_at : Store → ℕ → AclBlock
 acls_at s block = if block == 0 then no_acls else acls_in (s block)

@@ -26,7 +26,7 @@ abbrev pub file_bytes : Store → Kind → Content → List ℕ
 file_bytes s File content = bytes_of s content
 file_bytes s Directory content = []
 
--- the node that an inode stands for
+-- the node that an inode denotes
 unfoldable pub node_of : Store → Inode → Node
 node_of s inode = record {
   kind = inode.kind;
@@ -43,7 +43,7 @@ node_of s inode = record {
 unfoldable pub node_at : Store → BlockTree → ℕ → Option Node
 node_at s inodes number = option_map (node_of s) (inode_at s inodes number)
 
--- nothing stands under a number that no node has
+-- there is nothing under a number that no node has
 abbrev pub under_number : ℕ → Option Node → List (ℕ × Node)
 under_number number found = option_map_or (λ node. (number, node) ∷ []) found []
 
@@ -54,7 +54,7 @@ nodes_at s inodes number = under_number number (node_at s inodes number)
 unfoldable pub links_at : Store → BlockTree → ℕ → List (Link × ℕ)
 links_at s inodes directory = map (λ name. (link_to directory name.name, name.number)) (names_at s inodes directory)
 
--- Each number has its node, and each name in a directory the number that stands with it first.
+-- Each number has its node, and each name in a directory the number that is first listed with it.
 unfoldable pub image : Store → BlockTree → Tree
 image s inodes = record {
   nodes = fin.from_entries (flat_map (nodes_at s inodes) (numbers inodes));
@@ -65,7 +65,7 @@ image s inodes = record {
 abbrev pub FrozenTrees : Type 0
 FrozenTrees = fin.FinMap (slice_cmp nat_cmp) Tree
 
--- a snapshot's tree by its name: its image as it stands, files without names among it
+-- a snapshot's tree by its name: its image as it is, files without names included
 abbrev pub frozen_entry : Store → Snapshot → List ℕ × Tree
 frozen_entry s snapshot = (snapshot.name, image s snapshot.tree)
 

@@ -53,7 +53,7 @@ inode_in bytes kind = record {
 unfoldable pub inode_of : List ℕ → Option Inode
 inode_of bytes = option_map (inode_in bytes) (kind_of (slice_index bytes 0))
 
--- the record of a number: 32 stand in each block of the inode file, 128 bytes each
+-- the record of a number: each block of the inode file has 32, of 128 bytes each
 unfoldable pub record_at : Store → BlockTree → ℕ → List ℕ
 record_at s inodes number = take 128 (drop (128 * (number % 32)) (data_block s inodes (number / 32)))
 

@@ -35,7 +35,7 @@ use Rattle.sn_image.specs.WellFormed.{IsWellFormed}
 abbrev pub NodesAreTheirInodes : Type 0
 NodesAreTheirInodes = (s : Store) (inodes : BlockTree) (number : ℕ) → fin.get (image s inodes).nodes number ≡ node_at s inodes number
 
--- The name of a directory stands for the number that stands with it there.
+-- The name of a directory denotes the number that is listed with it there.
 abbrev pub NamesAreInTheirDirectory : Type 0
 NamesAreInTheirDirectory = (s : Store) (inodes : BlockTree) (directory : ℕ) (name : List ℕ) → fin.get (image s inodes).links (link_to directory name) ≡ number_of name (names_at s inodes directory)
 
@@ -45,7 +45,7 @@ pub record InodeReadsAlike (s r : Store) (inode : Inode) : Type 0 where
   pub names : names_under r (Some inode) ≡ names_under s (Some inode)
   pub reach : inode_reach r (Some inode) ≡ inode_reach s (Some inode)
 
--- What an inode stands for depends on the blocks that it reaches.
+-- What an inode denotes depends on the blocks that it reaches.
 abbrev pub InodesDependOnTheirReach : Type 0
 InodesDependOnTheirReach = (s r : Store) (inode : Inode) → SameIn (inode_reach s (Some inode)) s r → InodeReadsAlike s r inode
 
@@ -123,12 +123,12 @@ SoundStays = (less more : Limits) (n : ℕ) (s : Store) (inodes : BlockTree) →
 abbrev pub SnapshotsStay : Type 0
 SnapshotsStay = (less more : Limits) (snapshots : List Snapshot) → Allows less more → AreSnapshots less snapshots → AreSnapshots more snapshots
 
--- Where no name stands twice in a directory, one has as many names in the tree as stand in it.
+-- Where no name occurs twice in a directory, it has as many names in the tree as are in it.
 abbrev pub NamesInAreCounted : Type 0
 NamesInAreCounted = (s : Store) (inodes : BlockTree) (directory : ℕ) → ((d : ℕ) → AreOnce (names_at s inodes d))
     → tree_names_in (image s inodes) directory ≡ length (names_at s inodes directory)
 
--- And a number as many as stand in all directories together.
+-- And a number as many as are in all directories together.
 abbrev pub NamesForAreCounted : Type 0
 NamesForAreCounted = (s : Store) (inodes : BlockTree) (number : ℕ) → ((d : ℕ) → AreOnce (names_at s inodes d))
     → names_for (image s inodes) number ≡ name_count s inodes number

@@ -8,7 +8,7 @@ use Rattle.sn_ondisk.specs.Trees.{Store, tree_reach}
 use Rattle.sn_image.specs.Contents.{content_reach}
 use Rattle.sn_image.specs.Inodes.{inode_at}
 
--- the block behind a pointer, none behind 0
+-- the block at a pointer, none at 0
 abbrev pub block_reach : ℕ → List ℕ
 block_reach pointer = if pointer == 0 then [] else pointer ∷ []
 

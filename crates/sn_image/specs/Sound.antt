@@ -2,13 +2,13 @@
 -- - each pointer names a block of the data area, and no block is reached twice: `IsPlaced`;
 -- - the size of the inode file, and the indices past the end of any tree: `IsInodeFile`, `EndsAtSize`;
 -- - the spelling of records, of ACL blocks and of directory blocks: `HasRecords`, `HasAcls`, `HasBlocks`. That the links of
---   a directory are 1 and those of a file at most 32,767, that bytes lie in the inode up to 64, and that the sixteen pointers
+--   a directory are 1 and those of a file at most 32,767, that up to 64 bytes are in the inode, and that the sixteen pointers
 --   of indices past the size are 0, is in the spelling of a record; which numbers and names a directory block can have, and
 --   that none of them crosses the block, in the spelling of that; that the entries of ACLs are valid and in order, and not
 --   both lists empty, in the spelling of those;
 -- - inodes 0 and 1 are unused, and inode 2 is a directory: `HasRecords`;
 -- - a file has no default ACL: `HasAcls`. That no two inodes share an ACL block is in `IsPlaced`;
--- - no block of a directory is a hole, no name stands twice in it, it doesn't have too many, and none in the root hides the
+-- - no block of a directory is a hole, no name occurs twice in it, it doesn't have too many, and none in the root hides the
 --   directory of snapshots: `HasBlocks`, `HasNames`;
 -- - each name leads to an inode that is used, the root has no name, each other directory has one and is reached from the
 --   root, and a file has as many names as its inode says: `IsLinked`.
@@ -55,7 +55,7 @@ pub record IsInodeFile (limits : Limits) (inodes : BlockTree) : Type 0 where
   pub most : inodes.size ≤ 128 * (limits.largest_number + 1)
   pub whole : inodes.size % 4096 ≡ 0
 
--- how many bytes lie below a pointer that stands so many levels below the sixteen
+-- how many bytes are below a pointer that is so many levels below the sixteen
 abbrev pub span_at : ℕ → ℕ → ℕ
 span_at size depth = 4096 * 1024 ^ (levels_of size - depth)
 
@@ -102,11 +102,11 @@ pub record HasInodes (s : Store) (inodes : BlockTree) : Type 0 where
   pub acls : (number : ℕ) (inode : Inode) → inode_at s inodes number ≡ Some inode → HasAcls s inode
   pub contents : (number : ℕ) (inode : Inode) → inode_at s inodes number ≡ Some inode → HasContent s inode.kind inode.content
 
--- No name stands twice among these.
+-- No name occurs twice among these.
 abbrev pub AreOnce : List Link → Type 0
 AreOnce names = (name : List ℕ) → count_by (λ l. bytes_eq l.name name) names ≤ 1
 
--- No name stands twice in a directory, none has too many, and none in the root hides the directory of snapshots.
+-- No name occurs twice in a directory, none has too many, and none in the root hides the directory of snapshots.
 pub record HasNames (limits : Limits) (s : Store) (inodes : BlockTree) : Type 0 where
   pub once : (directory : ℕ) → AreOnce (names_at s inodes directory)
   pub few : (directory : ℕ) → length (names_at s inodes directory) ≤ limits.names

@@ -1,4 +1,4 @@
--- The rules of the format that a name tree doesn't tell by itself.
+-- The rules of the format that can't be seen in a name tree itself.
 use Rattle.std.specs.Prelude.{◌≡◌, ◌≢◌, ℕ, ◌/◌, ◌<◌, Some}
 use Rattle.sn_limits.specs.declared.kind.Kind.TheVariants.{File}
 use Rattle.sn_limits.specs.declared.limits.Limits.{Limits}
@@ -12,7 +12,7 @@ use Rattle.sn_image.specs.Inodes.{record_at, inode_at}
 use Rattle.sn_image.specs.Names.{names_at}
 use Rattle.sn_image.specs.Sound.{IsInodeFile, EndsAtSize, SpellsRecord, SpellsAcls, HasContent, AreOnce}
 
--- A root is well formed: each tree ends at its size, what stands in the blocks is spelled, no name stands twice in a directory, and a file counts the names that it has. Whether a well-formed root is sound is left to where its blocks lie, and to the tree that it denotes.
+-- A root is well formed: each tree ends at its size, the contents of blocks are spelled, no name occurs twice in a directory, and a file counts the names that it has. Whether a well-formed root is sound is left to where its blocks are, and to the tree that it denotes.
 pub record IsWellFormed (limits : Limits) (s : Store) (inodes : BlockTree) : Type 0 where
   pub file : IsInodeFile limits inodes
   pub ends : EndsAtSize s inodes

@@ -46,7 +46,7 @@ pub fn byte_laws()
     ensures disk { DataBlocksAreWhole }
 {}
 
-/// How many names the tree that a root denotes has, by what stands in its directories, and the links of
+/// How many names the tree that a root denotes has, by what is in its directories, and the links of
 /// inodes by those.
 ///
 /// Proved: Where no name is twice in a directory, each directory has as many names in the tree as are in its blocks, and

@@ -21,7 +21,7 @@ abbrev pub is_there : Errno → Bool
 is_there Eexist = true
 is_there _ = false
 
--- whether an entry goes on after its call was refused: what has to go isn't there, or a directory is there already
+-- whether an entry continues after its call was refused: what has to go isn't there, or a directory is there already
 abbrev pub is_expected : What → Call → Errno → Bool
 is_expected what (call.Unlink path) errno = is_vacant what errno
 is_expected what (call.Mkdir path mode) errno = is_there errno

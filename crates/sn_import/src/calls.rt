@@ -7,7 +7,7 @@ use crate::object::Rights;
 use sn_model::{AclKind, Call, OpenFlags, StoredAcl, Word};
 use std::alloc::{AllocError, Global};
 
-/// The mode of directories that no entry tells of.
+/// The mode of directories that no entry names.
 const ABOVE_MODE: u16 = 0o755;
 
 const DIRECTORY_MODE: u16 = 0o700;

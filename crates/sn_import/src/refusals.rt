@@ -15,9 +15,9 @@ fn is_vacant(what: &What, errno: Errno) -> bool
     }
 }
 
-/// Whether an entry goes on after its call was refused so.
+/// Whether an entry continues after its call was refused so.
 ///
-/// Proved: It goes on where nothing has the name that a file had to give up, where a directory has the name of a directory, and
+/// Proved: It continues where nothing has the name that a file had to give up, where a directory has the name of a directory, and
 /// where a directory that is made is there already; and in no other case.
 pub fn is_expected(what: &What, call: &Call, errno: Errno) -> bool
     ensures { result ≡ refusals.is_expected what.now call.now errno }

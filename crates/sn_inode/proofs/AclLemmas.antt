@@ -1,4 +1,4 @@
--- The ACLs of an inode, in the block in which they stand.
+-- The ACLs of an inode, in their block.
 use Rattle.std.proofs.Common.{◌≡◌, ◌≢◌, ◌==◌, ℕ, ◌+◌, ◌*◌, ◌≤◌, ◌||◌, Bool, true, false, if◌then◌else◌, List, [], ◌∷◌, Option, None, Some, IfOk, OnOk, Result, Ok, Err, Contains, refl, sym, ap, subst, ◌∙◌, arith}
 use Rattle.std.specs.Prelude.{IfErr, nat_le}
 use Rattle.std.proofs.lemmas.Bool.{eqb-false, eq-eqb, ne_eqb, le-leb, true≢false}
@@ -33,7 +33,7 @@ module _ (kind : Kind) (block : List ℕ) (acls : AclBlock) (fits : IsAclBlock a
   pub not_held : ((kind ≡ File → acls.default ≡ None) → ⊥) → HoldsAcls kind block → ⊥
   not_held refused holds = refused (λ file. ap (λ (a : AclBlock). a.default) spelled_acls ∙ holds.of_file file)
 
--- ---- behind a pointer
+-- ---- at a pointer
 
 module _ (s : Store) (pointer : ℕ) where
   pub none_at : pointer ≡ 0 → no_acls ≡ acls_at s pointer

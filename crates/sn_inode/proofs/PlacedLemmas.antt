@@ -65,7 +65,7 @@ module _ (was : Option Inode) (kind : Kind) (kept pointer : ℕ) (is : kept ≡ 
       none : kept ≡ 0
       none = ⊎_elim (λ (same : kept_pointer was kind ≡ acl_pointer was). absurd (other (is ∙ same ∙ sym from))) (λ nothing. is ∙ nothing) (kept_or_none was kind)
 
--- no ACLs behind 0
+-- no ACLs at 0
 pub none_there : (acls : AclBlock) → acls ≡ no_acls → (s : Store) → AclsStandAt s acls 0
 none_there acls none s = (sym (none_at s 0 refl) ∙ sym none, λ some. absurd (some refl))
 

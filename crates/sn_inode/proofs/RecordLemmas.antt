@@ -1,4 +1,4 @@
--- The record of a number, in the block in which it stands.
+-- The record of a number, in its block.
 use Rattle.std.proofs.Common.{◌≡◌, ℕ, ◌-◌, ◌*◌, ◌/◌, ◌%◌, ◌<◌, Bool, true, false, if◌then◌else◌, List, take, drop, Option, None, Some, IfOk, OnOk, Result, Ok, Err, sym, ap, subst, ◌∙◌, arith}
 use Rattle.std.specs.Prelude.{IfErr, nat_le, nat_lt}
 use Rattle.std.proofs.lemmas.Bool.{true≢false, and_parts, ltb-true}

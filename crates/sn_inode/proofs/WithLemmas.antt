@@ -48,7 +48,7 @@ use Rattle.sn_inode.proofs.SettledLemmas.{holds_front, holds_back}
 abbrev pub Later : ℕ → List StoredRecord → Type 0
 Later number xs = AllByRecursion (λ (x : StoredRecord). number < x.number) xs
 
--- each number is below those behind it
+-- each number is below those after it
 abbrev pub Rise : List StoredRecord → Type 0
 Rise [] = Unit {0}
 Rise (x ∷ xs) = Later x.number xs × Rise xs

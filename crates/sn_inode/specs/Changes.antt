@@ -73,11 +73,11 @@ abbrev pub kept_pointer : Option Inode → Kind → ℕ
 kept_pointer None kind = 0
 kept_pointer (Some inode) kind = if is_same_kind inode.kind kind then inode.acl_block else 0
 
--- Behind the pointer stand these ACLs, in a block that spells them, or none behind 0.
+-- The pointer names a block that spells these ACLs, or there are none and it is 0.
 abbrev pub AclsStandAt : Store → AclBlock → ℕ → Type 0
 AclsStandAt s acls pointer = (acls_at s pointer ≡ acls) × (pointer ≢ 0 → SpellsAcls (s pointer))
 
--- Behind the new pointer stand the ACLs that are set; kept ones stay behind that of the inode that was there.
+-- The new pointer leads to the ACLs that are set; kept ones stay at that of the inode that was there.
 abbrev pub HasAclsOf : Store → Option Inode → Kind → AclChange → ℕ → Type 0
 HasAclsOf s was kind Kept new = new ≡ kept_pointer was kind
 HasAclsOf s was kind (Set acls) new = AclsStandAt s acls new
@@ -122,7 +122,7 @@ pub record IsWith (Told : Type 0) (limits : Limits) (s : Store) (old new : Block
   pub none : changes ≡ [] → (new ≡ old) × (new_draft ≡ old_draft)
   pub changes_inodes : Told → ChangesInodes limits s old new changes added released
 
--- The old file can't be read where it has to be, and it's told of that block: that of the record of a change, or one that the file reaches.
+-- The old file can't be read where it has to be, and the fault names that block: that of the record of a change, or one that the file reaches.
 abbrev pub IsUnreadableAt : Limits → ℕ → Store → BlockTree → List InodeChange → Option ℕ → Type 0
 IsUnreadableAt limits sectors s inodes changes block =
     ((number : ℕ) × Contains (numbers_in changes) number × (CanReadRecord limits sectors s inodes number → ⊥) × (block ≡ block_met sectors s inodes (number / 32)))

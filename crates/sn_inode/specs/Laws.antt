@@ -1,4 +1,4 @@
--- What reading inodes comes to, and what changes of them keep.
+-- What follows from reading inodes, and what changes of them keep.
 use Rattle.std.specs.Prelude.{◌≡◌, ℕ, ◌+◌, ◌*◌, ◌<◌, ◌≤◌, List, Option, Some, IfSome, All, Contains}
 use Rattle.sn_limits.specs.declared.limits.Limits.{Limits}
 use Rattle.sn_layout.specs.Bytes.{zeros}
@@ -15,13 +15,13 @@ use Rattle.sn_inode.specs.Changes.{IsChange, IsChanged, ChangesInodes}
 use Rattle.sn_inode.specs.Reads.{CanReadRecord, CanReadAcls}
 use Rattle.sn_inode.specs.declared.changes.InodeChange.{InodeChange}
 
--- Where the records of an inode file are sound, and each block that it reaches lies on the device, each of them can be read: `get` doesn't answer `Damaged`.
+-- Where the records of an inode file are sound, and each block that it reaches is on the device, each of them can be read: `get` doesn't answer `Damaged`.
 abbrev pub SoundInodesAreRead : Type 0
 SoundInodesAreRead = (limits : Limits) (sectors : ℕ) (s : Store) (inodes : BlockTree) → HasRecords limits s inodes
     → ((block : ℕ) → Contains (tree_reach s inodes) block → 8 * block + 8 ≤ sectors)
     → (number : ℕ) → CanReadRecord limits sectors s inodes number
 
--- And where its inodes are, and the blocks that one reaches lie on the device, neither does `acls` of that one.
+-- And where its inodes are, and the blocks that one reaches are on the device, neither does `acls` of that one.
 abbrev pub SoundAclsAreRead : Type 0
 SoundAclsAreRead = (sectors : ℕ) (s : Store) (inodes : BlockTree) (number : ℕ) (inode : Inode) → HasInodes s inodes
     → ((block : ℕ) → Contains (reach_at s inodes number) block → 8 * block + 8 ≤ sectors)

@@ -26,7 +26,7 @@ abbrev pub inode_in : InodeRecord → Option Inode
 inode_in Unused = None
 inode_in (Used inode) = Some inode
 
--- An ACL block was put in place of the one behind a pointer, or one pointer stayed, and something is so of any store that has the new blocks.
+-- An ACL block was put in place of the one at a pointer, or one pointer stayed, and something is so of any store that has the new blocks.
 pub record IsPlaced (Is : Store → Type 0) (old_pointer new_pointer : ℕ) (old new : Draft) : Type 0 where
   pub added : List NewBlock
   pub released : List ℕ
@@ -70,6 +70,6 @@ abbrev pub ArePatched : (ℕ → List ℕ) → ℕ → List StoredRecord → Lis
 ArePatched old keep stored dirty = (number : ℕ)
     → record_in (number % 32) (block_after keep dirty (number / 32) (old (number / 32))) ≡ bytes_after stored number (record_in (number % 32) (block_after keep [] (number / 32) (old (number / 32))))
 
--- The block of a number's record, which the file has, or one on the way to it doesn't lie on the device, and it's told of that one.
+-- The block of a number's record, which the file has, or one on the way to it isn't on the device, and the fault names that one.
 abbrev pub IsOffAt : ℕ → Store → BlockTree → List ℕ → Option ℕ → Type 0
 IsOffAt sectors s inodes numbers block = (number : ℕ) × Contains numbers number × (number / 32 < inodes.size / 4096) × (block_lies_on sectors s inodes (number / 32) ≡ false) × (block ≡ block_met sectors s inodes (number / 32))

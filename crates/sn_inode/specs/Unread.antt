@@ -1,4 +1,4 @@
--- What can't be read of an inode, and the block that this is told of.
+-- What can't be read of an inode, and the block that the fault names.
 use Rattle.std.specs.Prelude.{◌≡◌, ℕ, ◌/◌, Option, IsSomeAnd}
 use Rattle.sn_limits.specs.declared.limits.Limits.{Limits}
 use Rattle.sn_layout.specs.declared.tree.BlockTree.{BlockTree}
@@ -8,12 +8,12 @@ use Rattle.sn_image.specs.Inodes.{inode_at}
 use Rattle.sn_tree_read.specs.Paths.{block_named, block_met}
 use Rattle.sn_inode.specs.Reads.{CanReadRecord, CanReadAcls}
 
--- The record of a number can't be read, which is told of the block that the way to it ends at.
+-- The record of a number can't be read, and the fault names the block that the way to it ends at.
 pub record IsUnreadRecord (limits : Limits) (sectors : ℕ) (s : Store) (inodes : BlockTree) (number : ℕ) (block : Option ℕ) : Type 0 where
   pub unread : CanReadRecord limits sectors s inodes number → ⊥
   pub met : block ≡ block_met sectors s inodes (number / 32)
 
--- The ACLs of an inode can't be read, which is told of their block.
+-- The ACLs of an inode can't be read, and the fault names their block.
 pub record AreUnreadAcls (sectors : ℕ) (s : Store) (inode : Inode) (block : Option ℕ) : Type 0 where
   pub unread : CanReadAcls sectors s inode → ⊥
   pub named : block ≡ block_named inode.acl_block

@@ -1,11 +1,11 @@
-//! What the answers come to.
+//! What follows from the answers.
 ghost use Rattle.sn_inode.specs.Laws.{SoundInodesAreRead, SoundAclsAreRead, ChangedAclsAreFit, ReservedRecordsStay};
 
 use sn_tree_read::read_laws;
 
 /// On a sound image `Damaged` is never answered.
 ///
-/// Proved: On a sound image whose blocks lie on the device no reader of an inode answers `Damaged`.
+/// Proved: On a sound image whose blocks are on the device no reader of an inode answers `Damaged`.
 pub fn inode_laws()
     ensures inodes { SoundInodesAreRead }
     ensures acls { SoundAclsAreRead }

@@ -2,16 +2,16 @@
 //! planned.
 //!
 //! The model is that of `sn_image`, which says for any blocks at all what inode a number has, `inode_at`,
-//! and what ACLs stand behind its pointer, `acls_at`: a finite map from number to inode.
+//! and what ACLs are at its pointer, `acls_at`: a finite map from number to inode.
 //!
 //! Reading. Over a device that tells its bytes the answers are those of the model, exactly, on a sound image
 //! and on any other. `Damaged` comes where a block that is needed isn't on the device, or its bytes spell no
 //! record or no ACLs (`CanReadRecord`, `CanReadAcls`), and there alone. By `inode_laws` it never comes on a
-//! sound image whose blocks lie on the device. Each call reads one block of its own and those on the way to
+//! sound image whose blocks are on the device. Each call reads one block of its own and those on the way to
 //! it, through the cache of `sn_block`, and takes a record or ACLs out of the lent block. No memory is taken
 //! but for blocks that aren't kept.
 //!
-//! Planning. `with` only reads. It says of the new file what stands in it in every store that has the new
+//! Planning. `with` only reads. It says of the new file what is in it in every store that has the new
 //! blocks and agrees with the old one in what the old file reaches: each changed number has the inode that
 //! is wanted, with its ACLs kept or in a block of their own, and each other number the inode that it had, in
 //! a record that stays byte for byte (`ChangesInodes`). By `change_laws` no file gets a default ACL, and the

@@ -26,7 +26,7 @@ use sn_tree_read::fetch_data;
 use std::alloc::{AllocError, Global};
 use std::collections::VecDeque;
 
-// The block of the inode file in which the record of a number stands.
+// The block of the inode file that has the record of a number.
 fn block_of(number: u16) -> u64
     ensures { result ≡ number / 32 }
 {
@@ -47,7 +47,7 @@ fn boxed(alloc: Global, block: Block) -> Result<Box<Block>, AllocError>
     Ok(Box::new(alloc, block)?)
 }
 
-// A block of the inode file as it stands there, and zeros behind its end.
+// A block of the inode file as it is there, and zeros after its end.
 fn copied<D: Device>(
     alloc: Global,
     blocks: &mut Blocks<D>,

@@ -1,4 +1,4 @@
--- What a fault tells of a call that is refused at once: that all its tests passed.
+-- What follows from the fault of a call that is refused at once: that all its tests passed.
 use Rattle.std.proofs.Common.{◌≡◌, Result, Ok, Err, true, refl}
 use Rattle.std.specs.Prelude.{IfErr, IsOk}
 use Rattle.sn_core_files.specs.declared.fault.CallError.{CallError}

@@ -1,4 +1,4 @@
--- What a caller leaves, and how a call goes on.
+-- What a caller leaves, and how a call continues.
 use Rattle.std.specs.Prelude.{◌≡◌, ℕ, Bool, List, Option, None, Some, Result, Ok, Err, IfErr}
 use Rattle.sn_changed.specs.Dropped.{LeadsOn, TellsGone}
 use Rattle.sn_changed.specs.declared.dropped.DroppedFile.{DroppedFile}

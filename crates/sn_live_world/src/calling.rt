@@ -1,4 +1,4 @@
-//! What becomes of whoever called, and of files that nobody has and no name stands for.
+//! What becomes of whoever called, and of files that nobody has and that have no name.
 ghost use Rattle.std.specs.Prelude.{◌≡◌, ◌+◌, ◌<◌, ◌≤◌, ◌==◌, ◌&&◌, ◌||◌, ℕ, true, OnErr, OnOk, is_some, length, if◌then◌else◌};
 ghost use Rattle.sn_caller.specs.Called.{HasRoom};
 ghost use Rattle.sn_caller.specs.Numbering.{has_closed};
@@ -52,14 +52,14 @@ impl LiveWorld {
         }
     }
 
-    /// Whether a number is that of a live file that no name stands for and nobody has open.
+    /// Whether a number is that of a live file that has no name and nobody has open.
     fn is_abandoned(&self, number: u16) -> bool
         ensures { (below : Tree) → IsOver self.now below → result ≡ is_abandoned (world_over self.now below) number }
     {
         self.live.is_nameless(number) && !self.sessions.is_held(number)
     }
 
-    /// Removes a live file, if no name stands for it and nobody has it open. Its number is kept back where it went with
+    /// Removes a live file, if it has no name and nobody has it open. Its number is kept back where it went with
     /// its last descriptor.
     fn drop_if(&mut self, number: u16, by_close: bool)
         requires { HasDrops self.old 1 }
@@ -74,7 +74,7 @@ impl LiveWorld {
         }
     }
 
-    /// Removes each of these files that lost its last descriptor, if no name stands for it.
+    /// Removes each of these files that lost its last descriptor, if it has no name.
     fn drop_each_closed(&mut self, numbers: &[u16])
         requires { HasDrops self.old (length numbers.now) }
         ensures drops { (below : Tree) → IsOver self.old below → DropsClosed numbers.now self.old self.new below }
@@ -102,12 +102,12 @@ impl LiveWorld {
         }
     }
 
-    /// Sets what becomes of a caller's session and its descriptors. A live file that no name stands for goes where nobody
+    /// Sets what becomes of a caller's session and its descriptors. A live file without a name goes where nobody
     /// has it open any more: one that lost its last descriptor, or its last name by the change that was made. Only those
     /// are looked at. The numbers of the former are kept back. It takes no memory.
     ///
-    /// Proved: A caller becomes what the model makes of it, without memory: each live file that nobody has open and no name
-    /// stands for goes, and no other, with its drop merged, its number kept back where it went with its last descriptor, and
+    /// Proved: A caller becomes what the model makes of it, without memory: each live file that nobody has open and that has no name
+    /// goes, and no other, with its drop merged, its number kept back where it went with its last descriptor, and
     /// room left for the drops of all open files.
     pub fn set_caller(&mut self, session: u32, caller: Caller, lost: Option<u16>)
         requires room { HasRoom caller (room_of self.old) }

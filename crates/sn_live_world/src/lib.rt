@@ -13,7 +13,7 @@
 //! 2. [`LiveWorld::prepare_caller`] makes room for the file that it opens, [`LiveWorld::choose`] fills in the number of a
 //!    new node, and [`LiveWorld::prepare_change`] reads and grows what the change asks for. Nothing changes by these.
 //! 3. [`LiveWorld::commit`] makes the change, and [`LiveWorld::set_caller`] sets what becomes of the caller, and removes the
-//!    files that no name stands for and nobody has open any more. Both take no memory and can't fail.
+//!    files that have no name and nobody has open any more. Both take no memory and can't fail.
 //!
 //! A snapshot is brought back in two parts: [`prepare_restore`] reads and grows a live tree of the snapshot's tree, without its
 //! files without names, and [`LiveWorld::restore`] puts it in the live tree's place once a consistency point has made it a

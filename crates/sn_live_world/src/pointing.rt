@@ -14,9 +14,9 @@ use std::alloc::{AllocError, Global};
 impl LiveWorld {
     ghost use Rattle.sn_live_world.specs.World.{HasDrops, HasNoPoint, HasSessions, IsOver, changes_of, kept_of, kept_since_of, nameless_of, point_of, tree_over, world_over};
 
-    /// A copy of what changed, without the files that no name stands for. Nothing changes.
+    /// A copy of what changed, without the files that have no name. Nothing changes.
     ///
-    /// Proved: What changed can be copied without the files that no name stands for.
+    /// Proved: What changed can be copied without the files that have no name.
     pub fn settled_changes(&self, alloc: Global) -> Result<Overlay, AllocError>
         ensures { (below : Tree) → IsOver self.now below → IfOk result (λ settled. DropsNameless (tree_over self.now below) (changes_of self.now) (layer_of settled)) }
     {

@@ -22,7 +22,7 @@ pub struct LiveWorld {
 impl LiveWorld {
     ghost use Rattle.sn_live_world.specs.World.{HasDrops, IsOver, changes_of, descriptors_of, kept_of, kept_since_of, nameless_of, point_of, world_over};
 
-    /// A live tree, and nobody is logged in. A tree with a file that no name stands for has to be settled before calls
+    /// A live tree, and nobody is logged in. A tree with a file that has no name has to be settled before calls
     /// are answered: nobody has that file open.
     pub fn over(alloc: Global, live: LiveTree) -> Result<LiveWorld, AllocError>
         ensures world { (below : Tree) → IfOk result (λ w. world_over w below ≡ record new_world { live = of_live.shown_of live below }) }

@@ -125,7 +125,7 @@ module _ (n k : ℕ) where
 
   -- ---- what can't be gone through
 
-  -- behind blocks that were gone through, what is told of others is so of all of them
+  -- after blocks that were gone through, what is reported of others is so of all of them
   pub astray_behind : (xs ys all a b : List ℕ) (damage : Damage) (block : ℕ) → ((x : ℕ) → times x xs + times x ys ≤ times x all) → Marks n k xs a b → IsAstray n k ys b damage block → IsAstray n k all a damage block
   astray_behind xs ys all a b _ _ sum marks (outside block among wrong) = outside block (times_among block all (omega (arith, sum block, among_times block ys among))) wrong
   astray_behind xs ys all a b _ _ sum marks (twice block two) =

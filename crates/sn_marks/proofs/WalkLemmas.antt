@@ -154,7 +154,7 @@ module _ (n k : ℕ) (s : Store) (size : ℕ) where
       here : BreaksBelow s size 0 first pointer holder pointer
       here = inr (record { k = k; within = within; past = omega (arith, past, inside); some = some; here = refl })
 
-  -- behind pointers that were gone through
+  -- after pointers that were gone through
   pub broken_step : (height first : ℕ) (ps : List ℕ) (i pointer holder : ℕ) (a b : List ℕ) (damage : Damage) (block : ℕ) → i < length ps → pointer ≡ slice_index ps i → IsWalked n k s size height first (take i ps) a b
       → IsBroken n k s size height (first + i * (4096 * 1024 ^ height)) (pointer ∷ []) holder b damage block → IsBroken n k s size height first ps holder a damage block
   broken_step height first ps i pointer holder a b _ _ within is before (astray damage block wrong) =
@@ -231,7 +231,7 @@ span_down (suc height) some =
     turned : (w : ℕ) → 1024 * (4096 * w) ≡ 4096 * (1024 * w)
     turned w = omega arith
 
--- ---- what is told
+-- ---- what is reported
 
 pub tells_weaker : (fault : CheckFault) (P Q : Damage → ℕ → Type 0) → ((damage : Damage) (block : ℕ) → P damage block → Q damage block) → Tells fault P → Tells fault Q
 tells_weaker (Damaged damage block) P Q weaker told = weaker damage block told

@@ -1,4 +1,4 @@
--- What a fault tells, and what going through a root does to the counts of a device.
+-- What a fault says, and what going through a root does to the counts of a device.
 use Rattle.std.specs.Prelude.{◌≡◌, ℕ, Result, Err, OnOk}
 use Rattle.sn_device.specs.declared.status.Status.{Status}
 use Rattle.sn_block.specs.Counts.{FailsRead}
@@ -7,7 +7,7 @@ use Rattle.sn_model.specs.declared.fault.Damage.{Damage}
 use Rattle.sn_marks.specs.declared.fault.CheckFault.{CheckFault}
 use Rattle.sn_marks.specs.declared.fault.CheckFault.TheVariants.{Damaged, Read}
 
--- What is told of a damage and its block is so. A block that isn't read tells nothing.
+-- What is reported of a damage and its block is so. A block that isn't read says nothing.
 abbrev pub Tells : CheckFault → (Damage → ℕ → Type 0) → Type 0
 Tells (Damaged damage block) P = P damage block
 Tells (Read fault) P = Unit {0}

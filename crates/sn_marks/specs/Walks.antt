@@ -10,7 +10,7 @@ use Rattle.sn_marks.specs.Marks.{Marks, IsAstray}
 abbrev pub named : List ℕ → List ℕ
 named pointers = filter (λ pointer. not (pointer == 0)) pointers
 
--- The bytes that a pointer to a data block stands for are 0 from an offset on.
+-- The bytes of the data block at a pointer are 0 from an offset on.
 abbrev pub HasEnd : Store → ℕ → ℕ → Type 0
 HasEnd s from pointer = (k : ℕ) → k < 4096 → from ≤ k → slice_index (named_by s pointer) k ≡ 0
 
@@ -18,19 +18,19 @@ HasEnd s from pointer = (k : ℕ) → k < 4096 → from ≤ k → slice_index (n
 pub data HasTail (s : Store) (from pointer : ℕ) : Damage → ℕ → Type 0 where
   tail : (k : ℕ) → k < 4096 → from ≤ k → slice_index (named_by s pointer) k ≢ 0 → HasTail s from pointer Misspelt pointer
 
--- Nothing stands past the size: no pointer, and in the last block no byte.
+-- Nothing is past the size: no pointer, and in the last block no byte.
 unfoldable pub EndsBelow : Store → ℕ → ℕ → ℕ → ℕ → Type 0
 EndsBelow s size zero first pointer = (size ≤ first → pointer ≡ 0) × ((k : ℕ) → k < 4096 → size ≤ first + k → slice_index (named_by s pointer) k ≡ 0)
 EndsBelow s size (suc height) first pointer = (size ≤ first → pointer ≡ 0)
     × ((j : ℕ) → j < 1024 → EndsBelow s size height (first + j * (4096 * 1024 ^ height)) (slice_index (below s pointer) j))
 
--- A pointer past the size. It is told of the block that has it.
+-- A pointer past the size. It is reported at the block that has it.
 pub record IsPast (size first pointer holder block : ℕ) : Type 0 where
   pub past : size ≤ first
   pub some : pointer ≢ 0
   pub here : block ≡ holder
 
--- A byte past it, which is told of its own block.
+-- A byte past it, which is reported at its own block.
 pub record HasByte (s : Store) (size first pointer block : ℕ) : Type 0 where
   pub k : ℕ
   pub within : k < 4096
@@ -38,18 +38,18 @@ pub record HasByte (s : Store) (size first pointer block : ℕ) : Type 0 where
   pub some : slice_index (named_by s pointer) k ≢ 0
   pub here : block ≡ pointer
 
--- Something stands past the size.
+-- Something is past the size.
 unfoldable pub BreaksBelow : Store → ℕ → ℕ → ℕ → ℕ → ℕ → ℕ → Type 0
 BreaksBelow s size zero first pointer holder block = IsPast size first pointer holder block ⊎ HasByte s size first pointer block
 BreaksBelow s size (suc height) first pointer holder block = IsPast size first pointer holder block
     ⊎ ((j : ℕ) × (j < 1024) × BreaksBelow s size height (first + j * (4096 * 1024 ^ height)) (slice_index (below s pointer) j) pointer block)
 
--- All that these pointers reach was gone through, and nothing stands past the size.
+-- All that these pointers reach was gone through, and nothing is past the size.
 pub record IsWalked (n k : ℕ) (s : Store) (size height first : ℕ) (pointers old new : List ℕ) : Type 0 where
   pub marks : Marks n k (named (all_pointers s height pointers)) old new
   pub ends : (j : ℕ) → j < length pointers → EndsBelow s size height (first + j * (4096 * 1024 ^ height)) (slice_index pointers j)
 
--- It can't all be gone through, or something stands past the size.
+-- It can't all be gone through, or something is past the size.
 pub data IsBroken (n k : ℕ) (s : Store) (size height first : ℕ) (pointers : List ℕ) (holder : ℕ) (old : List ℕ) : Damage → ℕ → Type 0 where
   astray : (damage : Damage) (block : ℕ) → IsAstray n k (named (all_pointers s height pointers)) old damage block → IsBroken n k s size height first pointers holder old damage block
   misspelt : (block j : ℕ) → j < length pointers → BreaksBelow s size height (first + j * (4096 * 1024 ^ height)) (slice_index pointers j) holder block

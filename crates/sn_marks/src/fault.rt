@@ -9,7 +9,7 @@ use sn_model::Damage;
 /// Why a root isn't gone through to its end.
 #[derive(Clone, Copy, Debug, PartialEq, Eq)]
 pub enum CheckFault {
-    /// The image is damaged: what is wrong, and the block that it is told of.
+    /// The image is damaged: what is wrong, and the block that it is reported at.
     Damaged { damage: Damage, block: u32 },
     /// A block isn't read, or there is no memory.
     Read(ReadFault),

@@ -20,7 +20,7 @@ pub struct RootBit {
 }
 
 /// Marks the block of a pointer. A pointer 0 names none. One that leads out of the data area is the fault
-/// `Pointer`, and one to a block that is marked already `ReachedTwice`; both are told of its block, and
+/// `Pointer`, and one to a block that is marked already `ReachedTwice`; both are reported at its block, and
 /// leave the map as it was.
 ///
 /// Proved: The block of a pointer is marked, and a pointer 0 marks none; a pointer out of the data area, or to a block whose

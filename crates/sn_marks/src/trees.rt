@@ -17,7 +17,7 @@ use sn_layout::{BlockTree, POINTERS};
 use sn_layout_node::{IndirectBlock, POINTERS_PER_BLOCK};
 use sn_map::Map;
 
-// Where pointers stand: how many levels above data blocks, from which byte of the tree on, and in which
+// Where pointers are: how many levels above data blocks, from which byte of the tree on, and in which
 // block.
 #[derive(Clone, Copy)]
 struct Spot {
@@ -26,7 +26,7 @@ struct Spot {
     holder: u32,
 }
 
-// How many bytes lie below a pointer that stands so many levels above data blocks.
+// How many bytes are below a pointer that is so many levels above data blocks.
 fn span_of(height: u32) -> u64
     requires { height ≤ 3 }
     ensures value { result ≡ 4096 * 1024 ^ height }
@@ -44,7 +44,7 @@ fn has_end(block: &Block, from: usize) -> bool
     block[from..].iter().all(|byte| *byte == 0)
 }
 
-// Tests that the bytes of a data block from an offset on are zeros. None are where the offset lies past it.
+// Tests that the bytes of a data block from an offset on are zeros. There are none where the offset is past it.
 fn test_end<D: Device>(blocks: &mut Blocks<D>, from: u64, pointer: u32) -> Result<(), CheckFault>
     requires some { pointer ≢ 0 }
     requires room { 8 * pointer + 8 ≤ (D.status (device_of blocks.old)).sectors }
@@ -161,14 +161,14 @@ fn mark_indirect<D: Device>(
 }
 
 /// Marks each block of a tree, and tests that the tree ends at its size. `top` is the block that its
-/// sixteen pointers stand in. What is told is so: a pointer that leads out of the data area, a block that
+/// sixteen pointers are in. What is reported is so: a pointer that leads out of the data area, a block that
 /// is reached again, or a pointer or a byte past the size. After a fault the map has some of the marks.
 ///
-/// Proved: At `Ok` each block of a tree has its mark, whatever size the tree claims and whatever is in its blocks; all lie
+/// Proved: At `Ok` each block of a tree has its mark, whatever size the tree claims and whatever is in its blocks; all are
 /// in the data area, none was marked before or is reached twice, no other bit changed, and the tree ends at its size.
 /// Proved: A damage is at the block that is reported: a pointer out of the data area, a block reached twice or marked
 /// before, a pointer or a byte past the size.
-/// Proved: A pointer is marked before it is followed, so each block that is read lies in the data area; over a device that
+/// Proved: A pointer is marked before it is followed, so each block that is read is in the data area; over a device that
 /// tells its bytes nothing is written.
 pub fn mark_tree<D: Device>(
     blocks: &mut Blocks<D>,
@@ -188,7 +188,7 @@ pub fn mark_tree<D: Device>(
     ensures same { IsTrue D.tells_bytes → D.disk (device_of blocks.new) ≡ D.disk (device_of blocks.old) }
     ensures counts { CountsCheck result (D.status (device_of blocks.old)) (D.status (device_of blocks.new)) }
 {
-    // It tells how many pointers there are.
+    // It says how many pointers there are.
     tree.fits();
     let height = BlockTree::levels_of(tree.size);
     let span = span_of(height);

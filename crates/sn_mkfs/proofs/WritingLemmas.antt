@@ -185,7 +185,7 @@ module _ (n total : ℕ) (size : IsDiskSize n) (covers : total ≡ 8 * start_of 
 
 -- ---- and after it
 
--- what is prepared lies elsewhere than slot A
+-- what is prepared is elsewhere than slot A
 pub prepared_kept : (n : ℕ) (c d : Contents) → IsDiskSize n → AgreesOutside (InReplacing A) c d → IsPrepared n c → IsPrepared n d
 prepared_kept n c d size agrees before = record {
   superblock = run 0 8 (inl (omega arith)) ∙ before.superblock;

@@ -85,7 +85,7 @@ pub fn mkfs<D: Device>(alloc: Global, device: D, blocks: u32) -> Result<D, Unfor
     }
 }
 
-// Where things lie on a disk of so many blocks, if a device of so many sectors has room for it.
+// Where things are on a disk of so many blocks, if a device of so many sectors has room for it.
 fn places_on(blocks: u32, sectors: u64) -> Option<Geometry>
     ensures some { IsSome result ↔ HasRoom sectors blocks }
     ensures value { IfSome result (λ geometry. geometry ≡ blocks) }

@@ -1,4 +1,4 @@
--- What a mount leaves that clears the place where the log goes on.
+-- What a mount leaves that clears the place where the log continues.
 use Rattle.std.proofs.Common.{◌≡◌, inl, inr, ℕ, ◌+◌, ◌^◌, ◌<◌, ◌≤◌, ◌==◌, ◌||◌, Bool, true, false, if◌then◌else◌, nat_le, List, [], ◌∷◌, Result, slice_index, refl, sym, ap, subst, ◌∙◌, leb-false, arith}
 use Rattle.sn_device.specs.Sectors.{Contents, Single}
 use Rattle.sn_device.specs.Disk.{Disk, Always, IsSynced, reads}
@@ -23,7 +23,7 @@ use Rattle.sn_sound.proofs.StandingLemmas.{lies_in_data}
 use Rattle.sn_held.specs.Images.{EndsAt, IsImage}
 use Rattle.sn_held.proofs.HeldLemmas.{Rests, each_half, image_shown, rests_stay}
 
--- the sector that clears a place lies in the half
+-- the sector that clears a place is in the half
 pub cleared_within : (c : Contents) (base place : ℕ) → place ≤ 255 → InHalf base (cleared_sector c base place)
 cleared_within c base place within = told (gate_at c (base + place) == 1) (nat_le 254 place) refl
   where

@@ -69,7 +69,7 @@ pub record HasRooted (sectors : ℕ) (old mid rooted : Disk) (k : Kept) (at : Lo
   pub touched : Touches (IsApart at.blocks k.slot) mid rooted
   pub becomes : IfOk result (λ next. BecomesRoot recovers k2 (kept_in next no_changes))
 
--- The first place of the root's half of the log is cleared, and the log goes on there, with the room that the root leaves.
+-- The first place of the root's half of the log is cleared, and the log continues there, with the room that the root leaves.
 pub record HasCleared (n : ℕ) (base : PointBase) (new : Disk) (at : LogPosition) (room : RoomCounts) : Type 0 where
   pub whole : AreSectors (reads new)
   pub synced : IsSynced new

@@ -8,7 +8,7 @@ use sn_map::Map;
 use sn_room::Room;
 
 /// What a mount has read: the newest root with its map, the live tree over the root's with the log on top of it, where
-/// the log goes on, and the room that is left.
+/// the log continues, and the room that is left.
 #[derive(Drop)]
 pub(crate) struct FoundDisk {
     pub geometry: Geometry,
@@ -23,7 +23,7 @@ pub(crate) struct FoundDisk {
     pub recovers: bool,
 }
 
-/// What a mount has made ready: the world, where its log goes on, the room that is left, and what is kept for the next
+/// What a mount has made ready: the world, where its log continues, the room that is left, and what is kept for the next
 /// point.
 #[derive(Drop)]
 pub struct Recovered {

@@ -1,9 +1,9 @@
-//! A mount of any root: what a disk is an image of, over its root on the device, and where its log goes on.
+//! A mount of any root: what a disk is an image of, over its root on the device, and where its log continues.
 //!
 //! The model. `sn_held` says when contents are an image of a world (`IsImage`), and when a mounted file system over a root
 //! runs and is ready for a point (`RunsReady`). [`recover`] leads from the one to the other: it syncs, checks the whole disk
-//! (`sn_check`), finds its newest root (`sn_examine`), tries the log over it (`sn_check_log`), and drops the files that no
-//! name stands for. Where a record was replayed, a file dropped, or the root isn't of the version that is written, it makes a
+//! (`sn_check`), finds its newest root (`sn_examine`), tries the log over it (`sn_check_log`), and drops the files that have no
+//! name. Where a record was replayed, a file dropped, or the root isn't of the version that is written, it makes a
 //! root of that by a whole point (`sn_cp_whole`). What a root was read, replayed and charged by are the limits of its own
 //! version; the root that is made has the written ones. Last it clears the first place of the half of the log that the root's
 //! epoch has. No tree is read into memory: the world is one over the live tree of the root that counts (`sn_live_world`), and

@@ -32,7 +32,7 @@ use sn_model::MountFault;
 use sn_room::Room;
 use std::alloc::Global;
 
-/// Syncs, checks the whole disk, finds the newest root with the log on top of it, and drops the files that no name stands for.
+/// Syncs, checks the whole disk, finds the newest root with the log on top of it, and drops the files that have no name.
 /// Where a record was replayed, a file dropped, or the root isn't of the version that is written, a whole point makes a root
 /// of that, which is of that version. Last it clears the first place of the root's half of the log, where nothing is logged
 /// then. `NotFormatted`, `NoRoot`, `Version` and `Damaged` come in this order, each before anything is written, and as the

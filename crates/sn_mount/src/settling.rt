@@ -40,7 +40,7 @@ pub(crate) struct Settled {
     pub since: Overlay,
 }
 
-/// Drops the files that no name stands for. All memory that a mount still needs for its world is taken here.
+/// Drops the files that have no name. All memory that a mount still needs for its world is taken here.
 pub(crate) fn settle(alloc: Global, found: FoundDisk) -> Result<Settled, AllocError>
     requires point { HasNoPoint found.live }
     ensures over { IfOk result (λ s. (below : Tree) → IsLive found.live below → IsOver s.world below) }

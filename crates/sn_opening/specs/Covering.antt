@@ -22,7 +22,7 @@ abbrev pub CoversStandForTheLive : Type 0
 CoversStandForTheLive = (s : Store) (root : RootBody) (changes : List Change) (live : Tree) → MakesCover root.limits changes (image s root.inode_file) live
     → StandsFor s root changes (found live (frozen_of s root.snapshots))
 
--- A change that is made to the live tree can be made behind them, and they cover it then.
+-- A change that is made to the live tree can be made after them, and they cover it then.
 abbrev pub OneMoreCovers : Type 0
 OneMoreCovers = (limits : Limits) (changes : List Change) (change : Change) (from live after : Tree) → MakesCover limits changes from live → apply limits change live ≡ Some after
     → MakesCover limits (changes ++ change ∷ []) from after
@@ -31,6 +31,6 @@ OneMoreCovers = (limits : Limits) (changes : List Change) (change : Change) (fro
 abbrev pub DroppingKeepsTheCover : Type 0
 DroppingKeepsTheCover = (limits : Limits) (changes : List Change) (from live : Tree) (held : ℕ → Bool) → MakesCover limits changes from live → MakesCover limits changes from (without_nameless held live)
 
--- A mount that makes the changes goes on with the settled tree.
+-- A mount that makes the changes continues with the settled tree.
 abbrev pub ReplayCovers : Type 0
 ReplayCovers = (limits : Limits) (changes : List Change) (from tree : Tree) → apply_all limits changes from ≡ Some tree → MakesCover limits changes from (settled tree)

@@ -1,4 +1,4 @@
--- What the disk of a mount opens to in the course of events, where the ground that it stands on is a disk of so many blocks.
+-- What the disk of a mount opens to in the course of events, where its ground is a disk of so many blocks.
 use Rattle.std.specs.Prelude.{ℕ, List}
 use Rattle.sn_device.specs.Sectors.{Contents}
 use Rattle.sn_device.specs.Disk.{Disk}

@@ -35,7 +35,7 @@ abbrev pub SnapshotsAreTheirImages : Type 0
 SnapshotsAreTheirImages = (n : ℕ) (c : Contents) (world : World) (o : Opens n c world) (name : List ℕ)
     → map.get world.frozen name ≡ option_map (λ (x : Snapshot). image (store_of c) x.tree) (snapshot_named name o.root.snapshots)
 
--- The changes of the root's epoch are made first, and behind them those of the next one.
+-- The changes of the root's epoch are made first, and after them those of the next one.
 abbrev pub HalvesAreReplayedInTurn : Type 0
 HalvesAreReplayedInTurn = (s : Store) (root : RootBody) (older newer : List Change) (middle tree : Tree)
     → apply_all root.limits older (image s root.inode_file) ≡ Some middle → apply_all root.limits newer middle ≡ Some tree

@@ -39,7 +39,7 @@ NewerAppendOpensEither = (n : ℕ) (s : Store) (slot : Slot) (root : RootBody) (
     → LeavesOnly old new (IsReadyOrOneMore at newer change)
     → LeavesOnly old new (λ c. Opens n c world ⊎ Opens n c after)
 
--- Records of the root's epoch that an append can go on behind, whatever a crash leaves, are shown.
+-- Records of the root's epoch that an append can follow, whatever a crash leaves, are shown.
 abbrev pub OlderRecordsShow : Type 0
 OlderRecordsShow = (n : ℕ) (s : Store) (slot : Slot) (root : RootBody) (older newer changes : List Change) (at : LogPosition) (old new : Disk)
     → AreSectors (reads old) → at.blocks ≡ n → at.epoch ≡ root.epoch → LieInData n (all_reach s root)

@@ -21,7 +21,7 @@ pub record IsDisk (n : ℕ) (c : Contents) : Type 0 where
   pub whole : AreSectors c
   pub long : 8 * n ≤ length c
 
--- A mount finds this world: the changes of the newest root's epoch are made on its tree, and behind them those of the next one, under the limits of the root's version.
+-- A mount finds this world: the changes of the newest root's epoch are made on its tree, and after them those of the next one, under the limits of the root's version.
 pub record Opens (n : ℕ) (c : Contents) (world : World) : Type 0 where
   pub slot : Slot
   pub root : RootBody

@@ -28,7 +28,7 @@ use Rattle.sn_opening.specs.Worlds.{StandsFor, all_reach}
 use Rattle.sn_opening.specs.Opens.{InShows, LieInData, Opens, Shows}
 use Rattle.sn_opening.specs.Points.{Plan, Stage, Blocks, MapBlocks, Stored, Written, HasReached, IsBuilt, IsStored, StandsAt}
 
--- Blocks of a point, of its map copy, and whatever else lies apart from the root, its log and what it reaches, may come to hold anything: at each moment the disk shows the same.
+-- Blocks of a point, of its map copy, and whatever else is apart from the root, its log and what it reaches, may hold anything afterwards: at each moment the disk shows the same.
 abbrev pub BlocksKeepWhatIsShown : Type 0
 BlocksKeepWhatIsShown = (n : ℕ) (s : Store) (touched : List ℕ) (slot : Slot) (root : RootBody) (older newer : List Change) (old new : Disk) → AreSectors (reads old)
     → AreDisjoint (Contains touched) (InShows n s root) → Always old (Shows n s slot root older newer) → Touches (Contains touched) old new
@@ -39,7 +39,7 @@ abbrev pub EitherShown : ℕ → Slot → RootBody → List Change → List Chan
 EitherShown n slot root older newer next third fourth c =
     Shown n c slot root (payloads_of older) (payloads_of newer) ⊎ Shown n c (other_slot slot) next (payloads_of third) (payloads_of fourth)
 
--- The gate of the next root is written: where each root's blocks stand whatever a crash leaves, it opens to the world of the one or of the other. Where these are one world, the point changes nothing that can be seen.
+-- The gate of the next root is written: where each root's blocks are in place whatever a crash leaves, it opens to the world of the one or of the other. Where these are one world, the point changes nothing that can be seen.
 abbrev pub OpeningOpensEither : Type 0
 OpeningOpensEither = (n : ℕ) (s r : Store) (slot : Slot) (root next : RootBody) (older newer third fourth : List Change) (world after : World) (old new : Disk)
     → AreSectors (reads old)
@@ -78,18 +78,18 @@ MapBlockIsReached = (n k : ℕ) (slot : Slot) (plan : Plan) (old new : Disk) →
     → Touches (InBlock (start_of n (MapCopy slot) + k)) old new → block_at (reads new) (start_of n (MapCopy slot) + k) ≡ map_block_bytes (words_of_block k plan.words)
     → HasReached n old slot plan (MapBlocks k) → HasReached n new slot plan (MapBlocks (k + 1))
 
--- Behind the last of them a sync makes all of it stand whatever a crash leaves.
+-- After the last of them a sync makes all of it durable, whatever a crash leaves.
 abbrev pub SyncStores : Type 0
 SyncStores = (n : ℕ) (slot : Slot) (plan : Plan) (d : Disk) → IsSynced d → length plan.words ≡ n → AreNumbers 4 plan.words
     → HasReached n d slot plan (MapBlocks (map_blocks n)) → HasReached n d slot plan Stored
 
--- What stands once the next root's gate is open and synced: the store in which that root was made is what is read now.
+-- What is in place once the next root's gate is open and synced: the store in which that root was made is what is read now.
 pub record NextStands (n : ℕ) (slot : Slot) (limits : Limits) (next : RootBody) (newer : List Change) (frozen : Tree) (d : Disk) : Type 0 where
   pub shows : Always d (Shows n (store_of (reads d)) slot next newer [])
   pub tree : image (store_of (reads d)) next.inode_file ≡ frozen
   pub sound : IsSound limits n (store_of (reads d)) next.inode_file
 
--- The point is done: the next root stands, it denotes what was frozen, and the newer records are its own.
+-- The point is done: the next root is in place, it denotes what was frozen, and the newer records are its own.
 abbrev pub DoneStands : Type 0
 DoneStands = (n : ℕ) (s : Store) (slot : Slot) (root : RootBody) (newer : List Change) (trees : Trees) (plan : Plan) (d : Disk) → AreSectors (reads d) → IsSynced d
     → IsBuilt n s root trees plan → IsStored n d slot plan → Always d (λ c. SameIn (all_reach s root) s (store_of c))

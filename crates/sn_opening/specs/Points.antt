@@ -22,7 +22,7 @@ use Rattle.sn_image.specs.Image.{image}
 use Rattle.sn_image.specs.Sound.{IsSound}
 use Rattle.sn_opening.specs.Worlds.{all_reach, frozen_of}
 
--- a block and what is to stand in it
+-- a block and what is to be in it
 abbrev pub Written : Type 0
 Written = ℕ × List ℕ
 
@@ -35,7 +35,7 @@ pub record Plan : Type 0 where
   -- the next root
   pub next : RootBody
 
--- these blocks stand in their places
+-- these blocks are in their places
 abbrev pub HoldsAll : Store → List Written → Type 0
 HoldsAll s blocks = AllByRecursion (λ (b : Written). s b.0 ≡ b.1) blocks
 
@@ -56,7 +56,7 @@ pub record IsBuilt (n : ℕ) (s : Store) (root : RootBody) (trees : Trees) (plan
   -- it reaches nothing but new blocks and those of the old root
   pub reach : (r : Store) → SameIn (all_reach s root) s r → HoldsAll r plan.blocks → (block : ℕ) → Contains (all_reach r plan.next) block → Contains (all_reach s root) block ⊎ Contains (numbers_written plan.blocks) block
 
--- How far a point is. What stands unsynced may be torn; from the map's last block on nothing of it is.
+-- How far a point is. What is unsynced may be torn; from the map's last block on nothing of it is.
 pub data Stage : Type 0 where
   -- so many of the new blocks are written
   Blocks : ℕ → Stage
@@ -66,7 +66,7 @@ pub data Stage : Type 0 where
   Stored : Stage
   -- the slot's gate is closed, synced
   Shut : Stage
-  -- the next root stands behind it, synced
+  -- the next root's body is written, synced; the gate is still closed
   Bodied : Stage
 
 -- the map copy of a slot has its first blocks
@@ -78,7 +78,7 @@ pub record IsStored (n : ℕ) (d : Disk) (slot : Slot) (plan : Plan) : Type 0 wh
   pub blocks : Always d (λ c. HoldsAll (store_of c) plan.blocks)
   pub map : Always d (λ c. HasMap n c slot plan.words)
 
--- A point has come so far, in the slot that is to be replaced.
+-- A point is this far, in the slot that is to be replaced.
 abbrev pub HasReached : ℕ → Disk → Slot → Plan → Stage → Type 0
 HasReached n d slot plan (Blocks k) = HoldsAll (store_of (reads d)) (take k plan.blocks)
 HasReached n d slot plan (MapBlocks k) = (k ≤ map_blocks n) × HoldsAll (store_of (reads d)) plan.blocks × HasMapBlocks n (reads d) slot plan.words k

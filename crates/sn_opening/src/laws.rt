@@ -33,7 +33,7 @@ pub fn covering_laws()
 /// What a write to the log leaves of it.
 ///
 /// Proved: A call that is logged, between points or between two steps of one, leaves the world from before it or the one
-/// after it, at each moment; what an append can go on after is shown.
+/// after it, at each moment; what an append can follow is shown.
 /// Proved: While a mount clears the first place of its half, the disk shows the root alone.
 /// Proved: Two epochs on, replay finds nothing in a half without a later record.
 pub fn log_laws()

@@ -10,7 +10,7 @@
 //! - `Covering`: changes that make of the root's tree one that covers the live tree, which is what a mounted
 //!   file system keeps of its log.
 //! - `Opens`: contents open to a world where it is what their newest root stands for with the records of
-//!   its epoch and, behind them, those of the next one. `Shows` says the same of a root whose blocks are
+//!   its epoch and, after them, those of the next one. `Shows` says the same of a root whose blocks are
 //!   known from the moment when it was made: so who keeps a disk needn't read it to speak of it.
 //! - `Points`: what a consistency point writes, how far it is, and what it makes of a root.
 //! - `Moments`: what contents open to in the course of events. Which contents open to which world is a
@@ -25,7 +25,7 @@
 //!   one after it; and a half that is cleared leaves what is shown.
 //! - `point_laws`: what the steps of a point leave of what the disk opens to, and what calls between them
 //!   leave of the point.
-//! - `step_laws`: how each step leads to the next stage, and what stands once the last one is done.
+//! - `step_laws`: how each step leads to the next stage, and what is in place once the last one is done.
 //! - `run_laws`: over any list of events a crash leaves a state that the run was in.
 //!
 //! What the sources leave open is decided in `docs/DECISIONS.md`, under "What a disk opens to".

@@ -20,6 +20,6 @@ begins_none o = ([], (0, appends_none o))
 pub verdict_begins : (o : Option (List ℕ)) → BeginsToSayVerdict o o
 verdict_begins o = (Clean 0, (0, appends_none o))
 
--- what is so of an ending is so of one with a fault that is told
+-- what is so of an ending is so of one with a reported fault
 pub told_so : (r : Result Ending ProgramFault) (why : ProgramFault) (P : Ending → Type 0) → r ≡ Ok (Told why) → IfOk r P → P (Told why)
 told_so r why P is h = subst (λ (x : Result Ending ProgramFault). IfOk x P) is h

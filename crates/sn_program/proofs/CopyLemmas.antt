@@ -1,4 +1,4 @@
--- What a crash behind a run leaves of the disk that it ran on.
+-- What a crash after a run leaves of the disk that it ran on.
 use Rattle.std.proofs.Common.{ℕ, ◌≡◌, ◌⊎◌, inl, inr, ◌<◌, List, [], ◌∷◌, ◌++◌, length, Result, Ok, Err, refl, sym, subst, ◌∙◌, append_assoc, arith}
 use Rattle.std.proofs.lemmas.List.{append-nil, same_lists, get_or_default}
 use Rattle.std.specs.Prelude.{Contains, EachIndex, IfErr, None, OnOk}
@@ -29,7 +29,7 @@ use Rattle.sn_program.specs.Fault.{IsOfFile, fault_in, outcome_of}
 use Rattle.sn_program.specs.Tasks.{BeginsToSay, IsToldOf, LeavesOfCopy, Says}
 use Rattle.sn_program.specs.declared.fault.ProgramFault.{ProgramFault}
 
--- behind the last reply
+-- after the last reply
 at_last : (s : State) (events : List Event) (said replies : List Reply) (old new : Disk) → LeavesFrom s events said replies old new → Always new (ShowsCut s events (said ++ replies))
 at_last s events said [] old new h =
     subst (λ (r : List Reply). Always new (ShowsCut s events r)) (sym (append-nil said)) (LeavesOnly-now old new (ShowsCut s events said) h)
@@ -46,7 +46,7 @@ untouched : (P : Contents → Type 0) (old new : Disk) → AreSectors (reads old
 untouched P old new whole synced here touches =
     LeavesOnly-now old new P (LeavesOnly-torn Nowhere P P (λ c d whole_c whole_d agrees h. subst P (agrees_same c d agrees) h) old new whole (Always-synced old P synced here) touches)
 
--- an image of a world that the run leaves, cut short behind its last reply
+-- an image of a world that the run leaves, cut short after its last reply
 pub kept : (copy last : Disk) (world : World) (events : List Event) (replies : List Reply) (end : End) (left : Contents) → AreSectors (reads copy) → IsSynced copy → IsImage (reads copy) world
     → IsRunOf world events replies end copy last → CrashNow last left → ShowsCut (Running world) events replies left
 kept copy last world events replies end left whole synced image run crash = of run.crash

@@ -33,7 +33,7 @@ short_all (Some all) script h short = h ∙ take_all 16777217 all (omega (arith,
 pub found_all : (known : Option (List ℕ)) (script : List ℕ) (events : List Event) → IsRead known script → IsScript events script → length script ≤ 16777216 → AreEventsOf known events
 found_all known script events read is short = (script, short_all known script read short, is, short)
 
--- what is told of the bytes that were read holds of all that the reader had
+-- what is said of the bytes that were read holds of all that the reader had
 pub long_all : (known : Option (List ℕ)) (script : List ℕ) (Told : Type 0) → IsRead known script → (Told → 16777216 < length script) → IfSome known (λ all. Told → 16777216 < length all)
 long_all None script Told read long = tt
 long_all (Some all) script Told read long = λ e. omega (arith, long e, ap length read, length-take {A = ℕ} 16777217 all)
@@ -43,7 +43,7 @@ pub bad_all : (known : Option (List ℕ)) (script : List ℕ) (Told : ℕ → Ty
 bad_all None script Told read bad = tt
 bad_all (Some all) script Told read bad = λ n e. subst (λ (s : List ℕ). IsFirstBad s (n + 1)) (short_all (Some all) script read (bad n e).1) (bad n e).0
 
--- the fault of a script, as the program tells it
+-- the fault of a script, as the program reports it
 pub told_of_script : {T : Type 0} (r : Result T ProgramFault) (why : ScriptFault) → IsErrAnd r (λ given. given ≡ fault.Script why) → IfErr r (λ given. IsUnread given ⊎ IsOfScript given)
 told_of_script (Ok x) why is = absurd is
 told_of_script (Err given) (reading.Line n) is = inr (n, is)
@@ -53,7 +53,7 @@ pub told_of_file : {T : Type 0} (r : Result T ProgramFault) (given : ProgramFaul
 told_of_file (Ok x) given is file = absurd is
 told_of_file (Err why) given is file = inl (inl (subst IsOfFile (sym is) file))
 
--- which fault of a script was told
+-- which fault of a script was reported
 pub script_told : {T : Type 0} (r : Result T ProgramFault) (why of : ScriptFault) → IsErrAnd r (λ given. given ≡ fault.Script why) → IsErrOf r (fault.Script of) → why ≡ of
 script_told {T} (Ok x) why of is told = absurd is
 script_told {T} (Err given) why of is told = same given why of is told
@@ -67,7 +67,7 @@ same_fault a b e = cc
 no_line : (n : ℕ) → reading.Line 0 ≡ reading.Line (n + 1) → ⊥
 no_line n e = let number : 0 ≡ n + 1 = cc in omega (arith, number)
 
--- a script whose bad line is told isn't too long
+-- a script whose bad line is reported isn't too long
 pub not_long : {T : Type 0} (r : Result T ScriptFault) (n size : ℕ) → (16777216 < size → IsErrOf r (reading.Line 0)) → IsErrOf r (reading.Line (n + 1)) → size ≤ 16777216
 not_long {T} r n size long bad = told (nat_le size 16777216) refl
   where

@@ -14,7 +14,7 @@ use Rattle.sn_held.specs.Images.{IsImage}
 use Rattle.sn_run.specs.Runs.{ShowsCut}
 use Rattle.sn_program.specs.Answers.{IsRun}
 
--- Events were run on a device whose disk and counts were these, and then came a crash that left these contents, filling in this way each sector that wasn't synced. Where all of the disk was synced and an image of a world, what is left is one of a world that the machine's run leaves which is cut short behind these replies.
+-- Events were run on a device whose disk and counts were these, and then came a crash that left these contents, filling in this way each sector that wasn't synced. Where all of the disk was synced and an image of a world, what is left is one of a world that the machine's run leaves which is cut short after these replies.
 pub record IsCutShort (copy : Disk) (status : Status) (how : Fill) (end : End) (events : List Event) (replies : List Reply) (left : Contents) : Type 0 where
   pub last : Disk
   pub last_status : Status

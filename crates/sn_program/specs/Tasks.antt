@@ -57,12 +57,12 @@ pub record IsOfCopy (how : Fill) (end : End) (replies : List Reply) : Type 0 whe
   pub left : Contents
   pub cut : IsCutShort (first copy) (uncalled (length copy)) how end events replies left
 
--- the fault that is told of a run that ended so, whose replies were written or not
+-- the fault that is reported of a run that ended so, whose replies were written or not
 abbrev pub IsToldOf : End → Option ProgramFault → Type 0 → Type 0
 IsToldOf end None written = (end ≡ ending.Clean) × written
 IsToldOf end (Some why) written = (fault_of end ≡ Err why) ⊎ ((end ≡ ending.Clean) × IsOfFile why)
 
--- the replies of such a run were written, all of them where no fault is told
+-- the replies of such a run were written, all of them where no fault is reported
 pub record LeavesOfCopy (how : Fill) (told : Option ProgramFault) (old new : Option (List ℕ)) : Type 0 where
   pub end : End
   pub replies : List Reply
@@ -93,14 +93,14 @@ SaysVerdict Done old new = (free : ℕ) × Appends old new (verdict_line (verdic
 SaysVerdict (Told why) old new = ⊥
 SaysVerdict (Damaged damage block) old new = Appends old new (verdict_line (verdict.Fault damage block))
 
--- What a task that was done leaves on the output, by what came of it. Of which bytes a file had, and so of the replies of a run on one and of what a check finds in one, nothing can be said; an image that is made is answered by `ok`. A fault is told of what was done only where that was to cut a run short.
+-- What a task that was done leaves on the output, by what came of it. Of which bytes a file had, and so of the replies of a run on one and of what a check finds in one, nothing can be said; an image that is made is answered by `ok`. A fault is reported of what was done only where that was to cut a run short.
 abbrev pub Leaves : Task → Ending → Option (List ℕ) → Option (List ℕ) → Type 0
 Leaves (task.Run image script) came old new = (came ≡ Done) × SaysRun old new
 Leaves (task.Mkfs image blocks) came old new = (came ≡ Done) × Says (answer.Done ∷ []) old new
 Leaves (task.StopAt cut how image script out) came old new = ComesOfCopy how came old new
 Leaves (task.Check image) came old new = SaysVerdict came old new
 
--- with a fault that is told, or without one
+-- with a reported fault, or without one
 abbrev pub came_of : Option ProgramFault → Ending
 came_of None = Done
 came_of (Some why) = Told why

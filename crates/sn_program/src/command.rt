@@ -166,7 +166,7 @@ fn unsaved(end: End, error: io::Error) -> ProgramFault
     }
 }
 
-/// The fault that is told of a run whose remains were saved.
+/// The fault that is reported of a run whose remains were saved.
 fn told_of(end: End, written: Result<(), ProgramFault>) -> Option<ProgramFault>
     ensures { result ≡ fault_in (outcome_of end written) }
 {
@@ -177,7 +177,7 @@ fn told_of(end: End, written: Result<(), ProgramFault>) -> Option<ProgramFault>
 }
 
 /// Runs the script at a path on a copy of the image at another, up to so many writes and a crash, and saves what is left
-/// at a third path, which can't be the image. The fault of a run that was saved is given back to be told.
+/// at a third path, which can't be the image. The fault of a run that was saved is given back to be reported.
 fn cut_short<
     F: FileExt + OpenFile + LockFile + Read + Drop,
     R: Files<File = F> + AllocGlobal,
@@ -240,7 +240,7 @@ fn check_image<
     }
 }
 
-/// Of what was done nothing is told.
+/// Of what was done nothing is reported.
 fn quietly(done: Result<(), ProgramFault>) -> Result<Ending, ProgramFault>
     ensures done { IfOk result (λ came. (came ≡ ended.Done) × IsOk done) }
     ensures failed { IfErr result (λ why. done ≡ Err why) }
@@ -294,7 +294,7 @@ fn tell_of<E: Write, P: Write>(
     status
 }
 
-/// Does what a task asks for, and tells what came of it.
+/// Does what a task asks for, and says what came of it.
 fn perform<
     F: FileExt + OpenFile + LockFile + Read + Drop,
     R: Files<File = F> + AllocGlobal + Clock,
@@ -337,8 +337,8 @@ pub fn refuse<E: Write, P: Write>(fault: ProgramFault, err: &mut E, person: &mut
 }
 
 /// Does what the words ask for, and gives the exit status: 0 where it was done, 3 where an image was checked and is damaged,
-/// 2 for words that are no command, else 1. A fault is told by a line on standard error, also that of a run which was cut
-/// short and whose remains were saved, where the status is 0. `person` is told which file failed and why, what a damage
+/// 2 for words that are no command, else 1. A fault is reported by a line on standard error, also that of a run which was cut
+/// short and whose remains were saved, where the status is 0. `person` is shown which file failed and why, what a damage
 /// means, how far a long run has come, and which commands there are where the words are none.
 ///
 /// Proved: Status 0 comes only where the words ask for a task and it is done: `mkfs` writes one `ok`, `check` a `clean`,

@@ -40,8 +40,8 @@ pub fn answer_cut<W: Write, L: Watch>(
     out: &mut W,
     watch: &mut L,
 ) -> CutShort
-    // The run is one on this copy, and what is left is what the crash leaves of it. That it is cut behind so many writes
-    // no clause says: a run tells of its device only what every device tells.
+    // The run is one on this copy, and what is left is what the crash leaves of it. That it is cut after so many writes
+    // no clause says: a run says of its device only what is said of every device.
     ensures run { IsCutShort (disk_of copy) (status_of copy) fill result.end events.now result.replies.items (contents_of result.left) }
 
     // Nothing but the lines of its replies is written: all of them, or where that fails, the front.

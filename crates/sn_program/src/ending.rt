@@ -8,7 +8,7 @@ use sn_model::Damage;
 pub enum Ending {
     /// All that was asked for.
     Done,
-    /// A run was cut short, and ended with a fault, which is told.
+    /// A run was cut short, and ended with a fault, which is reported.
     Told(ProgramFault),
     /// A check found that the image is damaged.
     Damaged { damage: Damage, block: u32 },

@@ -23,7 +23,7 @@ pub enum Which {
 }
 
 /// Why the program ends without having done all that was asked. The text is the line on standard
-/// error, behind `snapfs: `.
+/// error, after `snapfs: `.
 #[derive(Clone, Copy, Debug, Error)]
 pub enum ProgramFault {
     #[error("usage")]
@@ -47,7 +47,7 @@ pub enum ProgramFault {
 }
 
 impl ProgramFault {
-    /// What an error of a file comes to: want of memory is one of the program.
+    /// The fault of the program for an error of a file: want of memory is one of its own.
     pub fn of_file(which: Which, error: io::Error) -> ProgramFault
         ensures { IsOfFile result }
     {
@@ -67,7 +67,7 @@ impl ProgramFault {
         }
     }
 
-    /// What an end of a run other than a clean one comes to.
+    /// The fault of the program for an end of a run other than a clean one.
     pub fn of_end(end: End) -> Result<(), ProgramFault>
         ensures { result ≡ fault_of end }
     {

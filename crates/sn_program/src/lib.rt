@@ -7,7 +7,7 @@
 //! bytes. The device over an image's file doesn't, so that of a run on one [`program`] says only that lines of replies were
 //! written. A run that is cut short runs on a copy in memory, by [`answer_cut`], and its clauses speak of that copy and of what a
 //! crash leaves of it (`specs/Copies`). An image is made by `sn_mkfs`, and checked by `sn_check`: [`check_on`] says
-//! what that comes to over every device that tells its bytes. How much of an image a check has read is seen by `watched`, a
+//! what the result is over every device that tells its bytes. How much of an image a check has read is seen by `watched`, a
 //! device around another. Each fault is a [`ProgramFault`], whose text is the line on
 //! standard error and whose status the shell sees. `specs/Tasks` says what is left of what the words ask for.
 //!

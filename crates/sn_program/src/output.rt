@@ -70,7 +70,7 @@ fn print_verdict(alloc: Global, verdict: Verdict) -> Result<Vec<u8>, AllocError>
     ensures { IfOk result (λ text. text.items ≡ verdict_line verdict) }
 {
     let mut text = Vec::new(alloc);
-    // Nothing but memory can be wanting where text is put behind a list of bytes.
+    // Nothing but memory can be wanting where text is appended to a list of bytes.
     if writeln!(text, "{verdict}").is_err() {
         return Err(AllocError);
     }

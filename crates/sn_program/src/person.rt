@@ -1,4 +1,4 @@
-//! What is told to a person alone, and not to programs that read what snapfs writes.
+//! What is shown to a person alone, and not to programs that read what snapfs writes.
 
 use crate::fault::{ProgramFault, Which};
 use sn_command::Task;
@@ -84,7 +84,7 @@ pub(crate) fn advise<P: Write>(damage: Damage, block: u32, task: Task<'_>, perso
     );
 }
 
-/// The commands, a line each, and where more is told.
+/// The commands, a line each, and where more is said.
 const COMMANDS: [&str; 5] = [
     "snapfs mkfs IMAGE BLOCKS: formats IMAGE with 256 to 1048576 blocks of 4096 bytes, over what it has",
     "snapfs run IMAGE SCRIPT: mounts IMAGE and makes the calls of SCRIPT, with a reply for each line",

@@ -5,14 +5,14 @@ use sn_run::Watch;
 use std::io::Write;
 use std::time::{Clock, Instant};
 
-/// Tells once a second how far it is, in one line that each time stands in the place of the one before: how many lines of
-/// a script have been answered, or how much of an image has been read. What takes less than a second tells nothing, and
+/// Shows once a second how far it is, in one line that each time takes the place of the one before: how many lines of
+/// a script have been answered, or how much of an image has been read. What takes less than a second shows nothing, and
 /// neither does anything where the clock fails.
 #[derive(Drop)]
 pub(crate) struct Progress<'a, C: Clock, P: Write> {
     clock: &'a C,
     begun: Option<Instant>,
-    /// The second that was told last.
+    /// The second that was shown last.
     told: u64,
     person: &'a mut P,
 }
@@ -27,12 +27,12 @@ impl<'a, C: Clock, P: Write> Progress<'a, C, P> {
         }
     }
 
-    /// The seconds since the beginning, where the clock tells them.
+    /// The seconds since the beginning, where the clock gives them.
     fn seconds(&self) -> Option<u64> {
         Some(self.begun?.elapsed(self.clock).ok()?.as_secs())
     }
 
-    /// Whether a second has begun of which nothing was told.
+    /// Whether a second has begun of which nothing was shown.
     fn is_due(&mut self) -> bool {
         match self.seconds() {
             Some(seconds) if seconds > self.told => {

@@ -50,7 +50,7 @@ pub fn answer<D: Device, W: Write, L: Watch>(
     Answered { ran, written }
 }
 
-/// What a run comes to: its own fault goes before one of writing.
+/// The result of a run: its own fault goes before one of writing.
 ///
 /// Proved: A run's own fault goes before one of writing.
 pub fn outcome(end: End, written: Result<(), ProgramFault>) -> Result<(), ProgramFault>

@@ -8,7 +8,7 @@ pub(crate) trait WatchReads {
     fn has_read(&mut self, sectors: u64);
 }
 
-/// A device whose reads are counted, for somebody who is told from time to time how many there were.
+/// A device whose reads are counted, for somebody who learns from time to time how many there were.
 #[derive(Drop)]
 pub(crate) struct WatchedDevice<'w, D: Device + Drop, L: WatchReads> {
     device: D,
@@ -22,7 +22,7 @@ const TOLD_EACH: u64 = 256;
 impl<'w, D: Device + Drop, L: WatchReads> WatchedDevice<'w, D, L> {
     ghost use Rattle.std.specs.Prelude.{◌≡◌};
 
-    /// Of what is read from here on somebody is told.
+    /// What is read from here on is reported to somebody.
     pub(crate) fn new(device: D, watch: &'w mut L) -> Self
         ensures { result.device ≡ device }
     {

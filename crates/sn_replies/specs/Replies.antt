@@ -24,7 +24,7 @@ bit set value = if set then value else 0
 abbrev pub status_mode : FileStatus → ℕ
 status_mode s = bit s.set_gid 1024 + bit s.sticky 512 + mode_bits s.mode
 
--- the number of the object isn't told
+-- the number of the object isn't shown
 abbrev pub status_line : FileStatus → List ℕ
 status_line s = codes "ok " ++ kind_name s.kind ++ codes " " ++ octal (status_mode s) ++ codes " " ++ decimal s.links
     ++ codes " " ++ decimal s.owner ++ codes " " ++ decimal s.group ++ codes " " ++ decimal s.size ++ codes "\n"

@@ -126,7 +126,7 @@ pub fn print_replies(alloc: Global, replies: &[Reply]) -> Result<Vec<u8>, AllocE
 {
     let mut text = Vec::new(alloc);
     for reply in replies {
-        // Nothing but memory can be wanting where text is put behind a list of bytes.
+        // Nothing but memory can be wanting where text is appended to a list of bytes.
         if push_reply(alloc, &mut text, reply).is_err() {
             return Err(AllocError);
         }

@@ -26,14 +26,14 @@ use Rattle.sn_walk.specs.declared.object.Home.TheVariants.{Live, Frozen}
 
 -- ---- one tree
 
--- A root is sound on a disk whose blocks lie on a device of this many sectors, and its version is known.
+-- A root is sound on a disk whose blocks are on a device of this many sectors, and its version is known.
 pub record IsSoundRoot (limits : Limits) (sectors : ℕ) (s : Store) (file : BlockTree) : Type 0 where
   pub version : limits_of limits.version ≡ Some limits
   pub blocks : ℕ
   pub fits : 8 * blocks ≤ sectors
   pub sound : IsSound limits blocks s file
 
--- The blocks of a content lie on a device of this many sectors, and hold as many bytes as its size says.
+-- The blocks of a content are on a device of this many sectors, and hold as many bytes as its size says.
 pub record IsWhole (sectors : ℕ) (s : Store) (content : Content) : Type 0 where
   pub inside : (offset n : ℕ) → IsOutside sectors s content offset n → ⊥
   pub blocks : (block : ℕ) → Contains (content_reach s content) block → length (s block) ≡ 4096

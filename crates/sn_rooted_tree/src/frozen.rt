@@ -62,7 +62,7 @@ impl<'a, D: Device> HasSnapshots for RootedTree<'a, D> {
 
     ghost frozen = { λ v. (trees_at (store_on v.blocks.now) v.root.now).frozen };
 
-    // where bytes are told, each snapshot is sound
+    // where the device tells its bytes, each snapshot is sound
     ghost holds_frozen = { λ v. IsTrue D.tells_bytes → AreSoundFrozen (D.status (device_of v.blocks.now)).sectors (store_on v.blocks.now) v.root.now };
 
     fn has_snapshot(&self, name: &SnapshotName) -> bool {

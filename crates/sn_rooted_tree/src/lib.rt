@@ -1,4 +1,4 @@
-//! The live tree of a root on a device, as what lies below an overlay, with the frozen trees of its snapshots beside it;
+//! The live tree of a root on a device, as what is below an overlay, with the frozen trees of its snapshots beside it;
 //! the tables of the live tree's directories and of its numbers, and which of its files have no name.
 //!
 //! The model is that of `sn_rooted`: the trees that the root denotes. Over a device that tells its bytes, and where

@@ -40,7 +40,7 @@ fn kept_name(alloc: Global, directory: u16, name: &[u8]) -> Result<Link, TreeFau
 /// The live tree of a root on a device, with the frozen ones of its snapshots beside it. Nothing is kept of them, and
 /// each look-up reads what it needs. Once one has failed, each later one fails so, and reads nothing.
 ///
-/// Proved: The tree of a sound root is what lies below an overlay: each node with its owner and both ACLs, each name, each
+/// Proved: The tree of a sound root is what is below an overlay: each node with its owner and both ACLs, each name, each
 /// block of a file, as the root denotes them, read when it is asked for.
 /// Proved: The names of a directory, each with its number, in the order of their bytes, are as the root denotes them.
 /// Proved: A look-up fails only where the device failed or ended, memory was refused, or the device doesn't tell its bytes;
@@ -69,7 +69,7 @@ impl<'a, D: Device> Below for RootedTree<'a, D> {
 
     ghost shows = { λ v. tree_on v.blocks.now v.root.now.inode_file };
 
-    // where bytes are told, the root is sound
+    // where the device tells its bytes, the root is sound
     ghost holds = { λ v. IsTrue D.tells_bytes → IsSoundOn v.blocks.now v.root.now.limits v.root.now.inode_file };
 
     // nothing is written, and nothing is counted but the failure that is kept

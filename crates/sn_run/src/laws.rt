@@ -22,7 +22,7 @@ pub fn no_failure_is_invented()
 /// Where the device counted no failure in a run, each event that encountered one found the device at its
 /// end. So did a first mount that failed for it, and a run that stopped, unless a restart lacked memory.
 ///
-/// Proved: Where the device's count of failures is unchanged over a run, each failure that an event met was the device's
+/// Proved: Where the device's count of failures is unchanged over a run, each failure that an event encountered was the device's
 /// end; so was M6 of the first mount, and a run stopped for that, for memory at a restart, or because no root can follow for
 /// the last unmount.
 pub fn only_its_end_fails()

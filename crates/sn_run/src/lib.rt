@@ -12,7 +12,7 @@
 //!   is an image of. A crash during an event leaves what the machine's run leaves that is cut short in that event or after
 //!   it, and after the last event all that was answered (`LeavesItsRun`). A disk without a root is reported by its fault.
 //!   Over any device each event has its reply, unless there was no mount; and a [`Watch`]
-//!   is told how far the run has come.
+//!   learns how far the run has come.
 //! - [`no_failure_is_invented`]: where the device didn't fail, no event was refused for a failure.
 //! - [`only_its_end_fails`]: where the device's count of failures stayed, each failure was the device's end: a
 //!   device whose type keeps that count at 0 fails in no other way.

@@ -71,7 +71,7 @@ fn answer_all<D: Device, W: Watch>(
 /// Where there is no mount the end has its cause, and no event is answered. It is `Stopped` where a
 /// failure of the device has stopped the mount, or a restart found none, and else what the last unmount makes
 /// it, which is a whole consistency point: `Clean`, `Memory`, or `Stopped` where the device fails or no root
-/// can follow. After each event `watch` is told how many were answered.
+/// can follow. After each event `watch` learns how many were answered.
 ///
 /// Proved: For every list of events, restarts among them, the replies and the end are a whole run of the machine from the
 /// world that the disk is an image of, whose frozen trees are those of the newest root's snapshots.

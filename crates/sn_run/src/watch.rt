@@ -1,6 +1,6 @@
 //! Who watches a run in progress.
 
-/// Is told how far a run has come. What it does with that changes nothing of the run.
+/// Learns how far a run has come. What it does with that changes nothing of the run.
 pub trait Watch {
     /// Of so many events so many have been answered.
     fn answered(&mut self, done: usize, all: usize);

@@ -29,7 +29,7 @@ use Rattle.sn_words.proofs.FieldLaws.{want_graphic, kind_graphic}
 use Rattle.sn_words.proofs.FlagLaws.{flags_graphic, content_graphic}
 use Rattle.sn_script.proofs.CallLaws.{call_takes, call_again}
 
--- steps and restarts stand alone
+-- steps and restarts are alone on their lines
 lone_takes : (name : List ℕ) (e : Event) → lone_event_of name ≡ Some e → (name ∷ [] ≡ words_of e) × IsEvent e
 unfolding lone_event_of
 lone_takes name e read = step (bytes_eq name (codes "step")) refl read

@@ -9,7 +9,7 @@ pub record IsScript (events : List Event) (text : List ℕ) : Type 0 where
   pub each : AllByRecursion IsEvent events
   pub spelled : text ≡ flat_map line_of events
 
--- no event's line stands at the front of the text
+-- no event's line is at the front of the text
 abbrev pub BeginsBadly : List ℕ → Type 0
 BeginsBadly text = (e : Event) (more : List ℕ) → IsEvent e → text ≡ line_of e ++ more → ⊥
 

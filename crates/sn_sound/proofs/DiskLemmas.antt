@@ -1,4 +1,4 @@
--- What stands makes a disk unsound, and a sound one opens to a world.
+-- A fault makes a disk unsound, and a sound one opens to a world.
 use Rattle.std.proofs.Common.{◌≡◌, inl, inr, ℕ, ◌+◌, List, ◌∷◌, ◌++◌, Option, Some, None, refl, sym, ap, subst, ◌∙◌, arith}
 use Rattle.sn_device.specs.Sectors.{Contents}
 use Rattle.sn_limits.specs.declared.limits.Limits.{Limits}

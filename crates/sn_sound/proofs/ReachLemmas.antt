@@ -45,7 +45,7 @@ module _ (s r : Store) (tree : BlockTree) (same : SameIn (tree_reach s tree) s r
   alike : ReadsAlike s r tree
   alike = trees_depend s r tree same
 
-  -- what stands behind the pointers of the levels that its size has
+  -- what is at the pointers of the levels that its size has
   agree : (depth : ℕ) → depth ≤ levels_of tree.size → Agree s r (all_pointers s depth tree.pointers)
   unfolding tree_reach
   agree depth within p among some =

@@ -1,4 +1,4 @@
--- What stands isn't sound.
+-- What has a fault isn't sound.
 use Rattle.std.proofs.Common.{◌≡◌, inl, inr, ℕ, ◌/◌, true, Option, Some, None, Contains, sym, subst, arith}
 use Rattle.std.specs.Prelude.{is_some}
 use Rattle.sn_limits.specs.declared.kind.Kind.{Kind}

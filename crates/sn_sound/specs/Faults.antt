@@ -1,4 +1,4 @@
--- The faults of one root, each with the block that it is told of. Whether one stands is said of any blocks at all, so that a fault that is told can be seen by itself.
+-- The faults of one root, each with the block that it is reported at. Whether there is one is said of any blocks at all, so that a fault that is reported can be seen by itself.
 use Rattle.std.specs.Prelude.{◌≡◌, ◌≢◌, ◌⊎◌, ℕ, zero, suc, ◌+◌, ◌*◌, ◌/◌, ◌<◌, ◌≤◌, ◌==◌, if◌then◌else◌, List, length, Some, None, IsSomeAnd, count_by, slice_index, Contains, codes}
 use Rattle.std.specs.Str.{bytes_eq}
 use Rattle.sn_limits.specs.declared.kind.Kind.{Kind}
@@ -40,10 +40,10 @@ holder_of s tree top (suc depth) i = entry s depth tree.pointers (i / 1024)
 
 -- A rule of a tree is broken. `top` is the block of its sixteen pointers.
 pub data IsTreeFault (s : Store) (tree : BlockTree) (top : ℕ) : ℕ → Type 0 where
-  -- a pointer stands wholly past the size
+  -- a pointer is wholly past the size
   pointer : (depth i : ℕ) → depth ≤ levels_of tree.size → tree.size ≤ i * span_at tree.size depth → entry s depth tree.pointers i ≢ 0
       → IsTreeFault s tree top (holder_of s tree top depth i)
-  -- a byte other than 0 stands past it
+  -- a byte other than 0 is past it
   byte : (i k : ℕ) → k < 4096 → tree.size ≤ 4096 * i + k → slice_index (data_block s tree i) k ≢ 0
       → IsTreeFault s tree top (entry s (levels_of tree.size) tree.pointers i)
 
@@ -55,7 +55,7 @@ record_block s inodes body number =
     let pointer = entry s (levels_of inodes.size) inodes.pointers (number / 32) in
     if pointer == 0 then body else pointer
 
--- A directory breaks a rule. Those of the whole directory are told of its record's block.
+-- A directory breaks a rule. Faults of the whole directory are reported at its record's block.
 pub data IsDirectoryFault (limits : Limits) (s : Store) (tree : BlockTree) (names : List Link) (top : ℕ) : ℕ → Type 0 where
   hole : (i : ℕ) → 4096 * i < tree.size → entry s (levels_of tree.size) tree.pointers i ≡ 0 → IsDirectoryFault limits s tree names top top
   misspelt : (i : ℕ) → 4096 * i < tree.size → (IsDirectoryBlock (data_block s tree i) → ⊥) → IsDirectoryFault limits s tree names top (entry s (levels_of tree.size) tree.pointers i)

@@ -34,23 +34,23 @@ use Rattle.sn_sound.specs.Verdicts.{HasNoVerdict, IsClean, IsFaulty, Stands}
 
 -- ---- soundness and faults
 
--- no fault of the first, second and fourth group stands at the block, for a root whose body is in `body`
+-- no fault of the first, second and fourth group is at the block, for a root whose body is in `body`
 pub record HasNoFaultAt (limits : Limits) (n : ℕ) (s : Store) (inodes : BlockTree) (body block : ℕ) : Type 0 where
   pub pointer : LeadsOut n s inodes block → ⊥
   pub twice : IsReachedTwice s inodes block → ⊥
   pub spelling : IsMisspelt limits s inodes body block → ⊥
   pub links : IsLinkFault s inodes body block → ⊥
 
--- What stands of one root makes it unsound.
+-- A fault of one root makes it unsound.
 abbrev pub SoundRootsHaveNoFault : Type 0
 SoundRootsHaveNoFault = (limits : Limits) (n : ℕ) (s : Store) (inodes : BlockTree) (body block : ℕ) → IsSound limits n s inodes → HasNoFaultAt limits n s inodes body block
 
--- What stands makes the disk unsound. So a check that tells only what stands, and is clean only where the disk is sound, is exact.
+-- A fault makes the disk unsound. So a check that reports only faults that are there, and is clean only where the disk is sound, is exact.
 abbrev pub SoundDisksHaveNoFault : Type 0
 SoundDisksHaveNoFault = (sectors : ℕ) (c : Contents) (n : ℕ) (slot : Slot) (root : RootBody) (damage : Damage) (block : ℕ) → IsOfDevice sectors c
     → IsSoundDisk sectors c n slot root → Stands n c slot root damage block → ⊥
 
--- A disk isn't both clean and faulty, whatever is told of it.
+-- A disk isn't both clean and faulty, whatever is reported of it.
 abbrev pub CleanIsNotFaulty : Type 0
 CleanIsNotFaulty = (sectors : ℕ) (c : Contents) (free : ℕ) (damage : Damage) (block : ℕ) → IsOfDevice sectors c → IsClean sectors c free → IsFaulty sectors c damage block → ⊥
 
@@ -83,7 +83,7 @@ ImagesHoldOneWorld = (world other : World) (sectors : ℕ) (c : Contents) → Is
 
 -- ---- the root that is mounted
 
--- What a sound root reaches, its snapshots too, lies in the data area.
+-- What a sound root reaches, its snapshots too, is in the data area.
 abbrev pub SoundRootsLieInData : Type 0
 SoundRootsLieInData = (n : ℕ) (s : Store) (root : RootBody) (word : ℕ → ℕ) → IsSoundRoot n s root word → LieInData n (all_reach s root)
 
@@ -91,12 +91,12 @@ SoundRootsLieInData = (n : ℕ) (s : Store) (root : RootBody) (word : ℕ → �
 abbrev pub SoundnessIsOfTheReach : Type 0
 SoundnessIsOfTheReach = (limits : Limits) (n : ℕ) (s r : Store) (inodes : BlockTree) → SameIn (reach s inodes) s r → IsSound limits n s inodes → IsSound limits n r inodes
 
--- Where a root stands, it is sound in whatever a crash leaves.
+-- Where a root is in place, it is sound in whatever a crash leaves.
 abbrev pub StandingRootsAreSound : Type 0
 StandingRootsAreSound = (n : ℕ) (d : Disk) (s : Store) (slot : Slot) (root : RootBody) (words : List ℕ) (older newer : List Change)
     → RootStands n d s slot root words older newer → Always d (λ c. IsSoundRoot n (store_of c) root (map_word n c slot))
 
--- And where the log on top of it stands too, whatever a crash leaves is a sound disk with that root.
+-- And where the log on top of it is in place too, whatever a crash leaves is a sound disk with that root.
 abbrev pub StandingDisksAreSound : Type 0
 StandingDisksAreSound = (sectors n : ℕ) (d : Disk) (s : Store) (slot : Slot) (root : RootBody) (words : List ℕ) (older newer : List Change)
     → Always d (λ c. IsFormatted sectors c n) → RootStands n d s slot root words older newer → LogStands n d s root older newer

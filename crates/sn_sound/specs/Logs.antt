@@ -34,7 +34,7 @@ pub record HasAgeLeft (root : RootBody) : Type 0 where
   pub generation : root.generation + 1 ≤ 2 ^ 62
   pub epoch : root.epoch + 2 ≤ 2 ^ 62
 
--- The log is sound on top of the root: replay finds changes of its epoch and then of the next, they can be made in their order, at the first place of neither half stands a record of a later epoch, what was charged fits in the free blocks, and a recovery has an age left.
+-- The log is sound on top of the root: replay finds changes of its epoch and then of the next, they can be made in their order, at the first place of neither half is a record of a later epoch, what was charged fits in the free blocks, and a recovery has an age left.
 pub record HasSoundLog (n : ℕ) (c : Contents) (root : RootBody) (free : ℕ) : Type 0 where
   pub older : List Change
   pub newer : List Change
@@ -48,7 +48,7 @@ pub record HasSoundLog (n : ℕ) (c : Contents) (root : RootBody) (free : ℕ) :
 
 -- ---- its faults
 
--- At the position stands a record of the epoch that is no change's or has another number than it is to have, or one of a change that can't be made of this tree.
+-- At the position is a record of the epoch that is no change's or has another number than it is to have, or one of a change that can't be made of this tree.
 abbrev pub IsBad : Contents → Limits → Tree → LogPosition → ℕ → Type 0
 IsBad c limits tree at block = Finds c at (found.Misspelt block) ⊎ ((change : Change) × Finds c at (found.Change change) × (apply limits change tree ≡ None) × (block ≡ (base_at at + at.place) / 8))
 
@@ -68,7 +68,7 @@ pub record BreaksAt (c : Contents) (limits : Limits) (from : Tree) (n epoch bloc
 abbrev pub half_block : ℕ → ℕ → ℕ
 half_block n epoch = start_of n (Log (half_of_epoch epoch))
 
--- The log has a fault at this block. Whether what is recorded fits and can be recovered is told of the half of the root's epoch.
+-- The log has a fault at this block. That what is recorded doesn't fit or can't be recovered is reported at the half of the root's epoch.
 pub data IsLogFault (n : ℕ) (c : Contents) (root : RootBody) (free : ℕ) : ℕ → Type 0 where
   older : (block : ℕ) → BreaksAt c root.limits (image (store_of c) root.inode_file) n root.epoch block → IsLogFault n c root free block
   newer : (block : ℕ) (changes : List Change) (tree : Tree) → AreReplayed c root.limits (image (store_of c) root.inode_file) n root.epoch changes tree

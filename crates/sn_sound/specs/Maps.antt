@@ -34,11 +34,11 @@ pub record IsSetOfRoots (s : Store) (all : List Rooted) (block word : ℕ) : Typ
   pub fits : word < 2 ^ 32
   pub bits : (k : ℕ) → (bit_at word k ≡ 1) ↔ IsReachedBy s all block k
 
--- The words of a map tell what the roots reach: each word of its blocks, those outside the data area and past the last block of the disk too. `word` is that of a block, on a disk of n blocks.
+-- The words of a map say what the roots reach: each word of its blocks, those outside the data area and past the last block of the disk too. `word` is that of a block, on a disk of n blocks.
 abbrev pub TellsRoots : ℕ → Store → RootBody → (ℕ → ℕ) → Type 0
 TellsRoots n s root word = (block : ℕ) → block < 1024 * map_blocks n → IsSetOfRoots s (rooted_in root) block (word block)
 
--- A root and its snapshots are sound on a disk of n blocks, and the words of the map tell what they reach. So it is said of a disk, whose map is what stands there, and of a mounted file system, which keeps the words of its map, over the blocks as they were when the root was made.
+-- A root and its snapshots are sound on a disk of n blocks, and the words of the map say what they reach. So it is said of a disk, whose map is what is read there, and of a mounted file system, which keeps the words of its map, over the blocks as they were when the root was made.
 pub record IsSoundRoot (n : ℕ) (s : Store) (root : RootBody) (word : ℕ → ℕ) : Type 0 where
   pub roots : (r : Rooted) → Contains (rooted_in root) r → IsSound root.limits n s r.inodes
   pub map : TellsRoots n s root word

@@ -1,4 +1,4 @@
--- The root that a mounted file system stands on, and the log on top of it.
+-- The root of a mounted file system, and the log on top of it.
 use Rattle.std.specs.Prelude.{◌≡◌, ℕ, ◌+◌, List, ◌++◌, Some, slice_index}
 use Rattle.sn_device.specs.Disk.{Disk, Always, reads}
 use Rattle.sn_layout.specs.declared.geometry.Slot.{Slot}
@@ -16,7 +16,7 @@ use Rattle.sn_sound.specs.Charges.{Fits}
 use Rattle.sn_sound.specs.Logs.{HasAgeLeft, IsToRecover}
 use Rattle.sn_sound.specs.Maps.{IsSoundRoot, free_blocks}
 
--- The root stands, whatever a crash leaves, with its records, its blocks and its map, and is sound. `s` has the blocks as they were when it was made, and `words` are those of its map.
+-- The root is in place, whatever a crash leaves, with its records, its blocks and its map, and is sound. `s` has the blocks as they were when it was made, and `words` are those of its map.
 pub record RootStands (n : ℕ) (d : Disk) (s : Store) (slot : Slot) (root : RootBody) (words : List ℕ) (older newer : List Change) : Type 0 where
   pub disk : IsDisk n (reads d)
   pub shows : Always d (Shows n s slot root older newer)

@@ -25,7 +25,7 @@ use Rattle.sn_sound.specs.Maps.{Rooted, rooted_in, IsSetOfRoots, free_blocks}
 abbrev pub OfSome : RootBody → (Rooted → Type 0) → Type 0
 OfSome root P = (r : Rooted) × Contains (rooted_in root) r × P r
 
--- The fault stands at this block of a disk whose newest root is this one.
+-- The fault is at this block of a disk whose newest root is this one.
 abbrev pub Stands : ℕ → Contents → Slot → RootBody → Damage → ℕ → Type 0
 Stands n c slot root Root block = ⊥
 Stands n c slot root Pointer block = OfSome root (λ r. LeadsOut n (store_of c) r.inodes block)
@@ -43,13 +43,13 @@ group_of Links = 4
 group_of Log = 5
 group_of damage = 2
 
--- The fault stands, and none of an earlier group does.
+-- The fault is there, and none of an earlier group is.
 pub record IsFirst (n : ℕ) (c : Contents) (slot : Slot) (root : RootBody) (damage : Damage) (block : ℕ) : Type 0 where
   pub newest : IsNewest c slot root
   pub stands : Stands n c slot root damage block
   pub before : (other : Damage) (place : ℕ) → group_of other < group_of damage → Stands n c slot root other place → ⊥
 
--- The roots themselves are damaged, and no newest one can be told.
+-- The roots themselves are damaged, and which is the newest can't be found.
 pub record IsRootFault (c : Contents) (damage : Damage) (block : ℕ) : Type 0 where
   pub kind : damage ≡ Root
   pub which : RootDamage
@@ -75,7 +75,7 @@ pub record IsFaulty (sectors : ℕ) (c : Contents) (damage : Damage) (block : �
 abbrev pub IsSomeSize : ℕ → Contents → Type 0
 IsSomeSize sectors c = (n : ℕ) × IsFormatted sectors c n
 
--- Why a check has no verdict: superblock, gates and versions come first, in this order. Want of memory and a failure of the device are told by the device's clauses.
+-- Why a check has no verdict: superblock, gates and versions come first, in this order. Want of memory and a failure of the device are in the device's clauses.
 abbrev pub HasNoVerdict : ℕ → Contents → MountFault → Type 0
 HasNoVerdict sectors c mount.NotFormatted = IsSomeSize sectors c → ⊥
 HasNoVerdict sectors c mount.NoRoot = IsSomeSize sectors c × ((slot : Slot) → IsClosed c (gate_sector slot))

@@ -1,7 +1,7 @@
 //! The laws that the definitions of `specs/` keep.
 ghost use Rattle.sn_sound.specs.Laws.{CleanHasAVerdict, CleanIsNotFaulty, CoversAreChargedAlike, FreeIsCounted, ImagesHoldOneWorld, SoundDisksHaveNoFault, SoundDisksOpen, SoundDisksOpenToWorlds, SoundImagesHoldAWorld, SoundRootsHaveNoFault, SoundRootsLieInData, SoundnessIsOfTheReach, StandingDisksAreSound, StandingRootsAreSound};
 
-/// What stands makes a disk unsound.
+/// A fault makes a disk unsound.
 ///
 /// Proved: A fault at a block makes the root, and the whole disk, unsound, so a check that reports only faults that are
 /// there, and is clean only where the disk is sound, is exact.
@@ -27,13 +27,13 @@ pub fn opening_laws()
     ensures one { ImagesHoldOneWorld }
 {}
 
-/// What is so of the root that a mounted file system stands on.
+/// What is so of the root of a mounted file system.
 ///
 /// Proved: Whether a root is sound depends on the blocks that it reaches.
-/// Proved: Where a mounted file system's root stands (`RootStands`), it is sound, with snapshots and map, in whatever a
+/// Proved: Where a mounted file system's root is in place (`RootStands`), it is sound, with snapshots and map, in whatever a
 /// crash leaves.
-/// Proved: Where the log on top of that root stands too (`LogStands`), whatever a crash leaves is a sound disk.
-/// Proved: What a sound root and its snapshots reach lies in the data area.
+/// Proved: Where the log on top of that root is in place too (`LogStands`), whatever a crash leaves is a sound disk.
+/// Proved: What a sound root and its snapshots reach is in the data area.
 pub fn standing_laws()
     ensures data { SoundRootsLieInData }
     ensures reach { SoundnessIsOfTheReach }
@@ -41,7 +41,7 @@ pub fn standing_laws()
     ensures disk { StandingDisksAreSound }
 {}
 
-/// What a call is charged for is told alike by the live tree and by the one that replay makes.
+/// A call is charged alike over the live tree and over the one that replay makes.
 ///
 /// Proved: A change is charged alike on the live tree and on the one that replay makes.
 pub fn charge_laws()

@@ -53,7 +53,7 @@ length-after end (d ∷ ds) = either (length-after end ds) (nat_lt d.index end)
     either later true = omega (arith, later)
     either later false = omega arith
 
--- where none are left behind an index, none are of those behind another
+-- where none are left after an index, none are after another
 pub after-nil : (end : ℕ) → after end [] ≡ []
 unfolding after
 after-nil end = refl

@@ -1,4 +1,4 @@
--- Holes behind the last data block, on every level.
+-- Holes after the last data block, on every level.
 use Rattle.std.proofs.Common.{◌≡◌, ◌≢◌, ◌⊎◌, inl, inr, ℕ, zero, suc, ◌+◌, ◌-◌, ◌*◌, ◌<◌, ◌≤◌, List, [], ◌∷◌, ◌++◌, length, get_or, refl, sym, ap, subst, ◌∙◌, arith, mul_assoc}
 use Rattle.std.specs.Prelude.{◌^◌}
 use Rattle.std.proofs.Math.Nat.{le_of_mul-le-mul_right}
@@ -44,7 +44,7 @@ times-holes s block zero ps holes some = times-hole_list block ps holes some
 times-holes s block (suc depth) ps holes some =
     omega (arith, times-append block (all_pointers s depth ps) (pointers_at s (suc depth) ps), times-holes s block depth ps holes some, times-hole_list block (pointers_at s (suc depth) ps) (AreHoles-at s (suc depth) ps holes) some)
 
--- pointers that all stand behind the end
+-- pointers that are all past the end
 pub ends_all : (r : Store) (depth base end : ℕ) (ps : List ℕ) → end ≤ base → EndsBefore r depth base end ps → AreHoles ps
 ends_all r depth base end ps past ends =
     holes_from ps (λ i. ap (λ (qs : List ℕ). get_or qs i 0) (sym (at_0 r ps)) ∙ ends 0 i (omega arith) (omega (arith, past)))

@@ -47,6 +47,6 @@ outside_indirect {at = at} sectors many s r up pointer pointers some same_sector
     (subst (λ (q : Store). LeadsOutsideAt sectors (all_pointers q (up - 1) pointers) at) same
     (subst (λ (n : ℕ). LeadsOutsideAt n (all_pointers r (up - 1) pointers) at) same_sectors leads))))
 
--- without the block that it's told of
+-- without the block that it names
 pub leads_outside : {at : Option ℕ} {sectors : ℕ} {pointers : List ℕ} → LeadsOutsideAt sectors pointers at → LeadsOutside sectors pointers
 leads_outside leads = record { block = leads.block; some = leads.some; among = leads.among; outside = leads.outside }

@@ -1,4 +1,4 @@
--- The first pointers of a tree, with holes beside and behind them, and a level above.
+-- The first pointers of a tree, with holes beside and after them, and a level above.
 use Rattle.std.proofs.Common.{◌≡◌, ◌≢◌, inl, inr, ⊎_elim, ℕ, zero, suc, ◌+◌, ◌-◌, ◌*◌, ◌<◌, ◌≤◌, ◌&&◌, Bool, List, [], ◌∷◌, ◌++◌, length, get_or, replicate, refl, sym, ap, subst, ◌∙◌, arith, if◌then◌else◌, Option}
 use Rattle.std.specs.Prelude.{◌^◌, nat_lt}
 use Rattle.std.specs.List.{AllByRecursion}
@@ -73,7 +73,7 @@ front_most-whole depth end levels ds within =
     summed : (depth x n m : ℕ) → (depth + 1) * x ≤ (depth + 1) * n → (depth + 1) * (n + 1) ≤ m → (depth + 1) * x + depth ≤ m
     summed depth x n m few wide = omega (arith, few, wide)
 
--- ---- holes behind what was planned
+-- ---- holes after what was planned
 
 holes_in : (hole : List ℕ) (xs : List (List ℕ)) (j : ℕ) → AllByRecursion (λ (x : List ℕ). x ≡ hole) xs → j < length xs → get_or xs j [] ≡ hole
 holes_in hole [] j all within = absurd (omega (arith, within))

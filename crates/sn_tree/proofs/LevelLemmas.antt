@@ -1,4 +1,4 @@
--- Pointers that are cut off, and a tree whose pointers stand at another height.
+-- Pointers that are cut off, and a tree whose pointers are at another height.
 use Rattle.std.proofs.Common.{◌≡◌, ◌≢◌, ℕ, suc, ◌+◌, ◌-◌, ◌*◌, ◌<◌, List, [], ◌∷◌, ◌++◌, length, get_or, take, drop, refl, sym, ap, subst, ◌∙◌, arith, Option}
 use Rattle.std.specs.Prelude.{◌^◌, slice_index}
 use Rattle.std.specs.List.{flat_map}

@@ -19,7 +19,7 @@ left_none size least (suc k) [] past = record { rise = tt; begins = tt }
 left_none size least zero (d ∷ ds) past = absurd (omega (arith, past))
 left_none size least (suc k) (d ∷ ds) past = left_none size least k ds (omega (arith, past))
 
--- the next one, and those behind it
+-- the next one, and those after it
 pub left_next : (size least k : ℕ) (ds : List DirtyBlock) (z : DirtyBlock) → k < length ds
     → AreLeft size least (drop k ds) ↔ ((least ≤ (get_or ds k z).index) × (4096 * (get_or ds k z).index < size) × AreLeft size ((get_or ds k z).index + 1) (drop (suc k) ds))
 left_next size least k [] z within = absurd (omega (arith, within))

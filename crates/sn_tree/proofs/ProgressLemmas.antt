@@ -38,7 +38,7 @@ module _ (Told : Type 0) (s : Store) (depth base keep span : ℕ) (dirty left : 
   starts : base + span * k ≡ base + k * 1024 ^ depth
   starts = let swapped : base + 1024 ^ depth * k ≡ base + k * 1024 ^ depth = omega arith in ap (λ (w : ℕ). base + w * k) wide ∙ swapped
 
-  -- where the next one stands
+  -- where the next one is
   pub progress_at : k < length ps → (base + span * k + 1024 ^ depth ≤ base + length olds * 1024 ^ depth) × IsFrom (base + span * k) left
   progress_at within = (omega (arith, starts, end_at base k (length olds) (1024 ^ depth) (omega (arith, within, before.count))), subst (λ (n : ℕ). IsFrom n left) (sym starts) before.rise)
 

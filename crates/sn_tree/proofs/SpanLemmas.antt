@@ -1,4 +1,4 @@
--- The block behind a pointer, and how many data blocks stand below one.
+-- The block at a pointer, and how many data blocks are below one.
 use Rattle.std.proofs.Common.{◌≡◌, ◌≢◌, ℕ, zero, suc, ◌+◌, ◌-◌, ◌*◌, ◌<◌, ◌≤◌, ◌==◌, Bool, true, false, [], ◌∷◌, refl, sym, ap, ◌∙◌, arith, if◌then◌else◌}
 use Rattle.std.specs.Prelude.{◌^◌}
 use Rattle.std.proofs.Math.Nat.{pow-succ', pow-le-pow_right, one-le-pow}
@@ -7,7 +7,7 @@ use Rattle.sn_ondisk.specs.Counts.{times}
 use Rattle.sn_ondisk.proofs.CountLemmas.{times-other}
 use Rattle.sn_image.specs.Reach.{block_reach}
 
--- ---- the block behind a pointer
+-- ---- the block at a pointer
 
 pub times-block_reach : (block p : ℕ) → block ≢ 0 → times block (block_reach p) ≡ times block (p ∷ [])
 times-block_reach block p some = either (p == 0) refl

@@ -151,7 +151,7 @@ module _ (Told : Type 0) (s : Store) (keep : ℕ) where
     plans = λ told. plan_dropped s depth base keep ds p news step.added step.released (step.plans told) none;
   }
 
-  -- why an indirect block is written: a dirty block lies below it, or the end of what stays
+  -- why an indirect block is written: a dirty block is below it, or the end of what stays
   pub a_path : (depth base end : ℕ) (ds : List DirtyBlock) (news : List ℕ) → (keep ≤ base → length (after end ds) ≡ length ds → AreHoles news) → ¬ AreHoles news
       → (length (after end ds) ≡ length ds → keep < end) → most_added depth base end keep ds + 1 ≤ most_added (suc depth) base end keep ds
   a_path depth base end ds news cut filled touched = most_added-one depth base end keep ds (reached (cases_lt (length (after end ds)) (length ds)) (cases_lt base keep))
@@ -182,7 +182,7 @@ module _ (Told : Type 0) (s : Store) (keep : ℕ) where
     plans = λ told. plan_put s depth base keep ds p news step.added step.released (step.plans told) block some filled is;
   }
 
--- ---- what the calls of one step come to
+-- ---- what the calls of one step result in
 
 pub holes-list : (ps : List ℕ) → AreHoles ps → ps ≡ replicate (length ps) 0
 holes-list [] holes = refl
@@ -238,7 +238,7 @@ added-grown d a x = length-append d.added a
 pub released-grown : (d : Draft) (a : List NewBlock) (x : List ℕ) → length (grown d a x).released ≡ length d.released + length x
 released-grown d a x = length-append d.released x
 
--- two steps that come to nothing each do
+-- two steps that each change nothing
 pub nothing_grown : (old between new : Draft) (a b : List NewBlock) (x y : List ℕ) → between ≡ grown old a x → new ≡ grown between b y → length new.added ≡ length old.added → length new.released ≡ length old.released → (between ≡ old) × (new ≡ between)
 nothing_grown old between new a b x y first second added released =
     let added1 = ap (λ (d : Draft). length d.added) first ∙ added-grown old a x in
@@ -340,7 +340,7 @@ module _ (Told : Type 0) (s : Store) (was : List ℕ) (had : DataBlocks) (depth 
       → free_data old.words old.first < length old.added + most_added (suc depth) base next keep ds
   too_full_above filled touched none = omega (arith, none, free-same, added-more, step.few, a_path Told s keep depth base next ds new step.cut filled touched)
 
-  -- for what comes behind
+  -- for what comes after
   pub too_full_behind : (end last : ℕ) → base ≤ next → next ≤ end → end ≤ last → free_data between.words between.first < length between.added + most_added depth next end keep left
       → free_data old.words old.first < length old.added + most_added depth base last keep ds
   too_full_behind end last low within inside none =

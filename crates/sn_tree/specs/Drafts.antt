@@ -1,4 +1,4 @@
--- What a build has come to.
+-- The result of a build.
 use Rattle.std.specs.Prelude.{◌≢◌, ℕ, List, ◌++◌, map, Contains}
 use Rattle.sn_alloc.specs.Taking.{IsFreeData}
 use Rattle.sn_tree.specs.declared.new_block.NewBlock.{NewBlock}

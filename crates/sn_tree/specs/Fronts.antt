@@ -12,7 +12,7 @@ use Rattle.sn_tree.specs.declared.new_block.DirtyBlock.{DirtyBlock}
 
 -- what a tree is planned from
 pub record Aim : Type 0 where
-  -- what stands in the blocks
+  -- what is in the blocks
   pub store : Store
   -- those that the old tree reaches
   pub was : List ℕ

@@ -7,15 +7,15 @@ use Rattle.sn_tree.specs.Dirty.{after, blocks_wanted}
 use Rattle.sn_tree.specs.declared.new_block.NewBlock.{NewBlock}
 use Rattle.sn_tree.specs.declared.new_block.DirtyBlock.{DirtyBlock}
 
--- These new blocks stand in their places.
+-- These new blocks are in their places.
 abbrev pub Holds : Store → List NewBlock → Type 0
 Holds s added = All (λ (block : NewBlock). s block.number ≡ block.bytes.value) added
 
--- The blocks behind these pointers stand alike in both.
+-- The blocks at these pointers are the same in both.
 abbrev pub SameAmong : Store → Store → List ℕ → Type 0
 SameAmong s r pointers = (block : ℕ) → block ≢ 0 → 0 < times block pointers → r block ≡ s block
 
--- the bytes that a pointer to a data block stands for, where a hole is read as these
+-- the bytes of the data block at a pointer, where a hole is read as these
 unfoldable pub named_or : List ℕ → Store → ℕ → List ℕ
 named_or hole s pointer = if pointer == 0 then hole else s pointer
 
@@ -27,7 +27,7 @@ DataBlocks = List ℕ → List (List ℕ)
 abbrev pub contents : Store → ℕ → List ℕ → DataBlocks
 contents s depth pointers = λ hole. map (named_or hole s) (pointers_at s depth pointers)
 
--- From data block `end` on there are holes alone, on every level below these pointers, which stand so many levels above their data blocks, the first of them block `base`.
+-- From data block `end` on there are holes alone, on every level below these pointers, which are so many levels above their data blocks, the first of them block `base`.
 abbrev pub EndsBefore : Store → ℕ → ℕ → ℕ → List ℕ → Type 0
 EndsBefore s depth base end pointers = (level i : ℕ) → level ≤ depth → end ≤ base + i * 1024 ^ (depth - level) → slice_index (pointers_at s level pointers) i ≡ 0
 
@@ -45,7 +45,7 @@ pub record PlansTo (s : Store) (was : List ℕ) (had : DataBlocks) (depth base k
 abbrev pub Plans : Store → ℕ → ℕ → ℕ → List DirtyBlock → List ℕ → List ℕ → List NewBlock → List ℕ → Type 0
 Plans s depth base keep dirty old new added released = PlansTo s (all_pointers s depth old) (contents s depth old) depth base keep dirty new added released
 
--- one where the end of what stays lies within a range, and not at its ends
+-- one where the end of what stays is within a range, and not at its ends
 abbrev pub straddles : ℕ → ℕ → ℕ → ℕ
 straddles base end keep = if nat_lt base keep && nat_lt keep end then 1 else 0
 

@@ -34,7 +34,7 @@ pub record Planned (Told : Type 0) (s : Store) (was : List ℕ) (had : DataBlock
   pub cut : keep ≤ base → length (after end dirty) ≡ length dirty → AreHoles new
   pub plans : Told → PlansTo s was had depth base keep dirty new added released
 
--- A new block with these bytes was put in place of the one behind a pointer.
+-- A new block with these bytes was put in place of the one at a pointer.
 pub record IsPut (old new : Draft) (pointer number : ℕ) (bytes : List ℕ) : Type 0 where
   pub block : NewBlock
   pub number_is : block.number ≡ number
@@ -42,7 +42,7 @@ pub record IsPut (old new : Draft) (pointer number : ℕ) (bytes : List ℕ) : T
   pub bytes_are : block.bytes.value ≡ bytes
   pub grew : new ≡ grown old (block ∷ []) (block_reach pointer)
 
--- A block of these pointers was put in place of the one behind a pointer, or a hole where all of them are holes.
+-- A block of these pointers was put in place of the one at a pointer, or a hole where all of them are holes.
 abbrev pub IsReplaced : Draft → Draft → ℕ → List ℕ → ℕ → Type 0
 IsReplaced old new pointer pointers number =
     ArePointers pointers × ((AreHoles pointers × (number ≡ 0) × (new ≡ grown old [] (block_reach pointer)))
@@ -59,7 +59,7 @@ pub record LeadsOutside (sectors : ℕ) (pointers : List ℕ) : Type 0 where
   pub among : 0 < times block pointers
   pub outside : lies_on sectors block ≡ false
 
--- and it's told of that block
+-- and the fault names that block
 pub record LeadsOutsideAt (sectors : ℕ) (pointers : List ℕ) (told : Option ℕ) : Type 0 where
   pub block : ℕ
   pub some : block ≢ 0

@@ -70,7 +70,7 @@ impl Build {
         Ok(number)
     }
 
-    /// Notes that the new tree doesn't reach the block behind a pointer of the old one. Behind 0 there
+    /// Notes that the new tree doesn't reach the block at a pointer of the old one. At 0 there
     /// is none.
     ///
     /// Proved: A block that the new tree doesn't reach is noted once for each pointer.

@@ -1,4 +1,4 @@
-//! The indirect block behind a pointer.
+//! The indirect block at a pointer.
 ghost use Rattle.std.specs.Prelude.{◌≡◌, ℕ, false, Option as TheOption, Err, IsTrue, IfOk, length};
 ghost use Rattle.sn_device.specs.Disk.{reads};
 ghost use Rattle.sn_block.specs.Lending.{device_of};
@@ -13,7 +13,7 @@ use sn_block::Blocks;
 use sn_device::Device;
 use sn_tree_read::{TreeFault, lies_on};
 
-/// Copies the indirect block behind a pointer. Below a hole there are holes. `Damaged` comes only where the
+/// Copies the indirect block at a pointer. Below a hole there are holes. `Damaged` comes only where the
 /// block isn't on the device.
 pub(crate) fn copy_below<D: Device>(
     build: &Build,

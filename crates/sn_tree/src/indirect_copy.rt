@@ -1,4 +1,4 @@
-//! A copy of an indirect block, whose pointers are set where they stand.
+//! A copy of an indirect block, whose pointers are set in place.
 ghost use Rattle.std.specs.Prelude.{◌≡◌, ◌≢◌, ◌↔◌, ◌<◌, ◌≤◌, ◌+◌, ℕ, List, All, IsTrue, slice_index, slice_set, take, drop};
 ghost use Rattle.sn_layout_node.specs.Indirect.{ArePointers, pointers_of, pointers_bytes};
 

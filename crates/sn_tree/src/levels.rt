@@ -20,7 +20,7 @@ use sn_layout::{BlockTree, POINTERS};
 use sn_layout_node::POINTERS_PER_BLOCK;
 use std::collections::VecDeque;
 
-// Plans holes behind the pointers that were planned.
+// Plans holes after the pointers that were planned.
 fn plan_behind<D: Device>(
     build: &mut Build,
     blocks: &mut Blocks<D>,
@@ -113,7 +113,7 @@ pub(crate) fn raised<D: Device>(
     Ok(raised)
 }
 
-/// Releases all that pointers reach which stand so many levels above their data blocks, and leaves holes in their
+/// Releases all that is reached by pointers so many levels above their data blocks, and leaves holes in their
 /// place: `depth` is 0 for pointers to data blocks, and one more for each level of indirect blocks. It takes no block,
 /// so `Full` comes only where more were added than are free. `Damaged` comes only where a block that they reach isn't
 /// on the device. After an error the build can only be given up.

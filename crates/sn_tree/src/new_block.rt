@@ -11,7 +11,7 @@ pub struct NewBlock {
 /// The bytes that a data block of a file is to have.
 #[derive(Drop)]
 pub struct DirtyBlock {
-    /// Which data block it is: byte k of the file lies in block k / 4,096.
+    /// Which data block it is: byte k of the file is in block k / 4,096.
     pub index: u64,
     pub bytes: Box<Block>,
 }

@@ -4,10 +4,10 @@ ghost use Rattle.std.specs.Prelude.{◌≡◌, ◌<◌, ◌++◌, ◌∷◌, len
 use sn_layout::POINTERS;
 use sn_layout_node::POINTERS_PER_BLOCK;
 
-/// How many pointers stand beside the first one of a tree.
+/// How many pointers there are beside the first one of a tree.
 pub(crate) const BESIDE: usize = 15;
 
-/// How many pointers stand behind the first sixteen of an indirect block.
+/// How many pointers there are after the first sixteen of an indirect block.
 pub(crate) const BEHIND: usize = 1008;
 
 /// Holes beside the first pointer.
@@ -18,7 +18,7 @@ pub(crate) fn no_beside() -> [u32; BESIDE]
     [0; BESIDE]
 }
 
-/// Holes behind the first sixteen.
+/// Holes after the first sixteen.
 pub(crate) fn no_behind() -> [u32; BEHIND]
     ensures holes { All (λ p. p ≡ 0) result }
     ensures count { length result ≡ 1008 }
@@ -44,7 +44,7 @@ pub(crate) fn front_of(pointers: &[u32; POINTERS_PER_BLOCK]) -> [u32; POINTERS]
     first
 }
 
-/// The pointers behind them.
+/// The pointers after them.
 pub(crate) fn behind_of(pointers: &[u32; POINTERS_PER_BLOCK]) -> [u32; BEHIND]
     ensures { result ≡ drop 16 pointers.now }
 {
@@ -64,7 +64,7 @@ fn pointer_of(front: &[u32; POINTERS], behind: &[u32; BEHIND], i: usize) -> u32
     behind[i - POINTERS]
 }
 
-/// The pointers of an indirect block, of its first sixteen and those behind them.
+/// The pointers of an indirect block, of its first sixteen and those after them.
 pub(crate) fn joined(front: &[u32; POINTERS], behind: &[u32; BEHIND]) -> [u32; POINTERS_PER_BLOCK]
     ensures { result ≡ front.now ++ behind.now }
 {

@@ -23,7 +23,7 @@ use sn_device::Device;
 use sn_layout_node::{IndirectBlock, POINTERS_PER_BLOCK};
 use std::collections::VecDeque;
 
-// How many data blocks lie below a pointer that stands so many levels above them.
+// How many data blocks are below a pointer that is so many levels above them.
 pub(crate) fn span_of(depth: u32) -> u64
     requires { depth ≤ 3 }
     ensures value { result ≡ 1024 ^ depth }
@@ -80,7 +80,7 @@ fn stays_until(dirty: &VecDeque<DirtyBlock>, keep: u64) -> u64
     }
 }
 
-// How many of so many pointers that stand side by side stay, counted from the first one, whose data
+// How many of so many pointers side by side stay, counted from the first one, whose data
 // blocks begin at an index.
 fn count_kept(dirty: &VecDeque<DirtyBlock>, keep: u64, at: u64, span: u64, count: usize) -> usize
     requires { 0 < span }
@@ -223,7 +223,7 @@ fn replace_copy(build: &mut Build, pointer: u32, copy: IndirectCopy) -> Result<u
     build.put(copy.into_bytes())
 }
 
-// The new pointer in place of one that stands so many levels above its data blocks, of which the first
+// The new pointer in place of one that is so many levels above its data blocks, of which the first
 // has this index. Where what stays ends below an indirect block and nothing below it changes, its block stays.
 #[cycle(plan)]
 fn plan_pointer<D: Device>(
@@ -313,7 +313,7 @@ fn plan_copy<D: Device>(
     Ok(())
 }
 
-/// Plans pointers that stand side by side, so many levels above their data blocks, of which the first has this
+/// Plans pointers side by side, so many levels above their data blocks, of which the first has this
 /// index. The new ones take their place. `depth` is 0 for pointers to data blocks, and one more for each level of
 /// indirect blocks. Of the data blocks below them the dirty ones are taken out of the queue, whose indices rise
 /// from `first` on; the others stay where their index is below `keep`, and are cut off where it isn't. `Full` comes

@@ -1,4 +1,4 @@
--- What the answers of a reader come to.
+-- What follows from the answers of a reader.
 use Rattle.std.proofs.Common.{◌≡◌, ◌≢◌, ℕ, zero, suc, ◌+◌, ◌-◌, ◌*◌, ◌/◌, ◌<◌, ◌≤◌, ◌==◌, ◌||◌, Bool, true, false, List, [], ◌∷◌, Option, length, take, drop, min, Contains, slice_index, refl, sym, ap, subst, ◌∙◌, arith}
 use Rattle.std.specs.Prelude.{nat_le}
 use Rattle.std.proofs.Math.Nat.{min-le_left, min-le_right}
@@ -34,7 +34,7 @@ cut_out s content offset n bytes long whole part =
     part.each k within
     ∙ sym (get_or-take n (drop offset all) k 0 under ∙ get_or-drop offset all k 0 ∙ byte_found s content long (offset + k) inside))
 
--- without the block that it's told of
+-- without the block that it names
 pub outside_of : (sectors : ℕ) (s : Store) (content : Content) (offset n : ℕ) (block : Option ℕ) → IsOutsideAt sectors s content offset n block → IsOutside sectors s content offset n
 outside_of sectors s (Inline bytes) offset n block none = none
 outside_of sectors s (Tree tree) offset n block (k, under, inside, off, met) = (k, under, inside, off)

@@ -67,7 +67,7 @@ second_not a b one two = ap (λ (x : Bool). x && b) one ∙ two
 
 -- ---- where the way ends
 
--- at the pointer itself, where each above it lies on the device
+-- at the pointer itself, where each above it is on the device
 pub met_last : (sectors : ℕ) (s : Store) (level : ℕ) (pointers : List ℕ) (i : ℕ) → path_lies_on sectors s level pointers i ≡ true → pointer_met sectors s level pointers i ≡ entry s level pointers i
 unfolding pointer_met
 met_last sectors s zero pointers i lies = refl

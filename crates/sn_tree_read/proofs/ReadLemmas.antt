@@ -9,7 +9,7 @@ use Rattle.sn_image.specs.Contents.{byte_of}
 use Rattle.sn_ondisk.specs.Trees.{Store, data_block}
 use Rattle.sn_tree_read.specs.Paths.{block_lies_on}
 
--- these are the bytes from an offset on, each of a block that lies on the device
+-- these are the bytes from an offset on, each of a block that is on the device
 pub record IsReadTo (sectors : ℕ) (s : Store) (tree : BlockTree) (offset : ℕ) (bytes : List ℕ) : Type 0 where
   pub each : (k : ℕ) → k < length bytes → slice_index bytes k ≡ byte_of s (Tree tree) (offset + k)
   pub lies : (k : ℕ) → k < length bytes → block_lies_on sectors s tree ((offset + k) / 4096) ≡ true

@@ -1,4 +1,4 @@
--- What the answers of a reader come to.
+-- What follows from the answers of a reader.
 use Rattle.std.specs.Prelude.{◌≡◌, ℕ, ◌+◌, ◌*◌, ◌≤◌, true, List, length, take, drop, Contains}
 use Rattle.sn_layout.specs.Pointers.{levels_of}
 use Rattle.sn_layout.specs.declared.tree.BlockTree.{BlockTree}
@@ -16,7 +16,7 @@ PartsAreCutOut = (s : Store) (content : Content) (offset n : ℕ) (bytes : List 
     → length (bytes_of s content) ≡ size_of content
     → IsPart s content offset n bytes → bytes ≡ take n (drop offset (bytes_of s content))
 
--- Where each block that a tree reaches lies on the device, so do those on the way to a pointer of one of its levels: `entry` doesn't answer `Damaged`.
+-- Where each block that a tree reaches is on the device, so are those on the way to a pointer of one of its levels: `entry` doesn't answer `Damaged`.
 abbrev pub ReachedPathsLie : Type 0
 ReachedPathsLie = (sectors : ℕ) (s : Store) (tree : BlockTree) → ((block : ℕ) → Contains (tree_reach s tree) block → 8 * block + 8 ≤ sectors)
     → (level i : ℕ) → level ≤ levels_of tree.size → path_lies_on sectors s level tree.pointers i ≡ true

@@ -34,7 +34,7 @@ fn first_pointer(tree: &BlockTree, i: u64) -> u32
     pointers[i as usize]
 }
 
-// One of the 1,024 pointers that stand below a pointer. Below a hole there are holes.
+// One of the 1,024 pointers below a pointer. Below a hole there are holes.
 fn pointer_below<D: Device>(
     blocks: &mut Blocks<D>,
     pointer: u32,
@@ -59,7 +59,7 @@ fn pointer_below<D: Device>(
     Ok(IndirectBlock::decode(blocks.fetched()).pointer(index))
 }
 
-/// The pointer with number `i` of those that stand so many levels below the sixteen of a tree: on the
+/// The pointer with number `i` of those so many levels below the sixteen of a tree: on the
 /// last level it names data block `i`. 0 is a hole, also where the tree has no such block. `Damaged`
 /// comes exactly where a block above it isn't on the device.
 ///

@@ -16,7 +16,7 @@ pub enum TreeFault {
     /// A block isn't read, or there is no memory for the answer.
     Read(ReadFault),
     /// The image can't be read so: a pointer names a block that isn't on the device, or bytes spell
-    /// nothing of their kind. `block` is that block; there is none where a hole stands in its place, or
+    /// nothing of their kind. `block` is that block; there is none where a hole is in its place, or
     /// where blocks that can each be read denote no tree.
     Damaged { block: Option<u32> },
 }

@@ -1,4 +1,4 @@
-//! What the answers come to.
+//! What follows from the answers.
 ghost use Rattle.sn_tree_read.specs.Laws.{PartsAreCutOut, ReachedPathsLie, ReachedBlocksLie};
 
 /// On a sound image a part that is read is cut out of the whole, and `Damaged` is never answered.

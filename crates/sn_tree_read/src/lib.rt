@@ -1,10 +1,10 @@
 //! Reading block trees: a pointer on its path, a data block, the bytes of a file.
 //!
-//! The model is that of `sn_ondisk` and `sn_image`, which say what stands in a tree for any blocks at
+//! The model is that of `sn_ondisk` and `sn_image`, which say what is in a tree for any blocks at
 //! all: `entry`, `data_block`, `byte_of`. Over a device that tells its bytes the answers are these,
-//! exactly, on a sound image and on any other. `Damaged` comes where a block that is needed doesn't lie
-//! on the device (`path_lies_on`, `block_lies_on`), and there alone, and it's told of the first such block on
-//! the way (`block_met`). Whatever the device tells, the
+//! exactly, on a sound image and on any other. `Damaged` comes where a block that is needed isn't
+//! on the device (`path_lies_on`, `block_lies_on`), and there alone, and it names the first such block on
+//! the way (`block_met`). Whether or not the device tells its bytes, the
 //! calls end after at most one block for each level of the tree and each data block, and write nothing.
 //!
 //! A hole is found by its pointer and never read. A data block is lent from the cache of `sn_block`:

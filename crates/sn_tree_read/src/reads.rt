@@ -32,7 +32,7 @@ fn count_from(size: u64, offset: u64, most: usize) -> usize
     }
 }
 
-// How many bytes from an offset on lie in its block, up to so many.
+// How many bytes from an offset on are in its block, up to so many.
 fn count_within(at: u64, most: usize) -> usize
     requires { 0 < most }
     ensures some { 0 < result }
@@ -43,7 +43,7 @@ fn count_within(at: u64, most: usize) -> usize
     if most < room { most } else { room }
 }
 
-// Puts bytes of one data block behind those that are there.
+// Appends bytes of one data block.
 fn push_part<D: Device>(
     blocks: &mut Blocks<D>,
     tree: &BlockTree,

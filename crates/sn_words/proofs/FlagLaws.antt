@@ -1,4 +1,4 @@
--- The flags of an open, the mode behind them, and bytes in hexadecimal: what is read is spelled so, and what is spelled so is read.
+-- The flags of an open, the mode after them, and bytes in hexadecimal: what is read is spelled so, and what is spelled so is read.
 use Rattle.std.proofs.Common.{◌≡◌, ℕ, zero, suc, ◌*◌, ◌≤◌, inl, inr, Bool, true, false, cond, eqb, List, [], ◌∷◌, ◌++◌, length, Some, Result, Ok, Err, refl, sym, ap, subst, ◌∙◌, lit≤, lit<, arith}
 use Rattle.std.specs.Prelude.{◌==◌, ◌&&◌, not, codes}
 use Rattle.std.specs.List.{AllByRecursion}
@@ -37,7 +37,7 @@ letter_lacks : (l m : ℕ) (t : Bool) (rest : List ℕ) → eqb m l ≡ false �
 letter_lacks l m true rest other h = (other, h)
 letter_lacks l m false rest other h = h
 
--- the letters of six flags, and what stands behind them
+-- the letters of six flags, and what is after them
 abbrev letters : OpenFlags → List ℕ → List ℕ
 letters f rest = letter_word 114 f.read ++ (letter_word 119 f.write ++ (letter_word 97 f.append ++ (letter_word 99 f.create
     ++ (letter_word 120 f.exclusive ++ (letter_word 116 f.truncate ++ rest)))))
@@ -46,7 +46,7 @@ letters_word : (f : OpenFlags) → letters f [] ≡ flags_word f
 letters_word f = ap (λ (t : List ℕ). letter_word 114 f.read ++ (letter_word 119 f.write ++ (letter_word 97 f.append ++ (letter_word 99 f.create
     ++ (letter_word 120 f.exclusive ++ t))))) (append-nil (letter_word 116 f.truncate))
 
--- the flags that are read, and what stands behind them
+-- the flags that are read, and what is after them
 abbrev read_flags : List ℕ → OpenFlags × List ℕ
 read_flags word =
     let r = letter_of 114 word in
@@ -114,7 +114,7 @@ flags_graphic f =
     let w = Within-append 33 126 (letter_word 119 f.write) _ (letter_graphic 119 f.write (lit≤ tt) (lit≤ tt)) a in
     Within-append 33 126 (letter_word 114 f.read) _ (letter_graphic 114 f.read (lit≤ tt) (lit≤ tt)) w
 
--- ---- the mode behind them
+-- ---- the mode after them
 
 pub file_mode_takes : (creates : Bool) (words : List (List ℕ)) (mode : ℕ) → file_mode_of creates words ≡ Some mode → (words ≡ mode_words creates mode) × IsFileMode creates mode
 unfolding file_mode_of

@@ -1,4 +1,4 @@
--- What follows from tests of a reading that came to a value.
+-- What follows from tests of a reading that gave a value.
 use Rattle.std.proofs.Common.{◌≡◌, Bool, true, false, cond, ◌⊎◌, inl, inr, Option, Some, None, refl}
 use Rattle.std.specs.Prelude.{◌&&◌}
 

@@ -48,12 +48,12 @@ flags_word f = letter_word 114 f.read ++ (letter_word 119 f.write ++ (letter_wor
 abbrev pub has_flag : OpenFlags → Bool
 has_flag f = not (length (flags_word f) == 0)
 
--- the mode of a file that open() makes stands behind the flags where one of them asks for that, and nothing does elsewhere
+-- the mode of a file that open() makes is after the flags where one of them asks for that, and nothing is elsewhere
 abbrev pub mode_words : Bool → ℕ → List (List ℕ)
 mode_words true mode = octal mode ∷ []
 mode_words false mode = []
 
--- a mode that no word tells is 0
+-- a mode that is in no word is 0
 abbrev pub IsFileMode : Bool → ℕ → Type 0
 IsFileMode true mode = mode < 4096
 IsFileMode false mode = mode ≡ 0

@@ -74,7 +74,7 @@ kind_named word = if bytes_eq word (codes "a") then Some OfAccess else (if bytes
 unfoldable pub id_of : List ℕ → Option (Option ℕ)
 id_of word = if bytes_eq word (codes "-") then Some None else (number_below (2 ^ 32) word >>= (λ n. Some (Some n)))
 
--- whether a letter stands at the front, and what stands after it
+-- whether a letter is at the front, and what is after it
 abbrev pub letter_of : ℕ → List ℕ → Bool × List ℕ
 letter_of letter [] = (false, [])
 letter_of letter (b ∷ bytes) = if b == letter then (true, bytes) else (false, b ∷ bytes)
@@ -98,7 +98,7 @@ file_mode_of true (mode ∷ []) = octal_of mode
 file_mode_of false [] = Some 0
 file_mode_of _ _ = None
 
--- the bytes that digits stand for, where they are spelled with these
+-- the bytes that digits denote, where they are spelled with these
 abbrev pub spelled_by : List ℕ → Result (List ℕ) FromHexError → Option (List ℕ)
 spelled_by word (Ok bytes) = if bytes_eq word (content_word bytes) then Some bytes else None
 spelled_by word (Err e) = None

@@ -3,7 +3,7 @@ ghost use Rattle.sn_words.specs.Fields.{parts};
 
 use arrayvec::ArrayVec;
 
-/// What stands before the first byte that is a separator, and what stands after it.
+/// What is before the first byte that is a separator, and what is after it.
 ///
 /// Proved, also of `parts`: A text is split at a byte into its parts, or has more than there is room for.
 pub fn cut(text: &[u8], separator: u8) -> Option<(&[u8], &[u8])>

@@ -70,7 +70,7 @@ pub fn octal(word: &[u8]) -> Result<u16, SpellingFault>
     Ok(512 * first + 64 * second + 8 * third + fourth)
 }
 
-/// Whether a letter stands there, and not a dash.
+/// Whether a letter is there, and not a dash.
 fn right(letter: u8, byte: u8) -> Result<bool, SpellingFault>
     ensures { IsRead (λ b. b) result (right_of letter byte) }
 {
@@ -174,7 +174,7 @@ pub fn id(word: &[u8]) -> Result<Option<u32>, SpellingFault>
     Ok(Some(number))
 }
 
-/// Takes a letter off the front, where it stands there.
+/// Takes a letter off the front, where it is there.
 fn letter(letter: u8, text: &[u8]) -> (bool, &[u8])
     ensures { letter_of letter text.now ≡ (result.0, result.1.now) }
 {
@@ -208,7 +208,7 @@ pub fn flags(word: &[u8]) -> Result<OpenFlags, SpellingFault>
     })
 }
 
-/// The mode behind the flags where a file may be made, and 0 where none is.
+/// The mode after the flags where a file may be made, and 0 where none is.
 #[tactic(auto, unfolding(crate::specs::Reading::file_mode_of))]
 pub fn file_mode(creates: bool, words: &[&[u8]]) -> Result<u16, SpellingFault>
     ensures { IsRead (λ m. m) result (file_mode_of creates (map (λ w. w.now) words.now)) }
