@@ -32,7 +32,7 @@ pub fn mask_narrows()
         → IsNarrowedByMask cred owner group entries want }
 {}
 
-/// No tag stands twice in a valid ACL.
+/// No tag occurs twice in a valid ACL.
 ///
 /// Proved, also of `test_is_exact`: No tag is twice in a valid ACL, and the test of an ACL passes exactly the valid ones.
 pub fn tags_are_distinct()

@@ -1,4 +1,4 @@
--- What unlink comes to, once a file was found under a name of a directory.
+-- The outcome of unlink, once a file was found under a name of a directory.
 use Rattle.std.specs.Prelude.{ℕ, List, Result, Ok}
 use Rattle.sn_limits.specs.declared.limits.Limits.{Limits}
 use Rattle.sn_walk.specs.declared.object.Object.{Object}

@@ -1,4 +1,4 @@
-//! What calls are charged: the blocks that a consistency point may take for what they come to, by the numbers
+//! What calls are charged: the blocks that a consistency point may take for their outcomes, by the numbers
 //! of the version.
 ghost use Rattle.std.specs.Prelude.{◌≡◌, ◌+◌, ◌*◌, ◌≤◌, ◌^◌};
 ghost use Rattle.sn_model.specs.FileCalls as files;

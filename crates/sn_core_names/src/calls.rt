@@ -92,7 +92,7 @@ fn rmdir_in<'a, V: CallView>(
     ))
 }
 
-/// What rmdir comes to: an empty directory goes.
+/// The outcome of rmdir: an empty directory goes.
 #[tactic(auto, unfolding(sn_model::specs::NameCalls::rmdir_outcome))]
 pub fn rmdir<'a, V: CallView>(
     limits: &Limits,
@@ -145,10 +145,10 @@ fn link_in<'a, V: CallView>(
     ))
 }
 
-/// What link comes to: a file gets one more name.
+/// The outcome of link: a file gets one more name.
 ///
 /// Proved, also of `rename`, `rmdir` and `readdir`: The outcome of a call on names, or its first refusal, is exactly the
-/// model's, over every view that tells what it shows and without a device.
+/// model's, over every told view and without a device.
 #[tactic(auto, unfolding(sn_model::specs::NameCalls::link_outcome))]
 pub fn link<'a, V: CallView>(
     limits: &Limits,
@@ -173,7 +173,7 @@ pub fn link<'a, V: CallView>(
     link_in(limits, view, caller, new, &found, number, &parent, place)
 }
 
-/// The directory whose names readdir tells, for which a reply has to find memory.
+/// The directory whose names readdir lists, for which a reply has to find memory.
 #[tactic(auto, unfolding(sn_model::specs::NameCalls::readdir_outcome))]
 pub fn readdir<V: CallView>(
     view: &mut V,

@@ -205,7 +205,7 @@ fn moved_in<'a, V: CallView>(
     ))
 }
 
-/// What a rename comes to that moves a name.
+/// The outcome of a rename that moves a name.
 #[tactic(auto, unfolding(sn_model::specs::NameCalls::moved_outcome))]
 fn moved<'a, V: MoveView>(
     limits: &Limits,
@@ -231,7 +231,7 @@ fn moved<'a, V: MoveView>(
     moved_in(limits, view, caller, old, new, moving, &from, &to)
 }
 
-/// What rename comes to: a name is exchanged for another, and what had that goes. Where both are of one
+/// The outcome of rename: a name is exchanged for another, and what had that goes. Where both are of one
 /// file or of one directory nothing is done.
 #[tactic(auto, unfolding(sn_model::specs::NameCalls::rename_outcome))]
 pub fn rename<'a, V: MoveView>(

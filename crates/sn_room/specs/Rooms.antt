@@ -34,7 +34,7 @@ gives_back pending = false
 abbrev pub charged_behind : Limits → RoomCounts → ℕ → Outcome → ℕ
 charged_behind limits room nameless o = room.charged + o.charge + limits.inode_charge * parked room nameless
 
--- a call fits that comes to this, where so many live files have no name
+-- a call with this outcome fits, where so many live files have no name
 abbrev pub fits : Limits → RoomCounts → ℕ → Outcome → Bool
 fits limits room nameless o = nat_le (charged_behind limits room nameless o + (if gives_back o.change then 0 else limits.reserve)) room.free
 

@@ -41,7 +41,7 @@ fn gives_back(change: &Pending<'_>) -> bool
 }
 
 impl Room {
-    /// So many data blocks are free, and nothing is charged: behind a format, a recovery, or a mount that needed none.
+    /// So many data blocks are free, and nothing is charged: after a format, a recovery, or a mount that needed none.
     pub fn fresh(free: u32) -> Room
         ensures { result ≡ fresh free }
     {
@@ -81,7 +81,7 @@ impl Room {
         self.free
     }
 
-    /// Whether a call fits that comes to this, where so many live files have no name.
+    /// Whether a call with this outcome fits, where so many live files have no name.
     ///
     /// Proved: A call fits exactly where the charges since the durable root's moment, its own, one inode's for each parked
     /// file, and the reserve unless it removes, are at most the free blocks.
@@ -112,7 +112,7 @@ impl Room {
         self.charged_since += charge;
     }
 
-    /// A close or a logout dropped so many files that no name stood for.
+    /// A close or a logout dropped so many files without a name.
     pub fn drop_files(&mut self, count: u32)
         requires { self.old.dropped + count < 2 ^ 64 }
         ensures { self.new ≡ dropping count self.old }
