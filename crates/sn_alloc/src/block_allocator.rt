@@ -66,9 +66,9 @@ impl BlockAllocator {
 
     /// Takes the next free block, from where the last search stopped. It takes no memory: the room
     /// comes from `reserve`. `Full` comes where every free block of the data area is taken, and the
-    /// search then stands at the end.
+    /// search is then at the end.
     ///
-    /// Proved: A taken block's word was zero, it lies in the data area and wasn't taken before; `Full` comes only where no
+    /// Proved: A taken block's word was zero, it is in the data area and wasn't taken before; `Full` comes only where no
     /// block is left.
     pub fn take(&mut self) -> Result<u32, Full>
         requires { 0 < self.old.room }

@@ -51,7 +51,7 @@ abbrev pub gives_way : Tree → Kind → Option ℕ → Bool
 gives_way tree kind None = true
 gives_way tree kind (Some number) = is_kind kind (losing tree number)
 
--- a directory that is moved comes to lie in itself
+-- a directory is moved into itself
 abbrev pub lies_in_itself : Tree → Kind → ℕ → ℕ → Bool
 lies_in_itself tree kind number directory = is_directory kind && is_below tree number directory
 

@@ -40,7 +40,7 @@ fn gives_way<T: NamedTree>(tree: &mut T, kind: Kind, target: Option<u16>) -> Res
     }
 }
 
-// Whether it is a directory that comes to lie in itself.
+// Whether it is a directory that would be moved into itself.
 fn lies_in_itself<T: NamedTree>(
     tree: &mut T,
     kind: Kind,

@@ -44,7 +44,7 @@ later-calls w y r old new counts = record { sectors = counts.sectors; failures =
 later-failure : (s : Status) → IsLater s (one_failure s)
 later-failure s = record { sectors = refl; failures = omega arith; writes = omega arith; syncs = omega arith; spent = λ was. was }
 
--- what has come to its end stays there
+-- what has ended stays so
 still_top : (a b : ℕ) → nat_le (2 ^ 64 - 1) a ≡ true → a ≤ b → nat_le (2 ^ 64 - 1) b ≡ true
 still_top a b is more = le-leb (2 ^ 64 - 1) b (omega (arith, leb-true (2 ^ 64 - 1) a is, more))
 

@@ -58,6 +58,6 @@ abbrev pub MayLeaveAtOne : List Moment → Contents → Type 0
 MayLeaveAtOne [] c = ⊥
 MayLeaveAtOne (m ∷ ms) c = MayLeave m c ⊎ MayLeaveAtOne ms c
 
--- what a crash at some moment since the clock stood at t might have left, or may leave now
+-- what a crash at some moment since the clock was t might have left, or may leave now
 abbrev pub CrashSince : Disk → ℕ → Contents → Type 0
 CrashSince d t c = MayLeaveAtOne (d.present ∷ take (clock d - t) d.past) c

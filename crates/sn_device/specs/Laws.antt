@@ -39,7 +39,7 @@ abbrev pub TouchesTear : Type 0
 TouchesTear = (touched : List ℕ) (old new : Disk) (c : Contents) → AreSectors (reads old) → Touches (Contains touched) old new → CrashSince new (clock old) c
     → (d : Contents) × CrashNow old d × AgreesOutside (Contains touched) d c
 
--- A test of other sectors than those touched, which every content passed that a crash could leave, goes on to be passed by every one.
+-- A test of other sectors than those touched, which every content passed that a crash could leave, is still passed by every one.
 abbrev pub OthersAreKept : Type 0
 OthersAreKept = (touched others : List ℕ) (test : Contents → Bool) (old new : Disk) → AreSectors (reads old) → AreDisjoint (Contains touched) (Contains others)
     → DependsOn (Contains others) (λ c. IsTrue (test c)) → Always old (λ c. IsTrue (test c)) → Touches (Contains touched) old new → Always new (λ c. IsTrue (test c))

@@ -30,7 +30,7 @@ pub struct FileDevice<F: FileExt + OpenFile> {
     gathered: Gathered,
     block: LastBlock,
     // The file's own sync failed. The system may have dropped what it couldn't write, and a later
-    // sync of the file wouldn't tell.
+    // sync of the file wouldn't report that.
     is_lost: bool,
     // It is there to be read alone, and each write faults.
     is_read_only: bool,
@@ -92,7 +92,7 @@ impl<F: FileExt + OpenFile + Drop> FileDevice<F> {
         &self.file
     }
 
-    /// The bytes of all its sectors, which no count tells. An error is want of memory or the file's.
+    /// The bytes of all its sectors, which no count includes. An error is want of memory or the file's.
     pub fn read_all(&mut self, alloc: Global) -> io::Result<Vec<u8>>
         ensures length { IfOk result (λ bytes. length bytes.items ≡ 512 * (status_of self.old).sectors) }
         ensures status { status_of self.new ≡ status_of self.old }

@@ -111,7 +111,7 @@ fn empty_to<R: Files, F: OpenFile + LockFile, P: AsPath>(
     folder.sync_all()
 }
 
-/// A folder can't be a device. A disk tells no length, and an open pipe may wait for its other end.
+/// A folder can't be a device. A disk reports no length, and an open pipe may wait for its other end.
 fn require_file(metadata: &Metadata) -> io::Result<()> {
     if metadata.is_file() {
         Ok(())
@@ -130,7 +130,7 @@ fn open_uncut<R: Files, P: AsPath>(files: &R, path: P) -> io::Result<R::File> {
     how.open(files, path)
 }
 
-/// The folder of the file at a path, behind any links.
+/// The folder of the file at a path, with all links followed.
 fn open_folder<R: Files, P: AsPath>(alloc: Global, files: &R, path: P) -> io::Result<R::File> {
     let whole = files.canonicalize(alloc, path.path_text())?;
     match whole.parent() {
@@ -139,7 +139,7 @@ fn open_folder<R: Files, P: AsPath>(alloc: Global, files: &R, path: P) -> io::Re
     }
 }
 
-/// Whether two open files are one. Where the system tells no numbers of files, locks alone tell it.
+/// Whether two open files are one. Where the system reports no numbers of files, only locks show it.
 fn is_one_file(one: &Metadata, other: &Metadata) -> bool {
     one.ino() != 0 && one.ino() == other.ino() && one.dev() == other.dev()
 }

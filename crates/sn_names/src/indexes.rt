@@ -78,7 +78,7 @@ impl NameIndexes {
     }
 
     /// Begins the index of a directory on a device of so many sectors, which knows no names, and isn't kept
-    /// before `keep`. Where there are indirect blocks, `place_below` tells it where the others are.
+    /// before `keep`. Where there are indirect blocks, `place_below` records in it where the others are.
     ///
     /// Proved, also of `place_below`, `note_names` and `keep`: What is learnt from a block's bytes, from an indirect block
     /// or from another index is true where those were.

@@ -16,7 +16,7 @@
 //! - `name_laws`: it stays true while the blocks that its pointers lead to stay. `forget` lets the others go
 //!   before a block is written.
 //!
-//! A name stands in an index as its `Print`, 50 bits of a hash. Proofs use no more of it than that a name
+//! A name is in an index as its `Print`, 50 bits of a hash. Proofs use no more of it than that a name
 //! has one: names may share it, and each that does costs one block that is read in vain.
 //!
 //! Memory. `NameIndexes` keeps at most eight indexes, which have at most 262,144 names together; the one
@@ -29,7 +29,7 @@
 //! - `index.rt` has the type and what it answers, `begin.rt` how it begins, `learn.rt` how it learns a
 //!   block's names, `share.rt` what it takes over from another one.
 //! - `kept.rt` has an index with the blocks that it rests on, `indexes.rt` those that are kept.
-//! - `print.rt`, `ordered.rt`, `search.rt`, `place.rt` and `rooms.rt` are what these stand on.
+//! - `print.rt`, `ordered.rt`, `search.rt`, `place.rt` and `rooms.rt` are what these build on.
 //!
 //! ```text
 //! while i < count {

@@ -1,4 +1,4 @@
--- What a table of numbers tells.
+-- What a table of numbers records.
 use Rattle.std.specs.Prelude.{◌≡◌, ℕ, Bool, is_some}
 use Rattle.std.specs.FinMap as map
 use Rattle.sn_model.specs.Tree.{Tree}

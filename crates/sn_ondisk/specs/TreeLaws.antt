@@ -32,7 +32,7 @@ ReachHasEveryPointer = (s : Store) (tree : BlockTree) (depth pointer : ℕ) → 
 abbrev pub ReachHasNoHole : Type 0
 ReachHasNoHole = (s : Store) (tree : BlockTree) (pointer : ℕ) → Contains (tree_reach s tree) pointer → pointer ≢ 0
 
--- Looked up on its path, a pointer is the one that stands there in its level.
+-- Looked up on its path, a pointer is the one that is there in its level.
 abbrev pub EntriesAreTheirLevel : Type 0
 EntriesAreTheirLevel = (s : Store) (depth : ℕ) (pointers : List ℕ) (i : ℕ) → entry s depth pointers i ≡ slice_index (pointers_at s depth pointers) i
 

@@ -39,7 +39,7 @@ pub trait Below {
         ensures found { IsTrue is_told → IfOk result (λ n. n ≡ seen_node (shows self.old) number) }
         ensures cause { IfErr result (λ f. causes self.old self.new f) };
 
-    /// The number that a name stands for.
+    /// The number that a name denotes.
     fn link(&mut self, link: &Link) -> Result<Option<u16>, Self::Fault>
         requires { holds self.old }
         ensures kept { holds self.new }

@@ -44,7 +44,7 @@ impl Overlay {
         self.nodes.get(&number)
     }
 
-    /// What a name stands for: a number, or none, where it changed.
+    /// What a name denotes: a number, or none, where it changed.
     pub fn name(&self, link: &Link) -> Option<Option<u16>>
         ensures { result ≡ map.get (layer_of self.now).names link.now }
     {

@@ -114,7 +114,7 @@ nameless_alike tree after nodes names =
 pub put_alike : (tree : Tree) (number : ℕ) (new : Node) → AreAlikeBut tree (put_node tree number new) number
 put_alike tree number new = record { nodes = λ q apart. get_other nat_cmp_total exact_unsigned tree.nodes number new q apart; names = λ q apart. refl }
 
--- whether it is a file without names is told by its kind
+-- its kind shows whether it is a file without names
 pub same_bare : (tree : Tree) (number : ℕ) (node new : Node) → new.kind ≡ node.kind → bare tree (number, new) ≡ bare tree (number, node)
 same_bare tree number node new kind = told node.kind refl
   where

@@ -70,7 +70,7 @@ remove_layer tree link = removing tree link (map.get tree.links link)
 abbrev pub ownership_layer : Tree → ℕ → Ownership → Layer
 ownership_layer tree number o = changing tree number (with_ownership o) no_changes
 
--- a file of another size: what was behind the lesser one is cut off
+-- a file of another size: what was past the lesser one is cut off
 abbrev pub size_state : ℕ → NodeState → NodeState
 size_state size state = record state { size = size; cut = min size state.size }
 

@@ -222,7 +222,7 @@ fn rename<B: Below>(
     exchange(alloc, below, old, new, number, replaced)
 }
 
-// A block as it is below. Where so many bytes fill it, it isn't read, and zeros stand for it.
+// A block as it is below. Where so many bytes fill it, it isn't read, and zeros take its place.
 fn old_block<B: Below>(
     below: &mut B,
     file_block: FileBlock,

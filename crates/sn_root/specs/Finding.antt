@@ -38,7 +38,7 @@ pub record AreEqual (c : Contents) : Type 0 where
   pub has_other : HasRoot c B other
   pub same : one.generation ≡ other.generation
 
--- Where both slots are misspelt, slot A is told.
+-- Where both slots are misspelt, slot A is reported.
 abbrev pub IsDamaged : Contents → RootDamage → Type 0
 IsDamaged c (Misspelt A) = IsMisspelt c A
 IsDamaged c (Misspelt B) = IsMisspelt c B × (IsMisspelt c A → ⊥)

@@ -15,12 +15,12 @@ use sn_block::Blocks;
 use sn_device::Device;
 use sn_layout::{Gate, RootBody, Slot};
 
-/// The root that counts, and where it stands.
+/// The root that counts, and where it is.
 #[derive(PartialEq, Eq, Drop)]
 pub struct NewestRoot {
     pub slot: Slot,
     pub root: RootBody,
-    /// The gate of the other slot, behind which an older root stands if it is open.
+    /// The gate of the other slot, after which there is an older root if it is open.
     pub other: Gate,
 }
 
