@@ -144,9 +144,9 @@ impl BlockAllocator {
         &self.map
     }
 
-    /// Gives up what was taken, and hands back the map as it was given.
+    /// Gives up what was taken, and gives back the map as it was given.
     ///
-    /// Proved: The map that is handed back when a build is given up is the one that was given.
+    /// Proved: The map that is given back when a build is given up is the one that was given.
     pub fn give_up(self) -> Map
         ensures { result ≡ self.words }
     {

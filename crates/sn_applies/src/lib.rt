@@ -7,7 +7,7 @@
 //!
 //! The way through it:
 //!
-//! 1. [`NamedTree`], a tree as it is read: beside what `Below` of `sn_overlay` has, a look-up of a name
+//! 1. [`NamedTree`], a tree as it is read: besides what `Below` of `sn_overlay` has, a look-up of a name
 //!    that is lent, how many names a directory has, and whether a directory is at or below another one.
 //! 2. `specs/Tests`: the tests that changes are made of, each in terms of what is read.
 //! 3. `proofs/TestLemmas` and `proofs/MoveLemmas`: a change can be applied exactly where its tests pass.

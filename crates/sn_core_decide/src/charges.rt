@@ -45,7 +45,7 @@ pub fn attributes_charge(limits: &Limits) -> u64
     u64::from(limits.inode_charge)
 }
 
-/// How many blocks of 4,096 bytes so many bytes lie in, from an offset on.
+/// How many blocks of 4,096 bytes so many bytes from an offset on are in.
 pub fn blocks_spanned(offset: u64, count: usize) -> u64
     ensures spanned { result ≡ files.blocks_spanned offset count }
     ensures few { result ≤ 2 ^ 53 }

@@ -41,7 +41,7 @@ fn is_one(moving: &Moving) -> bool
     }
 }
 
-/// The new name doesn't lie below what is moved: EINVAL otherwise.
+/// The new name isn't below what is moved: EINVAL otherwise.
 fn not_below<V: MoveView>(view: &mut V, moving: &Moving) -> Result<(), Failure<Refusal, V::Fault>>
     requires { V.holds view.old }
     ensures kept { V.holds view.new }

@@ -1,6 +1,6 @@
 use sn_core_decide::CallView;
 
-/// What a decision that moves names asks beside.
+/// What a decision that moves names asks besides.
 ///
 /// Proved: Whether a directory is below another is asked of the view.
 pub trait MoveView: CallView {

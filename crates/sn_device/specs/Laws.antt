@@ -29,7 +29,7 @@ WriteTears = (at : ℕ) (bytes : List ℕ) (m : Moment) (c : Contents)
 abbrev pub SyncSettles : Type 0
 SyncSettles = (m : Moment) (c : Contents) → AreSectors m.sectors → MayLeave (synced m) c ↔ (c ≡ m.sectors)
 
--- A crash in the course of calls that write a stretch of sectors may leave any bytes in those, beside what was unsynced.
+-- A crash in the course of calls that write a stretch of sectors may leave any bytes in those and in what was unsynced.
 abbrev pub StretchTears : Type 0
 StretchTears = (at n : ℕ) (old new : Disk) (c : Contents) → Touches (Stretch at n) old new → CrashSince new (clock old) c
     → AgreesOutside (Union (Stretch at n) (Contains old.present.unsynced)) old.present.sectors c

@@ -38,7 +38,7 @@ impl Status {
         self.is_spent || self.failures == u64::MAX || self.writes >= u64::MAX - self.syncs
     }
 
-    /// Counts a call that is answered with a fault, beside the count of the call itself.
+    /// Counts a call that is answered with a fault, besides the count of the call itself.
     pub fn count_failure(&mut self)
         requires { self.old.failures + 1 < 2 ^ 64 }
         ensures { self.new ≡ one_failure self.old }

@@ -12,7 +12,7 @@ abbrev pub RecordIsOne : Type 0
 RecordIsOne = (c : Contents) (base place epoch age sequence number : ℕ) (payload other : List ℕ)
     → HasRecord c base epoch place sequence payload → HasRecord c base age place number other → payload ≡ other
 
--- Where an append can go on, replay finds the same records, and ends there.
+-- Where an append can continue, replay finds the same records, and ends there.
 abbrev pub ReadyIsReplayed : Type 0
 ReadyIsReplayed = (c : Contents) (base epoch place : ℕ) (payloads : List (List ℕ)) → IsReady c base epoch payloads place → ReplaysTo c base epoch payloads place
 

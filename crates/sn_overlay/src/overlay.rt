@@ -63,7 +63,7 @@ impl Overlay {
 
     /// The nodes that changed, in the order of their numbers, each with what became of it.
     ///
-    /// Proved, also of `names_of` and `take_blocks`: An overlay hands out exactly the nodes that changed, the names of a
+    /// Proved, also of `names_of` and `take_blocks`: An overlay gives exactly the nodes that changed, the names of a
     /// directory that changed and the blocks of a file that were written, each once, in the order of their keys; the blocks
     /// are moved out, and nothing else changes.
     pub fn nodes(&self) -> &[(u16, NodeChange)]

@@ -62,6 +62,6 @@ done free room = record room { free = free; charged = room.charged_since; droppe
 abbrev pub fresh : ℕ → RoomCounts
 fresh free = record { free = free; charged = 0; charged_since = 0; dropped = 0; dropped_since = 0 }
 
--- Behind a mount, which makes no point: all that was charged, and was dropped, came since the root's moment.
+-- After a mount, which makes no point: all that was charged, and was dropped, came since the root's moment.
 abbrev pub mounted : ℕ → ℕ → ℕ → RoomCounts
 mounted free charged dropped = record { free = free; charged = charged; charged_since = charged; dropped = dropped; dropped_since = dropped }

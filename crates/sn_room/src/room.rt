@@ -54,7 +54,7 @@ impl Room {
         }
     }
 
-    /// Behind a mount, where so many data blocks are free, what was replayed was charged so much, and so many files were
+    /// After a mount, where so many data blocks are free, what was replayed was charged so much, and so many files were
     /// dropped that the root's tree has without names. None where these charges are more than is free.
     pub fn mounted(limits: &Limits, free: u32, charged: u128, dropped: u32) -> Option<Room>
         ensures covered { IfSome result (λ room. (room ≡ mounted free charged dropped) × (is_covered limits.now (mounted free charged dropped) ≡ true)) }

@@ -73,7 +73,7 @@ fn choose_b(b: Carried) -> Result<NewestRoot, RootFault>
     }
 }
 
-// What counts beside a root in slot A.
+// What counts where slot A has a root.
 fn choose_beside(root: RootBody, b: Carried) -> Result<NewestRoot, RootFault>
     ensures finds { (c : Contents) → Holds c SlotA (HeldRoot root) → Holds c SlotB b → Finds c result }
     ensures read { IsRead result }
