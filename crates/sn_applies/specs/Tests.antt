@@ -55,7 +55,7 @@ gives_way tree kind (Some number) = is_kind kind (losing tree number)
 abbrev pub lies_in_itself : Tree → Kind → ℕ → ℕ → Bool
 lies_in_itself tree kind number directory = is_directory kind && is_below tree number directory
 
--- how many names of the new directory go when a name is moved: the old one if it is there, and that of what gives way
+-- how many names of the new directory are removed when a name is moved: the old one if it is there, and that of what is replaced
 abbrev pub leaving : ℕ → ℕ → Option ℕ → ℕ
 leaving from to target = (if is_some target then 1 else 0) + (if from == to then 1 else 0)
 

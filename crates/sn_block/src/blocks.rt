@@ -80,7 +80,7 @@ impl<D: Device> Blocks<D> {
     /// where the device failed, which is counted, or has ended.
     ///
     /// Proved, also of `fetched` and `read_block`: A block that is lent is the device's eight sectors, from a cache that
-    /// goes with what reads give, also after a write that failed, and lending changes nothing on the device.
+    /// agrees with what reads give, also after a write that failed, and lending changes nothing on the device.
     /// Proved, also of `read_block`: A fault says whether the device failed or memory was refused, and the counts show it.
     pub fn fetch(&mut self, number: u32) -> Result<(), ReadFault>
         requires room { 8 * number + 8 ≤ (D.status (device_of self.old)).sectors }

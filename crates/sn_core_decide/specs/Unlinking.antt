@@ -13,7 +13,7 @@ use Rattle.sn_model.specs.Calls.{last_name}
 use Rattle.sn_model.specs.FileCalls.{unlinks}
 use Rattle.sn_model.specs.Tests.{sticky, writable_parent}
 
--- a name that goes from a directory at a place: w(p); sticky
+-- a name that is removed from a directory at a place: w(p); sticky
 abbrev pub unlink_in : Limits → ViewedTrees → Session → List (List ℕ) → Object → ℕ → Found → Result Outcome Refusal
 unlink_in limits trees session names at place found = do
   parent ← writable_parent trees session.cred 1 place at

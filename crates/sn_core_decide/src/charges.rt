@@ -23,7 +23,7 @@ pub fn unlink_charge(limits: &Limits) -> u64
     3 * u64::from(limits.inode_charge) + u64::from(limits.block_charge)
 }
 
-/// A node is renamed: its inode, those of both directories, and what gives way to it, which may stay
+/// A node is renamed: its inode, those of both directories, and what it replaces, which may stay
 /// without a name; and the blocks of both names.
 pub fn rename_charge(limits: &Limits) -> u64
     ensures { result ≡ 5 * limits.now.inode_charge + 2 * limits.now.block_charge }

@@ -224,7 +224,7 @@ pub fn open<'a, V: CallView>(
     }
 }
 
-/// A name that goes from the directory that it was walked to in.
+/// A name that is removed from the directory that it was walked to in.
 fn unlink_in<'a, V: TreeView>(
     limits: &Limits,
     view: &mut V,
@@ -250,7 +250,7 @@ fn unlink_in<'a, V: TreeView>(
     Ok(does(unlink_charge(limits), removed))
 }
 
-/// The outcome of unlink: a name of a file goes.
+/// The outcome of unlink: a name of a file is removed.
 #[tactic(auto, unfolding(sn_model::specs::FileCalls::unlink_outcome))]
 pub fn unlink<'a, V: TreeView>(
     limits: &Limits,

@@ -23,7 +23,7 @@ fn is_listable(found: &Found) -> Result<(), Refusal>
     }
 }
 
-/// A directory that goes has no names: ENOTEMPTY otherwise.
+/// A directory that is removed has no names: ENOTEMPTY otherwise.
 pub(crate) fn empty<V: CallView>(
     view: &mut V,
     directory: u16,
@@ -62,7 +62,7 @@ fn may_link(limits: &Limits, found: &Found) -> Result<(), Refusal>
     Err(Refusal::plain(Errno::Emlink))
 }
 
-/// A directory that goes from the one that its name was walked to in.
+/// A directory that is removed from the one that its name was walked to in.
 fn rmdir_in<'a, V: CallView>(
     limits: &Limits,
     view: &mut V,
@@ -92,7 +92,7 @@ fn rmdir_in<'a, V: CallView>(
     ))
 }
 
-/// The outcome of rmdir: an empty directory goes.
+/// The outcome of rmdir: an empty directory is removed.
 #[tactic(auto, unfolding(sn_model::specs::NameCalls::rmdir_outcome))]
 pub fn rmdir<'a, V: CallView>(
     limits: &Limits,

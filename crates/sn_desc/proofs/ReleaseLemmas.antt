@@ -17,7 +17,7 @@ use Rattle.sn_desc.specs.InUse.{live_in}
 use Rattle.sn_desc.specs.Closing.{AreReleased, LostTheLast, pushed, released_if}
 use Rattle.sn_model.proofs.HeldLemmas.{descriptors_total, exact_descriptors, held_count, is_holder}
 
--- one descriptor goes
+-- one descriptor is closed
 module _ (table : Descriptors) (k : ℕ × ℕ) where
   abbrev left : Descriptors
   left = map.remove table k

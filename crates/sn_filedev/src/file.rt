@@ -52,7 +52,7 @@ impl<F: FileExt + OpenFile + Drop> FileDevice<F> {
     ghost use Rattle.sn_filedev.specs.FileDevice.{status_of, is_lost, is_read_only};
 
     /// A device over a file that is open for reading and writing, of its whole sectors. An error is
-    /// want of memory or the file's, and changes nothing in the file. No lock is asked of the file.
+    /// want of memory or the file's, and changes nothing in the file. It takes no lock on the file.
     pub fn new(alloc: Global, file: F) -> io::Result<Self>
         ensures uncalled { IfOk result (λ d. status_of d ≡ uncalled (status_of d).sectors) }
         ensures writing { IfOk result (λ d. is_read_only d ≡ false) }
@@ -115,7 +115,7 @@ impl<F: FileExt + OpenFile + Drop> FileDevice<F> {
         self.settle()
     }
 
-    // Hands what was gathered to the file. Where that fails it stays gathered.
+    // Writes what was gathered to the file. Where that fails it stays gathered.
     fn flush(&mut self) -> io::Result<()>
         ensures status { self.new.status ≡ self.old.status }
         ensures block { self.new.block ≡ self.old.block }
@@ -178,7 +178,7 @@ impl<F: FileExt + OpenFile + Drop> FileDevice<F> {
         Ok(())
     }
 
-    // Hands what was gathered to the file, and has it stored.
+    // Writes what was gathered to the file, and has it stored.
     fn settle(&mut self) -> io::Result<()>
         ensures status { self.new.status ≡ self.old.status }
         ensures empty { OnOk result (self.new.gathered.bytes.items ≡ []) }

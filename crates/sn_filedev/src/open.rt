@@ -39,7 +39,7 @@ impl<F: FileExt + OpenFile + LockFile + Drop> FileDevice<F> {
 
     /// The same, to be read alone: others may read it too, and its writes fault.
     ///
-    /// Proved: A device that was opened to be read alone takes no write, and hands none to its file.
+    /// Proved: A device that was opened to be read alone takes no write, and passes none to its file.
     pub fn open_to_read<R: Files<File = F>, P: AsPath>(
         alloc: Global,
         files: &R,
@@ -55,7 +55,7 @@ impl<F: FileExt + OpenFile + LockFile + Drop> FileDevice<F> {
     }
 
     /// A device over a file of so many blocks of 4,096 bytes, all of them zeros: a new one, or one that
-    /// is there and not in use, whose bytes go. Want of memory leaves them. An error of the file may
+    /// is there and not in use, whose bytes are dropped. Want of memory leaves them. An error of the file may
     /// leave it empty, or with another length. The folder is stored before this answers.
     ///
     /// Proved, also of `read_all`: A device that was created has eight sectors for each of its blocks, and as many bytes as

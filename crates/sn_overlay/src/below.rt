@@ -24,7 +24,7 @@ pub trait Below {
     // what a look-up needs and keeps
     ghost holds: { Self → Type 0 };
 
-    // what look-ups may do: whether a tree may be a later one of an earlier
+    // what look-ups may do: whether a tree may be a later state of an earlier one
     ghost follows: { Self → Self → Type 0 };
 
     // whether what happened between an earlier tree and a later one is the cause of a fault

@@ -171,9 +171,9 @@ impl Overlay {
         self.blocks.insert(file_block, block);
     }
 
-    /// A node goes, with the names and blocks that it had. It takes no memory.
+    /// A node is dropped, with the names and blocks that it had. It takes no memory.
     ///
-    /// Proved: A node goes with its names and blocks without memory, as by the merge of the layer in which it is gone.
+    /// Proved: A node is dropped with its names and blocks without memory, as by the merge of the layer in which it is gone.
     pub fn drop_node(&mut self, number: u16, by_close: bool)
         requires { HasRoom self.old (record { nodes = 1; names = 0; blocks = 0 }) }
         ensures layer { layer_of self.new ≡ merge (layer_of self.old) (gone number by_close) }

@@ -247,7 +247,7 @@ nameless_are_counted limits (SetAttributes number o) tree after h e =
     let p = owned_is tree number o after e in
     omega (arith, ap nameless_in p.gives, nameless_put tree number p.node (node_with p.node.kind o p.node.bytes) p.there refl)
 
--- one that goes
+-- one that is dropped
 pub drops_are_counted : (tree : Tree) (number : ℕ) → is_nameless tree number (map.get tree.nodes number) ≡ true → nameless_in (take_node tree number) + 1 ≡ nameless_in tree
 unfolding nameless_in
 drops_are_counted tree number bare_now = told (map.get tree.nodes number) refl bare_now

@@ -78,7 +78,7 @@ DropsLie = (tree : Tree) (number : ℕ) (by_close : Bool) → IsHierarchy tree �
 abbrev pub DropsNeed : Type 0
 DropsNeed = (limits : Limits) (number : ℕ) (by_close : Bool) → need limits (gone number by_close) ≡ need_of limits (counts 1 0 0)
 
--- A file without names that goes is one less of them.
+-- When a file without names is dropped, there is one less of them.
 abbrev pub DropsAreCounted : Type 0
 DropsAreCounted = (tree : Tree) (number : ℕ) → is_nameless tree number (map.get tree.nodes number) ≡ true → nameless_in (take_node tree number) + 1 ≡ nameless_in tree
 

@@ -20,7 +20,7 @@ use Rattle.sn_root.specs.declared.fault.RootDamage.{RootDamage}
 use Rattle.sn_root.specs.declared.fault.RootDamage.TheVariants.{Misspelt, EqualGenerations}
 use Rattle.sn_root.specs.declared.finding.NewestRoot.{NewestRoot}
 
--- The newest root is this one, and the other slot's gate is so.
+-- The newest root is this one, and the other slot's gate is the one it says.
 pub record HasNewest (c : Contents) (it : NewestRoot) : Type 0 where
   pub newest : IsNewest c it.slot it.root
   pub other : gate_in c (other_slot it.slot) ≡ it.other
