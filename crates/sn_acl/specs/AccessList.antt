@@ -21,7 +21,7 @@ pub record HasObjects (entries : List Entry) : Type 0 where
   pub group_obj : count_of is_group_obj entries ≡ 1
   pub other : count_of is_other entries ≡ 1
 
--- at most 32 entries with a qualifier, exactly one MASK beside them, and at most one without them
+-- at most 32 entries with a qualifier, exactly one MASK besides them, and at most one without them
 pub record HasFittingMask (entries : List Entry) : Type 0 where
   pub most : count_of is_mask entries ≤ 1
   pub beside_named : 0 < count_of is_named entries → count_of is_mask entries ≡ 1

@@ -49,7 +49,7 @@ pub fn spelling_is_one()
     ensures { SpellingIsOne }
 {}
 
-/// Beside a MASK, setting a mode leaves GROUP_OBJ; without one it sets it. Entries with a qualifier stay.
+/// Where there is a MASK, setting a mode leaves GROUP_OBJ; without one it sets it. Entries with a qualifier stay.
 ///
 /// Proved: To set a mode leaves GROUP_OBJ where there is a MASK.
 pub fn mode_sets_three_entries()

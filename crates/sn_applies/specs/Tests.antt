@@ -27,7 +27,7 @@ file_names tree number = file_at tree number >>= (λ _. Some (names_for tree num
 abbrev pub is_name_in : Link → Bool
 is_name_in link = is_name link.name && not (is_hidden_name link.directory link.name)
 
--- A directory may get one more name, where so many of its names go first, and what has so many names may get one more.
+-- A directory may get one more name, where so many of its names are removed first, and what has so many names may get one more.
 abbrev pub has_room : Limits → Tree → ℕ → ℕ → ℕ → Bool
 has_room limits tree directory leaving links = is_some (directory_at tree directory) && (nat_lt (names_in tree directory - leaving) limits.names && nat_lt links limits.links)
 

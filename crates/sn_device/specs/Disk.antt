@@ -12,7 +12,7 @@ pub record Disk : Type 0 where
   pub present : Moment
   pub past : List Moment
 
--- each write and each sync, failed or not, moves the clock on by one
+-- each write and each sync, failed or not, advances the clock by one
 abbrev pub clock : Disk → ℕ
 clock d = length d.past
 

@@ -12,7 +12,7 @@ NowCounts = (d : Disk) (t : ℕ) (c : Contents) → CrashNow d c → CrashSince 
 abbrev pub OnlyNow : Type 0
 OnlyNow = (d : Disk) (c : Contents) → CrashSince d (clock d) c → CrashNow d c
 
--- A write or a sync moves the clock on by one.
+-- A write or a sync advances the clock by one.
 abbrev pub ClockMovesOn : Type 0
 ClockMovesOn = (d : Disk) (m : Moment) → clock (next d m) ≡ clock d + 1
 

@@ -30,7 +30,7 @@ same_once a b e = ap {B = ℕ} (λ (t : Bool). cond t 1 0) (eq-eqb a b e)
 other_none : (a b : ℕ) → (a ≡ b → ⊥) → once a b ≡ 0
 other_none a b d = ap {B = ℕ} (λ (t : Bool). cond t 1 0) (false_from_ne_true (a == b) (λ e. d (eqb-true a b e)))
 
--- ---- names that come and go
+-- ---- names that are added and removed
 
 -- a name is removed
 module _ (tree : Tree) (link : Link) (number : ℕ) (old new : List Counted) (tells : TellsDirectories tree old) (named : map.get tree.links link ≡ Some number) where

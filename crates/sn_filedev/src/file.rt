@@ -37,7 +37,7 @@ pub struct FileDevice<F: FileExt + OpenFile> {
     ghost within: { status.sectors * 512 < 2 ^ 64 },
     // No sector of the block is gathered, so what is read of it was written last.
     ghost apart: { ForSome block.number (IsApart gathered.first (length gathered.bytes.items / 512)) },
-    // Nothing is handed to a file that is there to be read alone.
+    // Nothing is written to a file that is there to be read alone.
     ghost unwritten: { IsTrue is_read_only → gathered.bytes.items ≡ [] },
 }
 
@@ -245,7 +245,7 @@ impl<F: FileExt + OpenFile + Drop> Device for FileDevice<F> {
         ensures lost { is_lost self.new ≡ is_lost self.old }
         ensures access { is_read_only self.new ≡ is_read_only self.old }
 
-        // Where it succeeds, its bytes wait to be handed to the file. Over a file that is there to be
+        // Where it succeeds, its bytes wait to be written to the file. Over a file that is there to be
         // read alone it doesn't.
         ensures waits { OnOk result
             (Gathers at sector.now (gathered_of self.old) (gathered_of self.new)) }

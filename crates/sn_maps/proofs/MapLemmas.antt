@@ -83,7 +83,7 @@ module _ {K X Y : Type 0} (R : K → K → Ordering) (f : X → Y) (o : IsTotalO
   pub remove-seen_by : CmpEqualImpliesEq R → (es fs : List (K × X)) (k : K) → ((q : K) → lookup (is_at (R q)) fs ≡ cond (is_at (R k) q) None (lookup (is_at (R q)) es)) → seen_by R f fs ≡ fin.remove (seen_by R f es) k
   remove-seen_by exact es fs k h = remove-seen_as R (λ k. k) f o exact es fs k h
 
--- what isn't there needn't go
+-- what isn't there needn't be removed
 pub remove-absent : {K X : Type 0} {R : K → K → Ordering} → IsTotalOrder R → CmpEqualImpliesEq R → (m : fin.FinMap R X) (k : K) → fin.get m k ≡ None → fin.remove m k ≡ m
 remove-absent {K} {X} {R} o exact m k absent = fin.same_map o exact _ _ (λ q. fin.get-remove o m k q ∙ at_key q (eq_by_cmp R q k) refl)
   where

@@ -243,7 +243,7 @@ fn old_block<B: Below>(
     Ok(block)
 }
 
-// A block of a file, with those bytes in place that lie in it.
+// A block of a file, with the bytes in place that are in it.
 fn written_block<B: Below>(
     alloc: Global,
     below: &mut B,

@@ -123,12 +123,12 @@ pub fn writes_splice()
     ensures { WritesSplice }
 {}
 
-/// Where bytes reach over several blocks, each block gets those that lie in it.
+/// Where bytes reach over several blocks, each block gets those that are in it.
 pub fn writes_span()
     ensures { WritesSpan }
 {}
 
-/// A block in which none are written stays.
+/// A block in which none are written is unchanged.
 pub fn writes_keep()
     ensures { WritesKeep }
 {}

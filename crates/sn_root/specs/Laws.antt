@@ -29,7 +29,7 @@ abbrev pub LogKeepsClosed : Type 0
 LogKeepsClosed = (n epoch : ℕ) (slot : Slot) (old new : Disk) → AreSectors (reads old) → Touches (InHalf (base_of n epoch)) old new
     → Always old (λ c. IsClosed c (gate_sector slot)) → Always new (λ c. IsClosed c (gate_sector slot))
 
--- And so the body of a root.
+-- And so does the body of a root.
 abbrev pub LogKeepsBodies : Type 0
 LogKeepsBodies = (n epoch : ℕ) (slot : Slot) (root : RootBody) (old new : Disk) → AreSectors (reads old) → Touches (InHalf (base_of n epoch)) old new
     → Always old (λ c. HasRoot c slot root) → Always new (λ c. HasRoot c slot root)
