@@ -32,7 +32,7 @@ module _ {X : Type 0} where
         | false ↦ any-counted q xs
       ]
 
--- the first that passes, or what stands for it in an empty class
+-- the first that passes, or the default of an empty class
 pub first-filter : (q : Entry → Bool) (xs : List Entry) → unwrap_or (find q xs) (first_of []) ≡ first_of (filter q xs)
 first-filter q [] = refl
 first-filter q (x ∷ xs) =

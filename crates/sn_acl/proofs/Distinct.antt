@@ -1,4 +1,4 @@
--- In canonical order no tag stands twice.
+-- In canonical order no tag occurs twice.
 use Rattle.std.proofs.Common.{◌≡◌, ℕ, ◌<◌, Bool, true, List, [], ◌∷◌, length, get_or, refl, arith, ap, ◌∙◌, zero, suc}
 use Rattle.std.specs.Prelude.{◌&&◌, ◌||◌, nat_lt as ltb}
 use Rattle.std.proofs.Math.Dec.{eqb}

@@ -40,7 +40,7 @@ read_on n (c ∷ cs) = read_on (10 * n + (c - 48)) cs
 own : IsNumeralModel (λ ds. all_ascii_digits ds ≡ true) (read_on 0)
 own = numerals_by_fold _ (search rules) read_on (search rules)
 
--- digits end at the colon behind them
+-- digits end at the colon after them
 digits-end : (ds more : List ℕ) → all_ascii_digits ds ≡ true → take_while is_ascii_digit (ds ++ (58 ∷ more)) ≡ ds
 digits-end [] more = λ all. refl
 digits-end (d ∷ ds) more = λ all.
@@ -55,7 +55,7 @@ digits-qualifier (Group n) = λ fits. digits_decimal own n (omega arith)
 digits-qualifier Mask = λ fits. refl
 digits-qualifier Other = λ fits. refl
 
--- the digits and the rest behind them, in the text of an entry that more follows
+-- the digits and the rest after them, in the text of an entry that is followed by more
 pub digits-read : (t : Tag) (p : ℕ) (more tail digits : List ℕ) → qualifier_of t < 2 ^ 32
     → tail ≡ (qualifier_text t ++ (58 ∷ permissions_text p)) ++ more → digits ≡ take_while is_ascii_digit tail → digits ≡ qualifier_text t
 digits-read t p more tail digits fits is read =
@@ -116,7 +116,7 @@ first-read text entry rest reads (e ∷ es) = λ valid is.
     let found = reads e (more_text es) (entry-behind (e ∷ es) [] e es valid refl) is in
     (es, ap (λ x. x ∷ es) (sym found.0), found.1)
 
--- behind a comma there is one more entry
+-- after a comma there is one more entry
 comma : (rest : List ℕ) (tail : List ℕ) (others : List Entry) → rest ≡ 44 ∷ tail → rest ≡ more_text others
     → (e : Entry) × (os : List Entry) × (others ≡ e ∷ os) × (tail ≡ entry_text e ++ more_text os)
 comma rest tail [] = λ is more. absurd (omega (arith, ap length is, ap length more))
@@ -131,7 +131,7 @@ more-read text kept rest tail entry after so_far is reads = λ es valid whole.
     let found = reads e (more_text os) fits behind in
     (os, parts ∙ (ap (λ (xs : List Entry). kept ++ xs) (split ∙ ap (λ (x : Entry). x ∷ os) (sym found.0)) ∙ sym (append_assoc kept (entry ∷ []) os)), found.1)
 
--- no entry behind a comma
+-- no entry after a comma
 pub not-read : (text : List ℕ) (kept : List Entry) (rest tail : List ℕ)
     → IsReadUpTo text kept rest → rest ≡ 44 ∷ tail → ((e : Entry) (more : List ℕ) → is_entry e ≡ true → tail ≡ entry_text e ++ more → ⊥)
     → (es : List Entry) → IsValid es → text ≡ acl_text es → ⊥
@@ -149,7 +149,7 @@ full-read text kept rest tail so_far is full = λ es valid whole.
     let (e, os, split, behind) = comma rest tail others is more in
     omega (arith, length-valid es valid, ap length (parts ∙ ap (λ (xs : List Entry). kept ++ xs) split), length-append kept (e ∷ os))
 
--- something behind the last entry that is no comma
+-- something other than a comma after the last entry
 rest-empty : (rest : List ℕ) (others : List Entry) → rest ≡ more_text others → ((tail : List ℕ) → rest ≡ 44 ∷ tail → ⊥) → length rest ≡ 0
 rest-empty rest [] = λ more none. ap length more
 rest-empty rest (e ∷ os) = λ more none. absurd (none (entry_text e ++ more_text os) more)

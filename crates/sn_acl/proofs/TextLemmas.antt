@@ -15,7 +15,7 @@ more_text-more es i e within is =
     ap more_text (take_more es i e within) ∙ (more_text-append (take i es) (get_or es i e ∷ [])
     ∙ ap (λ t. more_text (take i es) ++ (44 ∷ t)) (append-nil (entry_text (get_or es i e)) ∙ ap entry_text (sym is)))
 
--- a comma and an entry, behind the text so far
+-- a comma and an entry, after the text so far
 pub pushed : (base : List ℕ) (es : List Entry) (i : ℕ) (e : Entry) (so_far comma done : List ℕ) → i < length es → e ≡ get_or es i e
     → so_far ≡ base ++ more_text (take i es) → comma ≡ so_far ++ (44 ∷ []) → done ≡ comma ++ entry_text e
     → done ≡ base ++ more_text (take (i + 1) es)

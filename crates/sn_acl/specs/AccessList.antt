@@ -9,7 +9,7 @@ use Rattle.sn_acl.specs.Entries.{is_user_obj, is_group_obj, is_mask, is_other, i
 abbrev pub count_of : (Tag → Bool) → List Entry → ℕ
 count_of p entries = length (filter (λ e. p e.tag) entries)
 
--- each entry stands before the next
+-- each entry comes before the next
 abbrev pub is_canonical : List Entry → Bool
 is_canonical [] = true
 is_canonical (e ∷ []) = true
@@ -21,7 +21,7 @@ pub record HasObjects (entries : List Entry) : Type 0 where
   pub group_obj : count_of is_group_obj entries ≡ 1
   pub other : count_of is_other entries ≡ 1
 
--- at most 32 entries with a qualifier, exactly one MASK beside them, and at most one without them
+-- at most 32 entries with a qualifier, exactly one MASK besides them, and at most one without them
 pub record HasFittingMask (entries : List Entry) : Type 0 where
   pub most : count_of is_mask entries ≤ 1
   pub beside_named : 0 < count_of is_named entries → count_of is_mask entries ≡ 1
@@ -31,7 +31,7 @@ pub record HasFittingMask (entries : List Entry) : Type 0 where
 abbrev pub is_entry : Entry → Bool
 is_entry e = nat_lt e.permissions 8 && nat_lt (qualifier_of e.tag) 4294967296
 
--- A valid ACL in canonical order, in which no tag stands twice.
+-- A valid ACL in canonical order, in which no tag occurs twice.
 pub record IsValid (entries : List Entry) : Type 0 where
   pub objects : HasObjects entries
   pub mask : HasFittingMask entries

@@ -30,7 +30,7 @@ is_named (User _) = true
 is_named (Group _) = true
 is_named _ = false
 
--- where entries of this kind stand in canonical order: the owner, users, the group, groups, the mask, others
+-- the position of entries of this kind in canonical order: the owner, users, the group, groups, the mask, others
 abbrev pub rank_of : Tag → ℕ
 rank_of UserObj = 0
 rank_of (User _) = 1

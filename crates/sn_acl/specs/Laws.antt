@@ -46,7 +46,7 @@ unmasked entries = filter (λ e. not (is_mask e.tag)) entries
 abbrev pub IsNarrowedByMask : Credential → ℕ → ℕ → List Entry → ℕ → Type 0
 IsNarrowedByMask cred owner group entries want = denial_of cred owner group entries want ≡ None → denial_of cred owner group (unmasked entries) want ≡ None
 
--- no tag stands twice, so that no user and no group has two entries
+-- no tag occurs twice, so that no user and no group has two entries
 abbrev pub HasDistinctTags : List Entry → Type 0
 HasDistinctTags entries = (i j : ℕ) (d : Entry) → i < j → j < length entries → (slice_index_or entries i d).tag ≢ (slice_index_or entries j d).tag
 

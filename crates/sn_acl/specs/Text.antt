@@ -37,7 +37,7 @@ qualifier_text _ = []
 abbrev pub entry_text : Entry → List ℕ
 entry_text e = (kind_letter e.tag ∷ 58 ∷ []) ++ (qualifier_text e.tag ++ (58 ∷ permissions_text e.permissions))
 
--- each entry behind a comma
+-- each entry after a comma
 abbrev pub more_text : List Entry → List ℕ
 more_text [] = []
 more_text (e ∷ es) = 44 ∷ (entry_text e ++ more_text es)

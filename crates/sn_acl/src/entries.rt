@@ -92,7 +92,7 @@ impl Tag {
         matches!(self, Tag::Other)
     }
 
-    /// Whether the tag stands before another in canonical order.
+    /// Whether the tag comes before another in canonical order.
     pub fn precedes(self, other: Tag) -> bool
         ensures { result ≡ precedes self other }
     {

@@ -32,7 +32,7 @@ pub fn mask_narrows()
         → IsNarrowedByMask cred owner group entries want }
 {}
 
-/// No tag stands twice in a valid ACL.
+/// No tag occurs twice in a valid ACL.
 ///
 /// Proved, also of `test_is_exact`: No tag is twice in a valid ACL, and the test of an ACL passes exactly the valid ones.
 pub fn tags_are_distinct()
@@ -49,7 +49,7 @@ pub fn spelling_is_one()
     ensures { SpellingIsOne }
 {}
 
-/// Beside a MASK, setting a mode leaves GROUP_OBJ; without one it sets it. Entries with a qualifier stay.
+/// Where there is a MASK, setting a mode leaves GROUP_OBJ; without one it sets it. Entries with a qualifier stay.
 ///
 /// Proved: To set a mode leaves GROUP_OBJ where there is a MASK.
 pub fn mode_sets_three_entries()

@@ -5,7 +5,7 @@ use bitflags::{Flag, Flags, bitflag_items};
 use std::fmt;
 use std::marker::Model;
 
-// The bits of a set of rights, where bits that name no right may stand too.
+// The bits of a set of rights, where bits that name no right may be set too.
 #[derive(Clone, Copy, PartialEq, Eq, Hash)]
 struct Rights(u8);
 

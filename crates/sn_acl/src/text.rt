@@ -144,7 +144,7 @@ fn count_digits(text: &[u8]) -> usize
     text.iter().take_while(|b| b.is_ascii_digit()).count()
 }
 
-// The rights behind a colon at the front of a text.
+// The rights after a colon at the front of a text.
 fn read_permissions(text: &[u8]) -> Option<Permissions>
     ensures long { IsSome result → 4 ≤ length text.now }
     ensures only { (p : ℕ) (more : List ℕ) → p < 8 → text.now ≡ 58 ∷ (permissions_text p ++ more) → result ≡ Some p }

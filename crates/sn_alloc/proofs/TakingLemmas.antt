@@ -1,4 +1,4 @@
--- What is so of each allocator stays so when it takes a block, and when it finds none.
+-- What holds for each allocator still holds when it takes a block, and when it finds none.
 use Rattle.std.proofs.Common.{◌≡◌, ◌≢◌, ℕ, zero, suc, ◌+◌, ◌-◌, ◌<◌, ◌≤◌, List, [], ◌∷◌, ◌++◌, length, drop, get_or, cond, count_by, inl, inr, sym, ap, subst, ◌∙◌, arith, add-zero}
 use Rattle.std.specs.List.{All, Contains}
 use Rattle.std.specs.List.Sorted.{IsStrictlyIncreasing}

@@ -64,7 +64,7 @@ NoneLeft t = (block : ℕ) → IsFreeData t.words t.first block → Contains t.t
 abbrev pub free_data : List ℕ → ℕ → ℕ
 free_data words first = count_by is_free_word (drop first words)
 
--- What is so of each allocator: what it took are the free blocks of the data area below the word
+-- What holds for each allocator: what it took are the free blocks of the data area below the word
 -- at which its next search begins, in order, and the searches looked at each word below that one once.
 pub record IsTaking (t : Taking) : Type 0 where
   pub began : t.first ≤ t.next

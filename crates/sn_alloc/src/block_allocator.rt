@@ -66,9 +66,9 @@ impl BlockAllocator {
 
     /// Takes the next free block, from where the last search stopped. It takes no memory: the room
     /// comes from `reserve`. `Full` comes where every free block of the data area is taken, and the
-    /// search then stands at the end.
+    /// search is then at the end.
     ///
-    /// Proved: A taken block's word was zero, it lies in the data area and wasn't taken before; `Full` comes only where no
+    /// Proved: A taken block's word was zero, it is in the data area and wasn't taken before; `Full` comes only where no
     /// block is left.
     pub fn take(&mut self) -> Result<u32, Full>
         requires { 0 < self.old.room }
@@ -144,9 +144,9 @@ impl BlockAllocator {
         &self.map
     }
 
-    /// Gives up what was taken, and hands back the map as it was given.
+    /// Gives up what was taken, and gives back the map as it was given.
     ///
-    /// Proved: The map that is handed back when a build is given up is the one that was given.
+    /// Proved: The map that is given back when a build is given up is the one that was given.
     pub fn give_up(self) -> Map
         ensures { result ≡ self.words }
     {

@@ -2,9 +2,9 @@
 //!
 //! A `BlockAllocator` is seen as a `Taking` of `specs/Taking.antt`: the words of the map, the first
 //! block of the data area, the blocks taken so far, where the next search begins, how many words the
-//! searches looked at, and for how many more blocks there is room. A search goes on where the last one
+//! searches looked at, and for how many more blocks there is room. A search continues where the last one
 //! stopped, so no word is looked at twice, and a block is never taken twice. The map stays as it was
-//! given: its words change when the blocks come to be reached by a root.
+//! given: its words change when a root reaches the blocks.
 //!
 //! What the sources leave open is decided in `docs/DECISIONS.md`, under "The block map and the allocator".
 //!

@@ -11,7 +11,7 @@ use Rattle.sn_applies.specs.declared.reads.Standing.{Standing}
 use Rattle.sn_applies.specs.Tests.{file_names, standing_of}
 use Rattle.sn_applies.proofs.ReadLemmas.{node_seen, nothing_seen}
 
--- a test of a file and a result behind it
+-- a test of a file, and a result after it
 of_file : (tree : Tree) (number : ℕ) (b : Bool) (f : Node → Tree) → is_some (file_at tree number >>= (λ node. only_if b >>= (λ _. Some (f node)))) ≡ (is_some (file_names tree number) && b)
 of_file tree number b f = told (file_at tree number) b
   where

@@ -27,7 +27,7 @@ use Rattle.sn_applies.specs.Tests.{can_move, gives_way, has_room, is_name_in, le
 use Rattle.sn_applies.proofs.ReadLemmas.{node_seen, nothing_seen}
 use Rattle.sn_applies.proofs.TestLemmas.{replaced_tested, some_only, some_then}
 
--- the names without one that what gives way had
+-- the names without one that what is replaced had
 abbrev left_by : Tree → Link → Option ℕ → map.FinMap link_cmp ℕ
 left_by tree new None = tree.links
 left_by tree new (Some number) = map.remove tree.links new

@@ -27,7 +27,7 @@ file_names tree number = file_at tree number >>= (λ _. Some (names_for tree num
 abbrev pub is_name_in : Link → Bool
 is_name_in link = is_name link.name && not (is_hidden_name link.directory link.name)
 
--- A directory may get one more name, where so many of its names go first, and what has so many names may get one more.
+-- A directory may get one more name, where so many of its names are removed first, and what has so many names may get one more.
 abbrev pub has_room : Limits → Tree → ℕ → ℕ → ℕ → Bool
 has_room limits tree directory leaving links = is_some (directory_at tree directory) && (nat_lt (names_in tree directory - leaving) limits.names && nat_lt links limits.links)
 
@@ -51,11 +51,11 @@ abbrev pub gives_way : Tree → Kind → Option ℕ → Bool
 gives_way tree kind None = true
 gives_way tree kind (Some number) = is_kind kind (losing tree number)
 
--- a directory that is moved comes to lie in itself
+-- a directory is moved into itself
 abbrev pub lies_in_itself : Tree → Kind → ℕ → ℕ → Bool
 lies_in_itself tree kind number directory = is_directory kind && is_below tree number directory
 
--- how many names of the new directory go when a name is moved: the old one if it is there, and that of what gives way
+-- how many names of the new directory are removed when a name is moved: the old one if it is there, and that of what is replaced
 abbrev pub leaving : ℕ → ℕ → Option ℕ → ℕ
 leaving from to target = (if is_some target then 1 else 0) + (if from == to then 1 else 0)
 

@@ -7,11 +7,11 @@
 //!
 //! The way through it:
 //!
-//! 1. [`NamedTree`], a tree as it is read: beside what `Below` of `sn_overlay` has, a look-up of a name
+//! 1. [`NamedTree`], a tree as it is read: besides what `Below` of `sn_overlay` has, a look-up of a name
 //!    that is lent, how many names a directory has, and whether a directory is at or below another one.
 //! 2. `specs/Tests`: the tests that changes are made of, each in terms of what is read.
 //! 3. `proofs/TestLemmas` and `proofs/MoveLemmas`: a change can be applied exactly where its tests pass.
-//!    For a make and a rename that stands on a tree whose directories form a hierarchy.
+//!    For a make and a rename this needs a tree whose directories form a hierarchy.
 //! 4. [`applies`], which makes the tests of a change.
 //!
 //! What the sources leave open is decided in `docs/DECISIONS.md`, under "What changed since a root".

@@ -40,7 +40,7 @@ fn gives_way<T: NamedTree>(tree: &mut T, kind: Kind, target: Option<u16>) -> Res
     }
 }
 
-// Whether it is a directory that comes to lie in itself.
+// Whether it is a directory that would be moved into itself.
 fn lies_in_itself<T: NamedTree>(
     tree: &mut T,
     kind: Kind,
@@ -60,7 +60,7 @@ fn lies_in_itself<T: NamedTree>(
     }
 }
 
-// How many names of the new directory go.
+// How many names of the new directory are removed.
 fn leaving(moving: Moving) -> u32
     ensures { result ≡ leaving moving.from moving.to moving.target }
 {
@@ -124,7 +124,7 @@ fn move_number<T: NamedTree>(
     can_move(limits, tree, moving, name)
 }
 
-/// Whether a name can be moved. What has the new name gives way. Where both are names of one object,
+/// Whether a name can be moved. What has the new name is replaced. Where both are names of one object,
 /// nothing changes.
 pub(crate) fn rename<T: NamedTree>(
     limits: &Limits,

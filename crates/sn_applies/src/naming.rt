@@ -1,4 +1,4 @@
-//! Whether a name can be made, or goes.
+//! Whether a name can be made or removed.
 ghost use Rattle.std.specs.Prelude.{◌≡◌, IsTrue, IfOk, IfErr, is_some};
 ghost use Rattle.sn_applies.specs.Tests.{can_get, losing};
 ghost use Rattle.sn_model.specs.Changes.{linked, made, removed};
@@ -36,7 +36,7 @@ fn can_get<T: NamedTree>(
 }
 
 /// Whether a file or a directory can be made under a name. A file without names that has the number
-/// gives way.
+/// is replaced.
 pub(crate) fn make<T: NamedTree>(
     limits: &Limits,
     tree: &mut T,
@@ -99,7 +99,7 @@ fn can_lose<T: NamedTree>(tree: &mut T, number: u16) -> Result<bool, T::Fault>
     }
 }
 
-/// Whether a name can go: that of a file, or of a directory without names.
+/// Whether a name can be removed: that of a file, or of a directory without names.
 pub(crate) fn remove<T: NamedTree>(
     tree: &mut T,
     directory: u16,

@@ -111,7 +111,7 @@ pub(crate) fn losing<T: NamedTree>(tree: &mut T, number: u16) -> Result<Option<K
     }
 }
 
-// Whether a directory may get one more name, where so many of its names go first, and what has so many
+// Whether a directory may get one more name, where so many of its names are removed first, and what has so many
 // names may get one more.
 pub(crate) fn has_room<T: NamedTree>(
     limits: &Limits,

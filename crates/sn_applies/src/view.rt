@@ -12,7 +12,7 @@ pub trait NamedTree: Below {
     ghost use Rattle.sn_model.specs.Seen.{is_below};
     ghost use Rattle.sn_model.specs.Tree.{link_to, names_in};
 
-    /// The number that a name stands for in a directory. It is what [`Below::link`] finds, of a name
+    /// The number that a name denotes in a directory. It is what [`Below::link`] finds, of a name
     /// that is lent.
     fn number(&mut self, directory: u16, name: &[u8]) -> Result<Option<u16>, Self::Fault>
         requires { Self.holds self.old }

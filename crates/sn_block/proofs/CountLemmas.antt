@@ -41,7 +41,7 @@ later-join old mid new first second = record {
 pub later-calls : {T E : Type 0} (w y : ℕ) (r : Result T E) (old new : Status) → CountsCalls w y r old new → IsLater old new
 later-calls w y r old new counts = record { sectors = counts.sectors; failures = counts.failures; writes = counts.writes.0; syncs = counts.syncs.0; spent = counts.spent }
 
--- what has come to its end stays there
+-- what has ended stays so
 still_top : (a b : ℕ) → nat_le (2 ^ 64 - 1) a ≡ true → a ≤ b → nat_le (2 ^ 64 - 1) b ≡ true
 still_top a b is more = le-leb (2 ^ 64 - 1) b (omega (arith, leb-true (2 ^ 64 - 1) a is, more))
 

@@ -9,7 +9,7 @@ use Rattle.sn_block.specs.declared.fault.ReadFault.TheVariants.{Device, Memory}
 abbrev pub called : ℕ → ℕ → Status → Status
 called w y s = record s { writes = s.writes + w; syncs = s.syncs + y }
 
--- A later status of the same device: no count falls, the sectors stay, and what has come to its end stays there.
+-- A later status of the same device: no count falls, the sectors stay, and what has ended stays so.
 pub record IsLater (old new : Status) : Type 0 where
   pub sectors : new.sectors ≡ old.sectors
   pub failures : old.failures ≤ new.failures

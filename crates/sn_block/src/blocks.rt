@@ -61,7 +61,7 @@ impl<D: Device> Blocks<D> {
         device
     }
 
-    /// What the device tells of itself.
+    /// What the device reports of itself.
     pub fn status(&self) -> Status
         ensures { result ≡ D.status (device_of self.now) }
     {
@@ -77,10 +77,10 @@ impl<D: Device> Blocks<D> {
 
     /// Makes a block the one that `fetched` lends. It is read if it isn't kept. `Memory` comes only where
     /// memory is refused for one that isn't kept, and leaves the device as it was. `Device` comes only
-    /// where the device failed, which is counted, or has come to its end.
+    /// where the device failed, which is counted, or has ended.
     ///
     /// Proved, also of `fetched` and `read_block`: A block that is lent is the device's eight sectors, from a cache that
-    /// goes with what reads give, also after a write that failed, and lending changes nothing on the device.
+    /// agrees with what reads give, also after a write that failed, and lending changes nothing on the device.
     /// Proved, also of `read_block`: A fault says whether the device failed or memory was refused, and the counts show it.
     pub fn fetch(&mut self, number: u32) -> Result<(), ReadFault>
         requires room { 8 * number + 8 ≤ (D.status (device_of self.old)).sectors }
@@ -137,7 +137,7 @@ impl<D: Device> Blocks<D> {
     }
 
     /// Writes a stretch of whole sectors from `at` on, in their order. A fault of one ends it: those before
-    /// it are written, and those behind it aren't.
+    /// it are written, and those after it aren't.
     pub fn write_stretch(&mut self, at: u64, bytes: &[u8]) -> Result<(), Fault>
         requires whole { length bytes.now % 512 ≡ 0 }
         requires room { at + length bytes.now / 512 ≤ (D.status (device_of self.old)).sectors }

@@ -35,7 +35,7 @@ impl Cache {
         self.blocks.promote(&number)
     }
 
-    // Room for a block: of a full cache, that of the block that wasn't used for longest, which goes.
+    // Room for a block: of a full cache, that of the block that wasn't used for longest, which is dropped.
     pub(crate) fn take_room(&mut self) -> Result<Box<Block>, AllocError>
         ensures others { HasOnly (entries_of self.old) (entries_of self.new) }
     {

@@ -11,7 +11,7 @@ use std::fmt;
 /// Why a block isn't read.
 #[derive(Clone, Copy, Debug, PartialEq, Eq)]
 pub enum ReadFault {
-    /// The device has failed, or has come to its end.
+    /// The device has failed, or has ended.
     Device,
     /// There was no memory for a block that wasn't kept. The device is as it was.
     Memory,

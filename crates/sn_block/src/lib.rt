@@ -27,7 +27,7 @@
 //! as the cache does: each write passes `write_sector`, which lets those go that may rest on its block. So
 //! it is an invariant of `Blocks` that what they say is true of the blocks that reads give (`AllTell`), and
 //! the calls of other layers needn't speak of them. `has_index`, `new_index` and `keep_index` begin one,
-//! `note_names` tells it the names of the block that is lent, and by `next_block` and `next_wanted` a caller
+//! `note_names` adds to it the names of the block that is lent, and by `next_block` and `next_wanted` a caller
 //! passes over blocks which lack what it looks for (`IsSeen`). These calls leave the device and the block
 //! that is lent as they are. An index is never on the disk, and no clause says which ones are kept.
 //!

@@ -78,7 +78,7 @@ impl<D: Device> Blocks<D> {
 
     /// The names of the block that is lent become known as those of block `i` of a directory, if the
     /// directory has an index, which has the block at that number, and its bytes spell names. Where memory
-    /// is refused the index goes.
+    /// is refused the index is dropped.
     pub fn note_names(&mut self, tree: &BlockTree, i: u64)
         requires { IsSome (fetched_number self.old) }
         ensures device { device_of self.new ≡ device_of self.old }

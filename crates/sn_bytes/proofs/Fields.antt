@@ -66,7 +66,7 @@ same_numbers n a b x y fits-a fits-b e = (
   (same_fronts (number_bytes n a) (number_bytes n b) x y (length-number_bytes n a ∙ sym (length-number_bytes n b)) e).1,
 )
 
--- what was read from the front as a number, and what else stands there as one
+-- what was read from the front as a number is the only number that is spelled there
 pub number_only : (n x : ℕ) (old new : List ℕ) → x < 256 ^ n → old ≡ number_bytes n x ++ new → (number : ℕ) (rest : List ℕ) → number < 256 ^ n → old ≡ number_bytes n number ++ rest → (x ≡ number) × (new ≡ rest)
 number_only n x old new fits e number rest fits-number h = same_numbers n x number new rest fits fits-number (sym e ∙ h)
 
@@ -120,7 +120,7 @@ AreNumbers-from n (x ∷ xs) h = (h 0 (omega arith), AreNumbers-from n xs (λ i 
 
 -- ---- writing
 
--- what stands behind an offset stands behind each later one
+-- where two lists agree from an offset on, they agree from each later one on
 pub behind : (a b : List ℕ) (next n : ℕ) → next ≤ n → drop next a ≡ drop next b → drop n a ≡ drop n b
 behind a b next n le e =
     let same : next + (n - next) ≡ n = omega arith in
@@ -144,7 +144,7 @@ puts_part block bytes buf at k m next within fits len moved e =
       back = λ n le. rw e (behind (take at block ++ ((bytes ++ more) ++ after)) block next n le (new ∙ sym old));
     }
 
--- bytes that were put, and others behind them
+-- bytes that were put, and others after them
 pub puts_then : (a b c xs ys : List ℕ) (at next end : ℕ) → Puts a b at next xs → Puts b c next end ys → Puts a c at end (xs ++ ys)
 puts_then a b c xs ys at next end first second = record {
   front = second.front ∙ ap (λ (r : List ℕ). r ++ ys) first.front ∙ append_assoc (take at a) xs ys;

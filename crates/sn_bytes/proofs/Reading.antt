@@ -23,7 +23,7 @@ pub none_left : {A : Type 0} (Is : A → Type 0) (bytes : A → List ℕ) (all o
 none_left Is bytes all others left rest len ([], whole, each, e) = (whole ∙ append-nil all, e)
 none_left Is bytes all others left rest len (s ∷ more, whole, each, e) = absurd (omega (arith, ap length whole, length-append all (s ∷ more)))
 
--- one more is spelled behind the others
+-- one more is spelled after the others
 pub bytes_more : {A : Type 0} (bytes : A → List ℕ) (all : List A) (s : A) → flat_map bytes (all ++ s ∷ []) ≡ flat_map bytes all ++ bytes s
 bytes_more bytes all s = flat_map-append bytes all (s ∷ []) ∙ ap (λ (r : List ℕ). flat_map bytes all ++ r) (append-nil (bytes s))
 

@@ -7,7 +7,7 @@ use Rattle.sn_bytes.specs.Bytes.{number_bytes, numbers_bytes, zeros}
 use Rattle.sn_bytes.specs.Records.{numbers_then, AreOfWidths}
 use Rattle.sn_bytes.proofs.Fields.{same_numbers}
 
--- Whatever was read by these widths, no other numbers of them stand there, and behind them is what is left.
+-- Whatever was read by these widths, no other numbers of them are spelled there, and what is left follows them.
 pub same_records : (widths numbers others left rest : List ℕ) → AreOfWidths widths numbers → AreOfWidths widths others
     → numbers_then widths numbers left ≡ numbers_then widths others rest → (numbers ≡ others) × (left ≡ rest)
 same_records [] [] [] left rest fits fits-others e = (refl, e)

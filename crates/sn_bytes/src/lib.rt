@@ -1,8 +1,8 @@
 //! Bytes as every codec reads and writes them: numbers, zeros and lists of numbers, one after the
 //! other.
 //!
-//! The model. A `Reader` is seen as the bytes that are left, and each `put_` call writes behind the
-//! one before: `Puts` says what stands there then, and that nothing else changed. A number is
+//! The model. A `Reader` is seen as the bytes that are left, and each `put_` call writes after the
+//! one before: `Puts` says what is there then, and that nothing else changed. A number is
 //! unsigned, its lowest byte first (`number_bytes`). `numbers_then` spells a record of numbers, each
 //! of a width of its own.
 //!

@@ -170,7 +170,7 @@ impl<'a> Reader<'a> {
         }
     }
 
-    /// The next byte; `None` behind the last.
+    /// The next byte; `None` after the last.
     pub fn try_u8(&mut self) -> Option<u8>
         ensures found { IfSome result (λ number. self.old ≡ number ∷ self.new) }
         ensures only { (number : ℕ) (rest : List ℕ) → self.old ≡ number ∷ rest → (result ≡ Some number) × (self.new ≡ rest) }

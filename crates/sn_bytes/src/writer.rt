@@ -73,7 +73,7 @@ pub fn put_zeros(block: &mut [u8], at: usize, count: usize) -> usize
     next
 }
 
-/// Puts numbers one behind the other, each as four bytes, the low one first.
+/// Puts numbers one after the other, each as four bytes, the low one first.
 pub fn put_u32s(block: &mut [u8], at: usize, numbers: &[u32]) -> usize
     requires { at + 4 * length numbers.now ≤ length block.old }
     ensures bytes { Puts block.old block.new at result (numbers_bytes 4 numbers.now) }

@@ -123,14 +123,14 @@ fn sets(limits: &Limits, number: u16, ownership: Ownership) -> Outcome<'static>
     )
 }
 
-/// What umask comes to: it is told what it was.
+/// The outcome of umask: the answer is the mask before.
 pub fn umask(caller: &Session, mask: Mode) -> Outcome<'static>
     ensures { result ≡ calls.umask_outcome caller.now mask }
 {
     asks(Caller::SetsUmask(mask), Reply::Mode(caller.umask))
 }
 
-/// What chmod comes to.
+/// The outcome of chmod.
 #[tactic(auto, unfolding(sn_model::specs::AccessCalls::chmod_outcome))]
 pub fn chmod<V: TreeView>(
     limits: &Limits,
@@ -157,7 +157,7 @@ pub fn chmod<V: TreeView>(
     Ok(sets(limits, number, ownership))
 }
 
-/// What chown comes to.
+/// The outcome of chown.
 #[tactic(auto, unfolding(sn_model::specs::AccessCalls::chown_outcome))]
 pub fn chown<V: TreeView>(
     limits: &Limits,
@@ -187,10 +187,10 @@ pub fn chown<V: TreeView>(
     Ok(sets(limits, number, ownership))
 }
 
-/// What access comes to.
+/// The outcome of access.
 ///
 /// Proved, also of `getacl`, `chmod`, `chown`, `setacl` and `umask`: The outcome of a call that asks for rights or sets
-/// them, or its first refusal, is exactly the model's, over every view that tells what it shows and without a device.
+/// them, or its first refusal, is exactly the model's, over every told view and without a device.
 #[tactic(auto, unfolding(sn_model::specs::AccessCalls::access_outcome))]
 pub fn access<V: TreeView>(
     view: &mut V,
@@ -217,7 +217,7 @@ pub fn access<V: TreeView>(
     Ok(asks(Caller::Stays, Reply::Done))
 }
 
-/// What getacl tells, which a reply has to find memory for: the ACL of this kind, as it is stored.
+/// The answer of getacl, which a reply has to find memory for: the ACL of this kind, as it is stored.
 #[tactic(auto, unfolding(sn_model::specs::AccessCalls::getacl_outcome))]
 pub fn getacl<V: TreeView>(
     view: &mut V,
@@ -243,7 +243,7 @@ pub fn getacl<V: TreeView>(
     }
 }
 
-/// What setacl comes to.
+/// The outcome of setacl.
 #[tactic(auto, unfolding(sn_model::specs::AccessCalls::setacl_outcome))]
 pub fn setacl<V: TreeView>(
     limits: &Limits,

@@ -1,4 +1,4 @@
--- What unlink comes to, once a file was found under a name of a directory.
+-- The outcome of unlink, once a file was found under a name of a directory.
 use Rattle.std.specs.Prelude.{ℕ, List, Result, Ok}
 use Rattle.sn_limits.specs.declared.limits.Limits.{Limits}
 use Rattle.sn_walk.specs.declared.object.Object.{Object}
@@ -13,7 +13,7 @@ use Rattle.sn_model.specs.Calls.{last_name}
 use Rattle.sn_model.specs.FileCalls.{unlinks}
 use Rattle.sn_model.specs.Tests.{sticky, writable_parent}
 
--- a name that goes from a directory at a place: w(p); sticky
+-- a name that is removed from a directory at a place: w(p); sticky
 abbrev pub unlink_in : Limits → ViewedTrees → Session → List (List ℕ) → Object → ℕ → Found → Result Outcome Refusal
 unlink_in limits trees session names at place found = do
   parent ← writable_parent trees session.cred 1 place at

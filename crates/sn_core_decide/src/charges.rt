@@ -1,4 +1,4 @@
-//! What calls are charged: the blocks that a consistency point may take for what they come to, by the numbers
+//! What calls are charged: the blocks that a consistency point may take for their outcomes, by the numbers
 //! of the version.
 ghost use Rattle.std.specs.Prelude.{◌≡◌, ◌+◌, ◌*◌, ◌≤◌, ◌^◌};
 ghost use Rattle.sn_model.specs.FileCalls as files;
@@ -23,7 +23,7 @@ pub fn unlink_charge(limits: &Limits) -> u64
     3 * u64::from(limits.inode_charge) + u64::from(limits.block_charge)
 }
 
-/// A node is renamed: its inode, those of both directories, and what gives way to it, which may stay
+/// A node is renamed: its inode, those of both directories, and what it replaces, which may stay
 /// without a name; and the blocks of both names.
 pub fn rename_charge(limits: &Limits) -> u64
     ensures { result ≡ 5 * limits.now.inode_charge + 2 * limits.now.block_charge }
@@ -45,7 +45,7 @@ pub fn attributes_charge(limits: &Limits) -> u64
     u64::from(limits.inode_charge)
 }
 
-/// How many blocks of 4,096 bytes so many bytes lie in, from an offset on.
+/// How many blocks of 4,096 bytes so many bytes from an offset on are in.
 pub fn blocks_spanned(offset: u64, count: usize) -> u64
     ensures spanned { result ≡ files.blocks_spanned offset count }
     ensures few { result ≤ 2 ^ 53 }

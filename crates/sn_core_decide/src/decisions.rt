@@ -41,7 +41,7 @@ fn new_directory(
     }
 }
 
-/// What mkdir comes to: a new directory under a name that isn't there yet.
+/// The outcome of mkdir: a new directory under a name that isn't there yet.
 #[tactic(auto, unfolding(sn_model::specs::Calls::mkdir_outcome))]
 pub fn mkdir<'a, V: CallView>(
     limits: &Limits,
@@ -92,7 +92,7 @@ fn status_of(number: u16, a: &Attributes) -> FileStatus
     }
 }
 
-/// What stat comes to.
+/// The outcome of stat.
 #[tactic(auto, unfolding(sn_model::specs::Calls::stat_outcome))]
 pub fn stat<'a, V: TreeView>(
     view: &mut V,

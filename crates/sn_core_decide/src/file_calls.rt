@@ -53,7 +53,7 @@ fn file(found: &Found) -> Result<(Home, u16), Refusal>
     }
 }
 
-/// What the opening of a file that is there comes to.
+/// The outcome of opening a file that is there.
 fn opens_there(
     limits: &Limits,
     flags: OpenFlags,
@@ -82,7 +82,7 @@ fn opens_there(
     asks(caller, told)
 }
 
-/// What open comes to where the name is there.
+/// The outcome of open where the name is there.
 #[tactic(auto, unfolding(sn_model::specs::FileCalls::open_there))]
 fn open_there(
     limits: &Limits,
@@ -135,7 +135,7 @@ fn new_file(
     }
 }
 
-/// What open comes to where the name isn't there, in the directory that was walked to.
+/// The outcome of open where the name isn't there, in the directory that was walked to.
 fn open_in<'a, V: CallView>(
     limits: &Limits,
     view: &mut V,
@@ -171,7 +171,7 @@ fn open_in<'a, V: CallView>(
     })
 }
 
-/// What open comes to where the name isn't there: the directory of the name is known, or why there is none.
+/// The outcome of open where the name isn't there: the directory of the name is known, or why there is none.
 #[tactic(auto, unfolding(sn_model::specs::FileCalls::open_absent))]
 fn open_absent<'a, V: CallView>(
     limits: &Limits,
@@ -195,10 +195,10 @@ fn open_absent<'a, V: CallView>(
     open_in(limits, view, caller, fd, flags, mode, path, &parent, place)
 }
 
-/// What open comes to, under the descriptor that it answers.
+/// The outcome of open, under the descriptor that it answers.
 ///
 /// Proved, also of `unlink`, `mkdir` and `stat`: The outcome of a call, or its first refusal, is exactly the model's, over
-/// every view that tells what it shows and without a device.
+/// every told view and without a device.
 pub fn open<'a, V: CallView>(
     limits: &Limits,
     view: &mut V,
@@ -224,7 +224,7 @@ pub fn open<'a, V: CallView>(
     }
 }
 
-/// A name that goes from the directory that it was walked to in.
+/// A name that is removed from the directory that it was walked to in.
 fn unlink_in<'a, V: TreeView>(
     limits: &Limits,
     view: &mut V,
@@ -250,7 +250,7 @@ fn unlink_in<'a, V: TreeView>(
     Ok(does(unlink_charge(limits), removed))
 }
 
-/// What unlink comes to: a name of a file goes.
+/// The outcome of unlink: a name of a file is removed.
 #[tactic(auto, unfolding(sn_model::specs::FileCalls::unlink_outcome))]
 pub fn unlink<'a, V: TreeView>(
     limits: &Limits,

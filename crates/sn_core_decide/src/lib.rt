@@ -1,11 +1,11 @@
-//! What a call comes to, or the first test that refuses it, over any view of the trees: without a
+//! The outcome of a call, or the first test that refuses it, over any view of the trees: without a
 //! device, without a change, and without memory of its own.
 //!
 //! A decision makes a call's tests in their order, as `sn_model` lists them ([`mkdir`], [`stat`]),
-//! and answers the model's [`Outcome`](sn_model::Outcome). Beside a refusal there may be a fault of
-//! the view: then nothing is known of the call. [`CallView`] is what a decision asks beside a walk.
+//! and answers the model's [`Outcome`](sn_model::Outcome). Instead of a refusal there may be a fault of
+//! the view: then nothing is known of the call. [`CallView`] is what a decision asks besides a walk.
 //! `arguments` and `rights` have the tests, each once for all calls, `charges` what calls are charged, for the log and its
-//! replay too, and `outcomes` what most of them come to; `decisions` and `file_calls` have calls, `sn_core_access` has those
+//! replay too, and `outcomes` the outcomes of most of them; `decisions` and `file_calls` have calls, `sn_core_access` has those
 //! that ask for rights and set them, and `sn_core_names` those on names and listings.
 //!
 //! What the sources leave open is decided in `docs/DECISIONS.md`, under "Decisions of calls".

@@ -1,10 +1,10 @@
-//! What most calls come to: no change of a tree, or one and nothing else.
+//! The outcomes of most calls: no change of a tree, or one and nothing else.
 ghost use Rattle.std.specs.Prelude.{◌≡◌};
 ghost use Rattle.sn_model.specs.Outcomes.{asks, does};
 
 use sn_model::{AskedPoint, Caller, Change, Outcome, Pending, Reply};
 
-/// What a call comes to that changes no tree: what becomes of its caller, and what it is told.
+/// The outcome of a call that changes no tree: what becomes of its caller, and its answer.
 ///
 /// Proved, also of `does`: The outcome of a call that changes no tree, or makes one change and nothing else, is the model's
 /// outcome.

@@ -88,7 +88,7 @@ pub fn prefix<V: TreeView>(
     }
 }
 
-/// What the last name of a walk stands for, which has to be there: ENOENT where it is absent.
+/// What the last name of a walk denotes, which has to be there: ENOENT where it is absent.
 pub fn there<V: TreeView>(view: &mut V, walked: Walked) -> Result<Found, Failure<Refusal, V::Fault>>
     requires holds { V.holds view.old }
     requires few { end_of walked ≤ 1023 }

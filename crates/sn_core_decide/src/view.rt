@@ -1,7 +1,7 @@
 use sn_model::Refusal;
 use sn_walk::{Failure, TreeView};
 
-/// What decisions ask of the trees beside what a walk asks.
+/// What decisions ask of the trees besides what a walk asks.
 pub trait CallView: TreeView {
     ghost use Rattle.std.specs.Prelude.{◌≡◌, ℕ, IsTrue, IfOk, IfErr, Result};
     ghost use Rattle.sn_walk.specs.Gives.{Gives, IfFault};

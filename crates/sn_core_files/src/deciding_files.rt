@@ -74,7 +74,7 @@ pub fn decide_logout(sessions: &Sessions, session: u32) -> Result<Outcome<'stati
     Ok(asks(Caller::LogsOut, Reply::Done))
 }
 
-/// The outcome of unlink: the name goes, and the file once nobody has it open (POSIX.1-2017
+/// The outcome of unlink: the name is removed, and the file once nobody has it open (POSIX.1-2017
 /// `unlink`). It needs write and search in the directory, and in a sticky one ownership.
 pub fn decide_unlink<'a, V: FileView>(
     view: &mut V,
@@ -124,8 +124,8 @@ pub fn decide_open<'a, V: FileView>(
     decided(decide::open(&Limits::WRITTEN, view, caller, fd, &path, flags, mode))
 }
 
-/// The outcome of close: the descriptor goes, and with the last one of a file without names the
-/// file (POSIX.1-2017 `close`). EBADF is returned where the session has no such descriptor.
+/// The outcome of close: the descriptor is closed, and with the last one of a file without names the
+/// file is removed (POSIX.1-2017 `close`). EBADF is returned where the session has no such descriptor.
 #[tactic(auto, unfolding(sn_model::specs::FileCalls::close_outcome))]
 pub fn decide_close(sessions: &Sessions, session: u32, fd: u32) -> Result<Outcome<'static>, Refusal>
     ensures { (world : World) → Answers (λ o. o) result (decision limits_written (in_world (in_use_of sessions.now) world) session (call.Close fd)) }
@@ -232,7 +232,7 @@ pub fn decide_write<'a, V: FileView>(
 }
 
 /// The outcome of seek: the descriptor's offset, counted from the beginning of the file, which may
-/// lie past its end (POSIX.1-2017 `lseek`). EBADF is returned where the session has no such
+/// be past its end (POSIX.1-2017 `lseek`). EBADF is returned where the session has no such
 /// descriptor, EINVAL past the largest file.
 #[tactic(auto, unfolding(sn_model::specs::FileCalls::seek_outcome))]
 pub fn decide_seek(

@@ -23,7 +23,7 @@ fn is_listable(found: &Found) -> Result<(), Refusal>
     }
 }
 
-/// A directory that goes has no names: ENOTEMPTY otherwise.
+/// A directory that is removed has no names: ENOTEMPTY otherwise.
 pub(crate) fn empty<V: CallView>(
     view: &mut V,
     directory: u16,
@@ -62,7 +62,7 @@ fn may_link(limits: &Limits, found: &Found) -> Result<(), Refusal>
     Err(Refusal::plain(Errno::Emlink))
 }
 
-/// A directory that goes from the one that its name was walked to in.
+/// A directory that is removed from the one that its name was walked to in.
 fn rmdir_in<'a, V: CallView>(
     limits: &Limits,
     view: &mut V,
@@ -92,7 +92,7 @@ fn rmdir_in<'a, V: CallView>(
     ))
 }
 
-/// What rmdir comes to: an empty directory goes.
+/// The outcome of rmdir: an empty directory is removed.
 #[tactic(auto, unfolding(sn_model::specs::NameCalls::rmdir_outcome))]
 pub fn rmdir<'a, V: CallView>(
     limits: &Limits,
@@ -145,10 +145,10 @@ fn link_in<'a, V: CallView>(
     ))
 }
 
-/// What link comes to: a file gets one more name.
+/// The outcome of link: a file gets one more name.
 ///
 /// Proved, also of `rename`, `rmdir` and `readdir`: The outcome of a call on names, or its first refusal, is exactly the
-/// model's, over every view that tells what it shows and without a device.
+/// model's, over every told view and without a device.
 #[tactic(auto, unfolding(sn_model::specs::NameCalls::link_outcome))]
 pub fn link<'a, V: CallView>(
     limits: &Limits,
@@ -173,7 +173,7 @@ pub fn link<'a, V: CallView>(
     link_in(limits, view, caller, new, &found, number, &parent, place)
 }
 
-/// The directory whose names readdir tells, for which a reply has to find memory.
+/// The directory whose names readdir lists, for which a reply has to find memory.
 #[tactic(auto, unfolding(sn_model::specs::NameCalls::readdir_outcome))]
 pub fn readdir<V: CallView>(
     view: &mut V,

@@ -1,8 +1,8 @@
-//! What the calls on names and listings come to, or the first test that refuses them: rmdir, link, rename and
+//! The outcomes of the calls on names and listings, or the first test that refuses them: rmdir, link, rename and
 //! readdir, over any view of the trees, without a device, without a change, and without memory of their own.
 //!
-//! They stand on the tests of `sn_core_decide`, which has the other calls, and answer as `sn_model` lists the
-//! tests of each (`specs/NameCalls` there). [`MoveView`] is what [`rename`] asks beside: whether a directory is
+//! They build on the tests of `sn_core_decide`, which has the other calls, and answer as `sn_model` lists the
+//! tests of each (`specs/NameCalls` there). [`MoveView`] is what [`rename`] asks besides: whether a directory is
 //! below another. `calls` has rmdir, link and readdir, `renaming` has rename.
 //!
 //! What the sources leave open is decided in `docs/DECISIONS.md`, under "Decisions of calls".

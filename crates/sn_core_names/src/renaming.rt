@@ -41,7 +41,7 @@ fn is_one(moving: &Moving) -> bool
     }
 }
 
-/// The new name doesn't lie below what is moved: EINVAL otherwise.
+/// The new name isn't below what is moved: EINVAL otherwise.
 fn not_below<V: MoveView>(view: &mut V, moving: &Moving) -> Result<(), Failure<Refusal, V::Fault>>
     requires { V.holds view.old }
     ensures kept { V.holds view.new }
@@ -72,7 +72,7 @@ fn alike(kind: Kind, replaced: Kind) -> Result<(), Refusal>
     }
 }
 
-/// What has the new name gives way to what is moved: EPERM by `sticky` at its place, ENOTDIR, EISDIR or
+/// What has the new name is replaced by what is moved: EPERM by `sticky` at its place, ENOTDIR, EISDIR or
 /// ENOTEMPTY otherwise.
 fn gives_way<V: CallView>(
     view: &mut V,
@@ -98,7 +98,7 @@ fn gives_way<V: CallView>(
     }
 }
 
-/// Room for one more name, where no other goes from the directory: ELIMIT otherwise.
+/// Room for one more name, where no other is removed from the directory: ELIMIT otherwise.
 fn room_to_move<V: CallView>(
     view: &mut V,
     moving: &Moving,
@@ -205,7 +205,7 @@ fn moved_in<'a, V: CallView>(
     ))
 }
 
-/// What a rename comes to that moves a name.
+/// The outcome of a rename that moves a name.
 #[tactic(auto, unfolding(sn_model::specs::NameCalls::moved_outcome))]
 fn moved<'a, V: MoveView>(
     limits: &Limits,
@@ -231,7 +231,7 @@ fn moved<'a, V: MoveView>(
     moved_in(limits, view, caller, old, new, moving, &from, &to)
 }
 
-/// What rename comes to: a name is exchanged for another, and what had that goes. Where both are of one
+/// The outcome of rename: a name is exchanged for another, and what had that is removed. Where both are of one
 /// file or of one directory nothing is done.
 #[tactic(auto, unfolding(sn_model::specs::NameCalls::rename_outcome))]
 pub fn rename<'a, V: MoveView>(

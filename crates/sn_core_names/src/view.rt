@@ -1,8 +1,8 @@
 use sn_core_decide::CallView;
 
-/// What a decision that moves names asks beside.
+/// What a decision that moves names asks besides.
 ///
-/// Proved: Whether a directory lies below another is asked of the view.
+/// Proved: Whether a directory is below another is asked of the view.
 pub trait MoveView: CallView {
     ghost use Rattle.std.specs.Prelude.{◌≡◌, IsTrue, IfOk, IfErr};
 

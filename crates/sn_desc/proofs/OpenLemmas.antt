@@ -12,7 +12,7 @@ use Rattle.sn_desc.specs.InUse.{HasOpen, descriptor_of, descriptors_in}
 use Rattle.sn_desc.specs.OpenFiles.{IsOpenIn}
 use Rattle.sn_desc.proofs.SeatLemmas.{get_seated, get_far}
 
--- behind the last seat nothing is open
+-- after the last seat nothing is open
 pub none_past : (files : List (Option OpenFile)) (home : Home) (seat : ℕ) → length files ≤ seat → IsOpenIn home (get_or files seat None) → ⊥
 none_past files home seat past open_there = subst (IsOpenIn home) (get_or_past files seat None past) open_there
 

@@ -17,7 +17,7 @@ use Rattle.sn_desc.specs.InUse.{live_in}
 use Rattle.sn_desc.specs.Closing.{AreReleased, LostTheLast, pushed, released_if}
 use Rattle.sn_model.proofs.HeldLemmas.{descriptors_total, exact_descriptors, held_count, is_holder}
 
--- one descriptor goes
+-- one descriptor is closed
 module _ (table : Descriptors) (k : ℕ × ℕ) where
   abbrev left : Descriptors
   left = map.remove table k
@@ -42,7 +42,7 @@ module _ (table : Descriptors) (k : ℕ × ℕ) where
   pub still_held : (number : ℕ) → is_held_in left number ≡ true → is_held_in table number ≡ true
   still_held number e = held_by table number (omega (arith, balance number, some_held left number e))
 
-  -- a file of which the descriptor that went was the last is told
+  -- a file whose last descriptor went is reported
   told_home : (number : ℕ) (home : Home) (other : ℕ) → is_held_in left number ≡ false → 0 < cond (is_of_live number home other) 1 0 → released_at left home other ≡ Some number
   told_home number Live other none some = split (other == number) refl
     where
@@ -65,7 +65,7 @@ module _ (table : Descriptors) (k : ℕ × ℕ) where
           let here : parts number (map.get table k) ≡ cond (is_of_live number d.home d.number) 1 0 = ap (parts number) e in
           ap (released_if left) e ∙ told_home number d.home d.number lost.1 (omega (arith, here, count_share))
 
-  -- and what is told is such a file
+  -- and what is reported is such a file
   last_home : (number : ℕ) (home : Home) (other : ℕ) → released_at left home other ≡ Some number → (is_held_in left number ≡ false) × (is_of_live number home other ≡ true)
   last_home number Live other e = split (is_held_in left other) refl
     where
@@ -104,7 +104,7 @@ module _ (old table : Descriptors) (k : ℕ × ℕ) (numbers : List ℕ) (h : Ar
       split true f = absurd (true≢false (sym (still_held table k number f) ∙ e))
       split false f = f
 
-  -- nothing is told
+  -- nothing is reported
   pub no_more : released_if rest (map.get table k) ≡ None → AreReleased old rest numbers
   no_more none = record {
     each = λ number. (
@@ -118,7 +118,7 @@ module _ (old table : Descriptors) (k : ℕ × ℕ) (numbers : List ℕ) (h : Ar
       split number lost true e = let never : None ≡ Some number = sym none ∙ told_last table k number (e, lost.1) in absurd cc
       split number lost false e = (h.each number).1 (lost.0, e)
 
-  -- a file is told
+  -- a file is reported
   pub one_more : (told : ℕ) → released_if rest (map.get table k) ≡ Some told → AreReleased old rest (numbers ++ told ∷ [])
   one_more told is = record {
     each = λ number. (λ c. to number (Contains-push_cases numbers told number c), λ lost. from number lost (is_held_in table number) refl);
@@ -137,7 +137,7 @@ module _ (old table : Descriptors) (k : ℕ × ℕ) (numbers : List ℕ) (h : Ar
           rw same (Contains-push numbers told)
       from number lost false e = Contains-append_left numbers (told ∷ []) number ((h.each number).1 (lost.0, e))
 
--- what is told is put behind the others
+-- what is reported is put after the others
 pub more_released : (old table new : Descriptors) (session fd : ℕ) (numbers more : List ℕ) (told : Option ℕ) → AreReleased old table numbers → ((number : ℕ) → is_held_in table number ≡ true → is_held_in old number ≡ true)
     → new ≡ closed table session fd → told ≡ released_if (closed table session fd) (map.get table (session, fd)) → more ≡ pushed numbers told → AreReleased old new more
 more_released old table new session fd numbers more told h was is_new is_told is_more =
@@ -162,7 +162,7 @@ pushed_few numbers more (Some n) fd is few = omega (arith, ap length is, length-
 abbrev is_of_live_file : (ℕ × ℕ) × Descriptor → Bool
 is_of_live_file e = is_live e.1.home
 
--- what a close tells had a descriptor of a live file
+-- what a close reports had a descriptor of a live file
 told_live : (left : Descriptors) (found : Option Descriptor) (number : ℕ) → released_if left found ≡ Some number → (d : Descriptor) × (found ≡ Some d) × (is_live d.home ≡ true)
 told_live left None number e = let never : None ≡ Some number = e in absurd cc
 told_live left (Some d) number e = (d, refl, of_home d.home e)
@@ -171,7 +171,7 @@ told_live left (Some d) number e = (d, refl, of_home d.home e)
     of_home Live f = refl
     of_home (Frozen name) f = let never : None ≡ Some number = f in absurd cc
 
--- each file that is told has one fewer
+-- each file that is reported has one fewer
 pub closed_live : (table : Descriptors) (k : ℕ × ℕ) (number : ℕ) → released_if (map.remove table k) (map.get table k) ≡ Some number → live_in (map.remove table k) + 1 ≡ live_in table
 closed_live table k number e =
     let d = told_live (map.remove table k) (map.get table k) number e in

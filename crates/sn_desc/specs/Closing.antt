@@ -1,4 +1,4 @@
--- What a close and a logout tell: the live files that no descriptor has any more.
+-- What a close and a logout report: the live files that no descriptor has any more.
 use Rattle.std.specs.Prelude.{◌≡◌, ◌≢◌, ◌↔◌, ℕ, true, false, List, [], ◌∷◌, ◌++◌, Option, None, Some, Result, Ok, AllPairs, Contains}
 use Rattle.sn_model.specs.declared.reply.Refusal.{Refusal}
 use Rattle.sn_model.specs.Descriptors.{Descriptors, closed, descriptor_at, is_held_in, released}

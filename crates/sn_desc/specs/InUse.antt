@@ -11,7 +11,7 @@ use Rattle.sn_desc.specs.Holders.{is_live}
 abbrev pub descriptor_of : OpenFile → Descriptor
 descriptor_of f = record { home = f.home; number = f.number; readable = f.readable; writable = f.writable; appends = f.appends; offset = f.offset }
 
--- the descriptors whose files lie at seats from one on: each session has 64 seats
+-- the descriptors whose files are at seats from one on: each session has 64 seats
 unfoldable pub seated_from : ℕ → List (Option OpenFile) → Descriptors
 seated_from seat [] = map.empty
 seated_from seat (None ∷ rest) = seated_from (seat + 1) rest

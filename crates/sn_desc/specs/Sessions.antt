@@ -1,4 +1,4 @@
--- What the sessions in memory stand for.
+-- What the sessions in memory denote.
 use Rattle.sn_desc.specs.InUse.{InUse, descriptors_in}
 use Rattle.sn_desc.specs.OpenFiles.{files_of, room_of}
 use Rattle.sn_desc.specs.declared.sessions.Sessions.{Sessions}

@@ -1,6 +1,6 @@
 //! Who is logged in, and what each session has open.
 //!
-//! [`Sessions`] stands for the maps of the model (`in_use_of` in `specs/Sessions`): who is logged in, by
+//! [`Sessions`] denotes the maps of the model (`in_use_of` in `specs/Sessions`): who is logged in, by
 //! the number of the session, and the descriptors, by session and number. Each call is exact over these maps.
 //!
 //! All memory for sessions and descriptors is taken when [`Sessions`] is made, and the room for

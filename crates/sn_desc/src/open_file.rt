@@ -2,7 +2,7 @@ ghost use Rattle.std.specs.Prelude.{◌≡◌, ◌↔◌, IsTrue};
 
 use sn_walk::Home;
 
-/// A file that is open: what open() makes, and a descriptor stands for.
+/// A file that is open: what open() makes and a descriptor denotes.
 #[derive(Drop)]
 pub struct OpenFile {
     pub home: Home,

@@ -40,7 +40,7 @@ impl OpenFiles {
         })
     }
 
-    /// The file that is open at a seat; `None` also behind the last seat.
+    /// The file that is open at a seat; `None` also past the last seat.
     pub fn get(&self, seat: usize) -> Option<&OpenFile>
         ensures { option_copied result ≡ slice_index_or (files_of self.now) seat None }
     {
@@ -116,7 +116,7 @@ impl OpenFiles {
         self.seats.put(seat, file);
     }
 
-    /// Closes what is at a seat, and tells the live file that this was the last descriptor of.
+    /// Closes what is at a seat, and returns the live file whose last descriptor this was.
     pub fn close(&mut self, seat: usize) -> Option<u16>
         ensures files { files_of self.new ≡ slice_set (files_of self.old) seat None }
         ensures released { result ≡ released_file (files_of self.new) (slice_index_or (files_of self.old) seat None) }

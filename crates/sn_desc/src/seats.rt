@@ -37,7 +37,7 @@ impl Seats {
         }
     }
 
-    /// The file that is open at a seat; `None` also behind the last seat.
+    /// The file that is open at a seat; `None` also past the last seat.
     pub fn get(&self, seat: usize) -> Option<&OpenFile>
         ensures { option_copied result ≡ slice_index_or (files_at self.now) seat None }
     {

@@ -67,7 +67,7 @@ fn set_mask(slot: &mut Option<Session>, mask: Mode)
     }
 }
 
-/// Puts a number behind a list, if there is one.
+/// Appends a number to a list, if there is one.
 fn push_some(released: &mut Released, number: Option<u16>)
     requires { array_vec_len released.old < 64 }
     ensures { released.new.items ≡ pushed released.old.items number }
@@ -231,7 +231,7 @@ impl Sessions {
         }
     }
 
-    /// Closes a descriptor, if it is open, and tells the live file that no descriptor has any more.
+    /// Closes a descriptor, if it is open, and returns the live file that no descriptor has any more.
     pub fn close_if_open(&mut self, session: u32, fd: u32) -> Option<u16>
         ensures in_use { in_use_of self.new ≡ record (in_use_of self.old) { descriptors = closed (in_use_of self.old).descriptors session fd; room = (in_use_of self.new).room } }
         ensures released { result ≡ released_if (closed (in_use_of self.old).descriptors session fd) (finite.get (in_use_of self.old).descriptors (session, fd)) }
@@ -240,7 +240,7 @@ impl Sessions {
         self.files.close(seat_of(session, fd)?)
     }
 
-    /// Closes a descriptor, and tells the live file that no descriptor has any more. It is EBADF where
+    /// Closes a descriptor, and returns the live file that no descriptor has any more. It is EBADF where
     /// nothing is open, and then nothing changes.
     pub fn close(&mut self, session: u32, fd: u32) -> Result<Option<u16>, Refusal>
         ensures told { result ≡ closing (in_use_of self.old).descriptors session fd }
@@ -295,7 +295,7 @@ impl Sessions {
         released
     }
 
-    /// Logs a session out and closes all that it has open, and tells the live files that no descriptor
+    /// Logs a session out and closes all that it has open, and returns the live files that no descriptor
     /// has any more.
     pub fn logout(&mut self, session: u32) -> Released
         ensures in_use { in_use_of self.new ≡ record (in_use_of self.old) { sessions = slice_set (in_use_of self.old).sessions session None; descriptors = without_session (in_use_of self.old).descriptors session; room = (in_use_of self.new).room } }

@@ -246,7 +246,7 @@ module _ (F : ℕ → Type 0) where
       (λ now. MayLeave-before old.present old.present c whole (TouchesOnly-refl F old.present) (CrashSince_clock old c now))
       (CrashSince-follows run.since old new (clock old) c run.follows (omega arith) since)
 
-  -- where P turns into Q whatever the set comes to hold, each content since has Q
+  -- where P becomes Q with any bytes in the set, each content since has Q
   pub LeavesOnly-torn : (P Q : Contents → Type 0) → ((c d : Contents) → AreSectors c → AreSectors d → AgreesOutside F c d → P c → Q d)
       → (old new : Disk) → AreSectors (reads old) → Always old P → Touches F old new → LeavesOnly old new Q
   LeavesOnly-torn P Q turns old new whole here run = record {

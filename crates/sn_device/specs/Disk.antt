@@ -12,7 +12,7 @@ pub record Disk : Type 0 where
   pub present : Moment
   pub past : List Moment
 
--- each write and each sync, failed or not, moves the clock on by one
+-- each write and each sync, failed or not, advances the clock by one
 abbrev pub clock : Disk → ℕ
 clock d = length d.past
 
@@ -58,6 +58,6 @@ abbrev pub MayLeaveAtOne : List Moment → Contents → Type 0
 MayLeaveAtOne [] c = ⊥
 MayLeaveAtOne (m ∷ ms) c = MayLeave m c ⊎ MayLeaveAtOne ms c
 
--- what a crash at some moment since the clock stood at t might have left, or may leave now
+-- what a crash at some moment since the clock was t might have left, or may leave now
 abbrev pub CrashSince : Disk → ℕ → Contents → Type 0
 CrashSince d t c = MayLeaveAtOne (d.present ∷ take (clock d - t) d.past) c

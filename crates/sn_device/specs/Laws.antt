@@ -12,7 +12,7 @@ NowCounts = (d : Disk) (t : ℕ) (c : Contents) → CrashNow d c → CrashSince 
 abbrev pub OnlyNow : Type 0
 OnlyNow = (d : Disk) (c : Contents) → CrashSince d (clock d) c → CrashNow d c
 
--- A write or a sync moves the clock on by one.
+-- A write or a sync advances the clock by one.
 abbrev pub ClockMovesOn : Type 0
 ClockMovesOn = (d : Disk) (m : Moment) → clock (next d m) ≡ clock d + 1
 
@@ -29,7 +29,7 @@ WriteTears = (at : ℕ) (bytes : List ℕ) (m : Moment) (c : Contents)
 abbrev pub SyncSettles : Type 0
 SyncSettles = (m : Moment) (c : Contents) → AreSectors m.sectors → MayLeave (synced m) c ↔ (c ≡ m.sectors)
 
--- A crash in the course of calls that write a stretch of sectors may leave any bytes in those, beside what was unsynced.
+-- A crash in the course of calls that write a stretch of sectors may leave any bytes in those and in what was unsynced.
 abbrev pub StretchTears : Type 0
 StretchTears = (at n : ℕ) (old new : Disk) (c : Contents) → Touches (Stretch at n) old new → CrashSince new (clock old) c
     → AgreesOutside (Union (Stretch at n) (Contains old.present.unsynced)) old.present.sectors c
@@ -39,7 +39,7 @@ abbrev pub TouchesTear : Type 0
 TouchesTear = (touched : List ℕ) (old new : Disk) (c : Contents) → AreSectors (reads old) → Touches (Contains touched) old new → CrashSince new (clock old) c
     → (d : Contents) × CrashNow old d × AgreesOutside (Contains touched) d c
 
--- A test of other sectors than those touched, which every content passed that a crash could leave, goes on to be passed by every one.
+-- A test of other sectors than those touched, which every content passed that a crash could leave, is still passed by every one.
 abbrev pub OthersAreKept : Type 0
 OthersAreKept = (touched others : List ℕ) (test : Contents → Bool) (old new : Disk) → AreSectors (reads old) → AreDisjoint (Contains touched) (Contains others)
     → DependsOn (Contains others) (λ c. IsTrue (test c)) → Always old (λ c. IsTrue (test c)) → Touches (Contains touched) old new → Always new (λ c. IsTrue (test c))

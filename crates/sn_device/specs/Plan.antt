@@ -1,4 +1,4 @@
--- The faults that a device in memory is told to answer with.
+-- The faults that a device in memory is set to answer with.
 use Rattle.std.specs.Prelude.{ℕ, zero, suc, Bool, true, false, ◌||◌, Option, None, Some, if◌then◌else◌}
 use Rattle.sn_device.specs.declared.plan.Plan.{Plan}
 use Rattle.sn_device.specs.declared.plan.Stop.{Stop}

@@ -1,4 +1,4 @@
--- What a device tells of itself besides its bytes.
+-- What a device reports of itself besides its bytes.
 use Rattle.std.specs.Prelude.{◌≡◌, ◌⊎◌, ◌+◌, ◌-◌, ◌^◌, ◌<◌, ℕ, Bool, true, false, ◌||◌, nat_le, IsTrue, Result, IsErr, OnOk, OnErr, MatchBool}
 use Rattle.sn_device.specs.declared.status.Status.{Status}
 
@@ -38,6 +38,6 @@ pub record CountsOrEnds {T E : Type 0} (called : Status → Status) (result : Re
   pub failed : OnErr result (MatchBool (has_ended old) (new ≡ old) ((new ≡ one_failure (called old)) ⊎ (new ≡ spent old)))
   pub ended : IsTrue (has_ended old) → IsErr result
 
--- a fault has a cause: the count of failures rose, or the device has come to its end
+-- a fault has a cause: the count of failures rose, or the device has ended
 abbrev pub HasCause : {T E : Type 0} → Result T E → Status → Status → Type 0
 HasCause result old new = OnErr result ((old.failures < new.failures) ⊎ IsTrue (has_ended new))

@@ -25,7 +25,7 @@ pub trait Device {
     /// What is on the device, now and at each earlier moment.
     ghost disk: { Self → Disk };
 
-    /// The number of sectors, the counts, and whether the device has come to its end.
+    /// The number of sectors, the counts, and whether the device has ended.
     fn status(&self) -> Status
         ensures { result ≡ status self.now };
 

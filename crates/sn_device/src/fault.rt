@@ -3,7 +3,7 @@ ghost use Rattle.std.specs.Prelude.{codes, Some};
 use std::error::Error;
 use std::fmt;
 
-/// The device has failed, or has come to its end.
+/// The device has failed, or has ended.
 #[derive(Clone, Copy, Debug, PartialEq, Eq)]
 pub struct Fault;
 

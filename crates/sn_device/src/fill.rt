@@ -21,7 +21,7 @@ pub enum Fill {
     /// Every byte a5.
     Junk,
     /// Each sector in one of these five ways or with random bytes, as a `Pcg32` of this state draws
-    /// that went on by 129 words for each sector before it: one word for the way, and 128 for the
+    /// that was advanced by 129 words for each sector before it: one word for the way, and 128 for the
     /// bytes. So one seed always leaves the same.
     Seeded(u64),
 }

@@ -6,13 +6,13 @@
 //! last sync that succeeded. Each write and each sync, failed or not, leads to one more moment,
 //! so the number of past moments is the clock. A crash at a moment may leave any bytes in its
 //! unsynced sectors and leaves every other sector as reads give it (`MayLeave`). `CrashNow` is
-//! this for the present moment, and `CrashSince` for some moment since the clock stood at t, so
+//! this for the present moment, and `CrashSince` for some moment since the clock was t, so
 //! that a clause can speak of each moment inside a call. `Always` says that every content which a
 //! crash may leave now has a property, `reads` is what reads give, and `IsSynced` that a crash
 //! leaves that and nothing else.
 //!
-//! What every device tells, also one that doesn't tell its bytes, is its `Status`: the number of
-//! its sectors, the counts of its failures, writes and syncs, and whether it has come to its end.
+//! What every device reports, also one that doesn't tell its bytes, is its `Status`: the number of
+//! its sectors, the counts of its failures, writes and syncs, and whether it has ended.
 //! A fault comes only with one more failure, or at the end. Every clause on bytes and crashes has
 //! the premise `IsTrue tells_bytes`.
 //!
@@ -24,11 +24,11 @@
 //!   written). `proofs/CrashLemmas.antt` carries both over calls, calls in a row and loops. A clause
 //!   on crashes rests on three of its lemmas: `CrashSince-before` (what a crash since a moment may
 //!   leave is what one at that moment may leave, with any bytes in the sectors touched since),
-//!   `Always-kept` (what always holds and depends on other sectors goes on to hold) and
+//!   `Always-kept` (what always holds and depends on other sectors still holds) and
 //!   `Always-synced` (after a sync, what reads give is all). `proofs/CallLemmas.antt` has one for each
 //!   call, `proofs/SectorLemmas.antt` those on sets of sectors, and `proofs/StatusLemmas.antt`
 //!   those on the counts.
-//! - `MemDevice` keeps all this in memory. It can be told to fail, and it can crash, with one `Fill`
+//! - `MemDevice` keeps all this in memory. It can be set to fail, and it can crash, with one `Fill`
 //!   for all sectors that weren't synced, or for each of them one that a seed draws.
 //! - An example of a layer over any device is the journal of two sectors, a body and a gate, that the crate
 //!   `sn_tests_disk` proves and runs. Its writer is

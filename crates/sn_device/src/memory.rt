@@ -1,4 +1,4 @@
-//! A device in memory. It keeps a record of its writes and syncs, from which its past can be told.
+//! A device in memory. It keeps a record of its writes and syncs, from which its past can be reconstructed.
 ghost use Rattle.std.specs.Prelude.{◌≡◌, ◌⊎◌, ◌+◌, ◌-◌, ◌<◌, ◌^◌, true, length, replicate, slice_range, EachIndex, ◌*◌, ◌/◌, reverse, Contains, IfSome, IfOk, IsErr, IsTrue, IsFalse, ◌||◌, Some, OnOk, OnErr, ◌↔◌};
 ghost use Rattle.sn_device.specs.Sectors.{AreSectors, IsSector, sector_at};
 ghost use Rattle.sn_device.specs.Status.{has_ended, uncalled, restarted, one_write, one_sync, Counts, CountsOrEnds};
@@ -20,9 +20,9 @@ enum Entry {
     FailedSync,
 }
 
-/// A device in memory, which can be told to fail, and to crash. It takes 512 bytes a sector, and
+/// A device in memory, which can be set to fail, and to crash. It takes 512 bytes a sector, and
 /// as many and a few more for each write that its record keeps: where that can't grow the device
-/// has come to its end for good. What a crash may leave of it is all that the model allows.
+/// has ended for good. What a crash may leave of it is all that the model allows.
 ///
 /// Proved: The device in memory keeps the contract of a device and faults exactly where it is asked to.
 #[derive(Drop)]
@@ -209,7 +209,7 @@ impl Device for MemDevice {
         ensures unread { OnErr result (sector.new ≡ sector.old) }
         ensures same { disk_of self.new ≡ disk_of self.old }
 
-        // It fails exactly where it is told to.
+        // It fails exactly where its plan says so.
         ensures answer { IsErr result
             ↔ IsTrue (has_ended (status_of self.old) || is_due (plan_of self.old)) }
         ensures plan { IsFalse (has_ended (status_of self.old))
@@ -235,7 +235,7 @@ impl Device for MemDevice {
         ensures idle { IsTrue (has_ended (status_of self.old))
             → disk_of self.new ≡ disk_of self.old }
 
-        // It fails where it is told to, and where the record can't grow. After a failure too, reads
+        // It fails where its plan says so, and where the record can't grow. After a failure too, reads
         // give what was to be written.
         ensures due { IsTrue (is_write_due (plan_of self.old)) → IsErr result }
         ensures no_other { OnErr result (IsTrue (has_ended (status_of self.old)
@@ -271,7 +271,7 @@ impl Device for MemDevice {
         ensures idle { IsTrue (has_ended (status_of self.old))
             → disk_of self.new ≡ disk_of self.old }
 
-        // It fails where it is told to, and where the record can't grow.
+        // It fails where its plan says so, and where the record can't grow.
         ensures due { IsTrue (is_due (plan_of self.old)) → IsErr result }
         ensures no_other { OnErr result (IsTrue (has_ended (status_of self.old)
             || is_due (plan_of self.old) || (status_of self.new).is_spent)) }

@@ -1,4 +1,4 @@
-//! The faults that a device in memory is told to answer with.
+//! The faults that a device in memory is set to answer with.
 
 /// When writes stop succeeding.
 #[derive(Clone, Copy, PartialEq, Eq)]

@@ -1,4 +1,4 @@
-//! The counts of a device, and whether it has come to its end.
+//! The counts of a device, and whether it has ended.
 ghost use Rattle.std.specs.Prelude.{◌≡◌, ◌+◌, ◌^◌, ◌<◌, false};
 ghost use Rattle.sn_device.specs.Status.{has_ended, uncalled, one_failure, one_write, one_sync, spent};
 
@@ -12,7 +12,7 @@ pub struct Status {
     pub writes: u64,
     /// The syncs, failed or not.
     pub syncs: u64,
-    /// The device has come to its end though no count is at its top, since what it keeps of its
+    /// The device has ended though no count is at its top, since what it keeps of its
     /// calls couldn't grow.
     pub is_spent: bool,
 }
@@ -38,7 +38,7 @@ impl Status {
         self.is_spent || self.failures == u64::MAX || self.writes >= u64::MAX - self.syncs
     }
 
-    /// Counts a call that is answered with a fault, beside the count of the call itself.
+    /// Counts a call that is answered with a fault, besides the count of the call itself.
     pub fn count_failure(&mut self)
         requires { self.old.failures + 1 < 2 ^ 64 }
         ensures { self.new ≡ one_failure self.old }
@@ -62,7 +62,7 @@ impl Status {
         self.syncs += 1;
     }
 
-    /// The device has come to its end: what it keeps of its calls couldn't grow.
+    /// The device has ended: what it keeps of its calls couldn't grow.
     pub fn spend(&mut self)
         ensures { self.new ≡ spent self.old }
     {

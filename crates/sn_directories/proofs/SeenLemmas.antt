@@ -1,4 +1,4 @@
--- What is seen of a number tells whether it is a directory's.
+-- What is seen of a number shows whether it is a directory's.
 use Rattle.std.proofs.Common.{◌≡◌, ℕ, Bool, true, false, ◌&&◌, Option, Some, None, IsSomeAnd, is_some, refl, sym, ap, ◌∙◌}
 use Rattle.std.specs.Option.{option_map}
 use Rattle.std.specs.FinMap as map

@@ -1,4 +1,4 @@
--- A table beside a tree in which names come and go.
+-- A table beside a tree in which names are added and removed.
 use Rattle.std.proofs.Common.{◌≡◌, ◌≢◌, ◌⊎◌, inl, inr, ℕ, ◌+◌, ◌-◌, ◌^◌, ◌<◌, ◌==◌, Bool, cond, min, List, None, Some, sym, ap, subst, ◌∙◌, arith, eq-eqb, eqb-true}
 use Rattle.std.specs.Cmp.{nat_cmp_total}
 use Rattle.std.specs.FinMap as map
@@ -30,9 +30,9 @@ same_once a b e = ap {B = ℕ} (λ (t : Bool). cond t 1 0) (eq-eqb a b e)
 other_none : (a b : ℕ) → (a ≡ b → ⊥) → once a b ≡ 0
 other_none a b d = ap {B = ℕ} (λ (t : Bool). cond t 1 0) (false_from_ne_true (a == b) (λ e. d (eqb-true a b e)))
 
--- ---- names that come and go
+-- ---- names that are added and removed
 
--- a name goes
+-- a name is removed
 module _ (tree : Tree) (link : Link) (number : ℕ) (old new : List Counted) (tells : TellsDirectories tree old) (named : map.get tree.links link ≡ Some number) where
   pub loses : (names : ℕ) → names ≡ (counted_at old link.directory).names - 1 → SetsNames link.directory names old new → TellsDirectories (take_link tree link) new
   loses count is sets = record { names = names; parents = parents }

@@ -1,4 +1,4 @@
--- When a table tells the directories of a tree.
+-- When a table records the directories of a tree.
 use Rattle.std.specs.Prelude.{◌≡◌, ◌≢◌, ℕ, Bool, false, List, Option, None, Some, slice_index_or}
 use Rattle.std.specs.FinMap as map
 use Rattle.sn_limits.specs.declared.kind.Kind.TheVariants.{Directory}
@@ -45,7 +45,7 @@ abbrev pub is_directory_seen : Option SeenNode → Bool
 is_directory_seen None = false
 is_directory_seen (Some node) = is_directory node.kind
 
--- A layer lies over a tree; what is seen through it is a name tree, and the table tells its directories.
+-- A layer lies over a tree; what is seen through it is a name tree, and the table records its directories.
 pub record IsShown (layer : Layer) (below : Tree) (rows : List Counted) : Type 0 where
   pub lies : LiesOver layer below
   pub whole : IsTree limits_written (through layer below)

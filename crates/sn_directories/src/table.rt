@@ -20,7 +20,7 @@ const NUMBERS: usize = 65536;
 /// More than there are names in any tree.
 const STEPS: u32 = u32::MAX;
 
-/// What is known of a number beside its node.
+/// What is known of a number besides its node.
 #[derive(Clone, Copy)]
 pub struct Counted {
     // How many names there are in the directory, none in a file.
@@ -101,8 +101,8 @@ impl Directories {
 
     /// A number gets a name in a directory, and has no other one if it is a directory's.
     ///
-    /// Proved, also of `Directories::lose`: A table that has the directories of a tree still has them where a name comes or
-    /// goes.
+    /// Proved, also of `Directories::lose`: A table that has the directories of a tree still has them where a name is added or
+    /// removed.
     pub fn gain(&mut self, directory: u16, number: u16)
         ensures { (tree : Tree) (link : Link) → TellsDirectories tree self.old → link.directory ≡ directory → fin.get tree.links link ≡ None
             → names_in tree directory < 65535 → (HasKind tree number Directory → names_for tree number ≡ 0)

@@ -14,7 +14,7 @@ status_of d = d.status
 abbrev pub block_of : {F : Type 0} → FileDevice F → LastBlock
 block_of d = d.block
 
--- the sectors that wait to be handed to the file
+-- the sectors that wait to be written to the file
 abbrev pub gathered_of : {F : Type 0} → FileDevice F → Gathered
 gathered_of d = d.gathered
 

@@ -30,14 +30,14 @@ pub struct FileDevice<F: FileExt + OpenFile> {
     gathered: Gathered,
     block: LastBlock,
     // The file's own sync failed. The system may have dropped what it couldn't write, and a later
-    // sync of the file wouldn't tell.
+    // sync of the file wouldn't report that.
     is_lost: bool,
     // It is there to be read alone, and each write faults.
     is_read_only: bool,
     ghost within: { status.sectors * 512 < 2 ^ 64 },
     // No sector of the block is gathered, so what is read of it was written last.
     ghost apart: { ForSome block.number (IsApart gathered.first (length gathered.bytes.items / 512)) },
-    // Nothing is handed to a file that is there to be read alone.
+    // Nothing is written to a file that is there to be read alone.
     ghost unwritten: { IsTrue is_read_only → gathered.bytes.items ≡ [] },
 }
 
@@ -52,7 +52,7 @@ impl<F: FileExt + OpenFile + Drop> FileDevice<F> {
     ghost use Rattle.sn_filedev.specs.FileDevice.{status_of, is_lost, is_read_only};
 
     /// A device over a file that is open for reading and writing, of its whole sectors. An error is
-    /// want of memory or the file's, and changes nothing in the file. No lock is asked of the file.
+    /// want of memory or the file's, and changes nothing in the file. It takes no lock on the file.
     pub fn new(alloc: Global, file: F) -> io::Result<Self>
         ensures uncalled { IfOk result (λ d. status_of d ≡ uncalled (status_of d).sectors) }
         ensures writing { IfOk result (λ d. is_read_only d ≡ false) }
@@ -92,7 +92,7 @@ impl<F: FileExt + OpenFile + Drop> FileDevice<F> {
         &self.file
     }
 
-    /// The bytes of all its sectors, which no count tells. An error is want of memory or the file's.
+    /// The bytes of all its sectors, which no count includes. An error is want of memory or the file's.
     pub fn read_all(&mut self, alloc: Global) -> io::Result<Vec<u8>>
         ensures length { IfOk result (λ bytes. length bytes.items ≡ 512 * (status_of self.old).sectors) }
         ensures status { status_of self.new ≡ status_of self.old }
@@ -115,7 +115,7 @@ impl<F: FileExt + OpenFile + Drop> FileDevice<F> {
         self.settle()
     }
 
-    // Hands what was gathered to the file. Where that fails it stays gathered.
+    // Writes what was gathered to the file. Where that fails it stays gathered.
     fn flush(&mut self) -> io::Result<()>
         ensures status { self.new.status ≡ self.old.status }
         ensures block { self.new.block ≡ self.old.block }
@@ -178,7 +178,7 @@ impl<F: FileExt + OpenFile + Drop> FileDevice<F> {
         Ok(())
     }
 
-    // Hands what was gathered to the file, and has it stored.
+    // Writes what was gathered to the file, and has it stored.
     fn settle(&mut self) -> io::Result<()>
         ensures status { self.new.status ≡ self.old.status }
         ensures empty { OnOk result (self.new.gathered.bytes.items ≡ []) }
@@ -245,7 +245,7 @@ impl<F: FileExt + OpenFile + Drop> Device for FileDevice<F> {
         ensures lost { is_lost self.new ≡ is_lost self.old }
         ensures access { is_read_only self.new ≡ is_read_only self.old }
 
-        // Where it succeeds, its bytes wait to be handed to the file. Over a file that is there to be
+        // Where it succeeds, its bytes wait to be written to the file. Over a file that is there to be
         // read alone it doesn't.
         ensures waits { OnOk result
             (Gathers at sector.now (gathered_of self.old) (gathered_of self.new)) }

@@ -71,7 +71,7 @@ impl Gathered {
         self.bytes.extend_from_slice(sector)
     }
 
-    /// Where they stand in the file.
+    /// Where they are in the file.
     pub fn offset(&self) -> u64
         ensures { result ≡ self.now.first * 512 }
     {

@@ -23,7 +23,7 @@ impl LockFile for File {
     }
 }
 
-/// What a lock came to. An error of kind `WouldBlock` is that of a file in use.
+/// The result of a lock. An error of kind `WouldBlock` is that of a file in use.
 pub(crate) fn locked(answer: Result<(), TryLockError>) -> io::Result<()> {
     answer.map_err(|error| match error {
         TryLockError::WouldBlock => io::Error::new(io::ErrorKind::WouldBlock, "it is in use"),

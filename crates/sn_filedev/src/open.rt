@@ -39,7 +39,7 @@ impl<F: FileExt + OpenFile + LockFile + Drop> FileDevice<F> {
 
     /// The same, to be read alone: others may read it too, and its writes fault.
     ///
-    /// Proved: A device that was opened to be read alone takes no write, and hands none to its file.
+    /// Proved: A device that was opened to be read alone takes no write, and passes none to its file.
     pub fn open_to_read<R: Files<File = F>, P: AsPath>(
         alloc: Global,
         files: &R,
@@ -55,7 +55,7 @@ impl<F: FileExt + OpenFile + LockFile + Drop> FileDevice<F> {
     }
 
     /// A device over a file of so many blocks of 4,096 bytes, all of them zeros: a new one, or one that
-    /// is there and not in use, whose bytes go. Want of memory leaves them. An error of the file may
+    /// is there and not in use, whose bytes are dropped. Want of memory leaves them. An error of the file may
     /// leave it empty, or with another length. The folder is stored before this answers.
     ///
     /// Proved, also of `read_all`: A device that was created has eight sectors for each of its blocks, and as many bytes as
@@ -111,7 +111,7 @@ fn empty_to<R: Files, F: OpenFile + LockFile, P: AsPath>(
     folder.sync_all()
 }
 
-/// A folder can't be a device. A disk tells no length, and an open pipe may wait for its other end.
+/// A folder can't be a device. A disk reports no length, and an open pipe may wait for its other end.
 fn require_file(metadata: &Metadata) -> io::Result<()> {
     if metadata.is_file() {
         Ok(())
@@ -130,7 +130,7 @@ fn open_uncut<R: Files, P: AsPath>(files: &R, path: P) -> io::Result<R::File> {
     how.open(files, path)
 }
 
-/// The folder of the file at a path, behind any links.
+/// The folder of the file at a path, with all links followed.
 fn open_folder<R: Files, P: AsPath>(alloc: Global, files: &R, path: P) -> io::Result<R::File> {
     let whole = files.canonicalize(alloc, path.path_text())?;
     match whole.parent() {
@@ -139,7 +139,7 @@ fn open_folder<R: Files, P: AsPath>(alloc: Global, files: &R, path: P) -> io::Re
     }
 }
 
-/// Whether two open files are one. Where the system tells no numbers of files, locks alone tell it.
+/// Whether two open files are one. Where the system reports no numbers of files, only locks show it.
 fn is_one_file(one: &Metadata, other: &Metadata) -> bool {
     one.ino() != 0 && one.ino() == other.ino() && one.dev() == other.dev()
 }

@@ -1,4 +1,4 @@
--- What a root body's head says of the bytes behind it.
+-- What a root body's head says of the bytes after it.
 use Rattle.std.proofs.Common.{◌≡◌, ℕ, ◌-◌, ◌*◌, ◌≤◌, Bool, true, false, ◌&&◌, List, ◌++◌, length, Option, Some, refl, sym, ap, ◌∙◌, append_assoc, arith}
 use Rattle.std.specs.Prelude.{nat_le}
 use Rattle.std.proofs.lemmas.Bool.{leb-true}
@@ -15,7 +15,7 @@ use Rattle.sn_bytes.proofs.Records.{same_records, zero_number}
 
 -- ---- the head
 
--- the numbers, and behind them the tree and zeros
+-- the numbers, and after them the tree and zeros
 pub head_flat : (h : Head) (rest : List ℕ) → head_bytes h ++ rest ≡ numbers_then head_widths (head_numbers h) (tree_bytes h.inode_file ++ (zeros 520 ++ rest))
 head_flat h rest = rw (zero_number 4) (simp append_assoc)
 

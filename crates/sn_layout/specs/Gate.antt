@@ -1,4 +1,4 @@
--- The sector of a gate. What stands behind a gate counts only while it is open.
+-- The sector of a gate. What follows a gate counts only while it is open.
 use Rattle.std.specs.Prelude.{ℕ, ◌==◌, if◌then◌else◌, List, ◌∷◌, slice_index}
 use Rattle.sn_layout.specs.declared.gate.Gate.{Gate}
 use Rattle.sn_layout.specs.declared.gate.Gate.TheVariants.{Open, Closed}
@@ -12,6 +12,6 @@ abbrev pub gate_byte : Gate → ℕ
 gate_byte Open = 1
 gate_byte Closed = 0
 
--- as it is written, zeros behind the byte
+-- as it is written, zeros after the byte
 abbrev pub gate_bytes : Gate → List ℕ
 gate_bytes gate = gate_byte gate ∷ zeros 511

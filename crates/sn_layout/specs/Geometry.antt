@@ -40,7 +40,7 @@ end_of n (Log Zero) = 36 + 2 * map_blocks n
 end_of n (Log One) = 68 + 2 * map_blocks n
 end_of n Data = n
 
--- the block lies in the area
+-- the block is in the area
 pub record IsIn (n : ℕ) (area : Area) (block : ℕ) : Type 0 where
   pub from : start_of n area ≤ block
   pub below : block < end_of n area
@@ -54,6 +54,6 @@ abbrev pub other_slot : Slot → Slot
 other_slot A = B
 other_slot B = A
 
--- the half that the records of an epoch stand in
+-- the half that the records of an epoch are in
 abbrev pub half_of_epoch : ℕ → LogHalf
 half_of_epoch epoch = if epoch % 2 == 0 then Zero else One

@@ -16,6 +16,6 @@ reach_of levels = 65536 * 1024 ^ levels
 abbrev pub levels_of : ℕ → ℕ
 levels_of size = count_by (λ levels. nat_lt (reach_of levels) size) (0 ∷ 1 ∷ 2 ∷ [])
 
--- how many bytes lie below one of the sixteen pointers
+-- how many bytes are below one of the sixteen pointers
 abbrev pub span_of : ℕ → ℕ
 span_of size = 4096 * 1024 ^ levels_of size

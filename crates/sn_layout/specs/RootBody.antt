@@ -32,11 +32,11 @@ head_widths = 4 ∷ 4 ∷ 8 ∷ 8 ∷ 4 ∷ 4 ∷ []
 abbrev pub head_numbers : Head → List ℕ
 head_numbers head = head.version ∷ 0 ∷ head.generation ∷ head.epoch ∷ head.count ∷ 0 ∷ []
 
--- the numbers as they were read, whatever stands between
+-- the numbers as they were read, whatever is between
 abbrev pub listed : HeadNumbers → List ℕ
 listed n = n.version ∷ n.before_ages ∷ n.generation ∷ n.epoch ∷ n.count ∷ n.before_tree ∷ []
 
--- what stands in front of the snapshots
+-- what precedes the snapshots
 abbrev pub head_of : RootBody → Head
 head_of body = record { version = body.limits.version; generation = body.generation; epoch = body.epoch; count = length body.snapshots; inode_file = body.inode_file }
 

@@ -39,12 +39,12 @@ abbrev pub are_distinct : List Snapshot → Bool
 are_distinct [] = true
 are_distinct (s ∷ more) = not (list_any (λ other. bytes_eq s.name other.name) more) && are_distinct more
 
--- how many stand at the front whose bits are not above a bit
+-- how many at the front have bits that are not above a bit
 abbrev pub index_of : ℕ → List Snapshot → ℕ
 index_of bit [] = 0
 index_of bit (s ∷ more) = if nat_le s.bit bit then suc (index_of bit more) else 0
 
--- one more, behind those at the front whose bits are not above its own
+-- one more, after those at the front whose bits are not above its own
 abbrev pub with_snapshot : Snapshot → List Snapshot → List Snapshot
 with_snapshot s [] = s ∷ []
 with_snapshot s (first ∷ more) = if nat_le first.bit s.bit then first ∷ with_snapshot s more else s ∷ first ∷ more

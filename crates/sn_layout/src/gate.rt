@@ -7,7 +7,7 @@ ghost use Rattle.std.specs.Prelude.{◌≡◌};
 use crate::{SECTOR_SIZE, Sector};
 use sn_bytes::{put_u8, put_zeros};
 
-/// Whether what stands behind a gate counts: a root body, or a record of the log.
+/// Whether what follows a gate counts: a root body, or a record of the log.
 ///
 /// Proved: A gate is open exactly where its first byte is 1.
 #[derive(Clone, Copy, PartialEq, Eq, Hash)]
@@ -30,7 +30,7 @@ impl Gate {
         }
     }
 
-    /// Writes the whole sector, whatever stood there.
+    /// Writes the whole sector, whatever was there.
     pub fn encode(self, sector: &mut Sector)
         ensures bytes { sector.new ≡ gate_bytes self }
         ensures read { gate_of sector.new ≡ self }

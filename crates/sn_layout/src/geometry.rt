@@ -55,7 +55,7 @@ pub enum LogHalf {
 impl LogHalf {
     ghost use Rattle.sn_layout.specs.Geometry.{half_of_epoch};
 
-    /// The half that the records of an epoch stand in: those of even epochs in half 0.
+    /// The half that the records of an epoch are in: those of even epochs in half 0.
     pub fn of_epoch(epoch: u64) -> Self
         ensures { result ≡ half_of_epoch epoch }
     {
@@ -190,7 +190,7 @@ impl Geometry {
         start..end
     }
 
-    /// The area that a block lies in. Each block lies in exactly one.
+    /// The area that a block is in. Each block is in exactly one.
     pub fn area_of(self, block: u32) -> Area
         requires { block < self }
         ensures within { IsIn self result block }

@@ -1,7 +1,7 @@
 //! How a disk is spelled, both ways: where its parts lie, its superblock and its root bodies.
 //!
 //! Each value has one spelling, a definition in `specs/` such as `superblock_bytes` or
-//! `root_body_bytes`. `encode` writes exactly it into a lent block, whatever stood there, and
+//! `root_body_bytes`. `encode` writes exactly it into a lent block, whatever was there, and
 //! `decode` answers a value exactly where a block is the spelling of one: `found` says that the
 //! block is the value's spelling, and `only` that a block which is a value's spelling is read as
 //! that value. A value that no block is read as is not encoded. No call takes memory.

@@ -35,7 +35,7 @@ pub struct RootBody {
     pub snapshots: Snapshots,
 }
 
-// What stands in front of the snapshots.
+// What precedes the snapshots.
 #[derive(Drop)]
 struct Head {
     version: u32,
@@ -45,7 +45,7 @@ struct Head {
     inode_file: BlockTree,
 }
 
-// The numbers at its front as they stand on the disk, those that have to be 0 among them.
+// The numbers at its front as they are on the disk, those that have to be 0 among them.
 #[derive(Drop)]
 struct HeadNumbers {
     version: u32,
@@ -171,7 +171,7 @@ impl RootBody {
             && self.snapshots.are_held(&self.limits)
     }
 
-    /// Writes the whole block, whatever stood there.
+    /// Writes the whole block, whatever was there.
     pub fn encode(&self, block: &mut Block)
         requires { IsRootBody self.now }
         ensures { block.new ≡ root_body_bytes self.now }

@@ -52,7 +52,7 @@ impl Snapshots {
         self.list.as_slice()
     }
 
-    /// Puts a snapshot behind the others.
+    /// Puts a snapshot after the others.
     pub fn push(&mut self, snapshot: Snapshot)
         requires { length self.old < 31 }
         ensures { self.new ≡ self.old ++ snapshot ∷ [] }
@@ -60,7 +60,7 @@ impl Snapshots {
         self.list.push(snapshot);
     }
 
-    /// Puts one behind those whose bits are not above its own.
+    /// Puts one after those whose bits are not above its own.
     pub fn insert(&mut self, snapshot: Snapshot)
         requires { length self.old < 31 }
         ensures inserted { self.new ≡ with_snapshot snapshot self.old }
@@ -203,7 +203,7 @@ fn read_snapshots(reader: &mut Reader<'_>, count: usize) -> Option<Snapshots>
     Some(all)
 }
 
-/// Reads so many, and zeros behind them to the end of their room.
+/// Reads so many, and zeros after them to the end of their room.
 pub(crate) fn read_to_end(reader: &mut Reader<'_>, count: u32) -> Option<Snapshots>
     requires { length reader.old ≡ 3472 }
     ensures found { IfSome result (λ all. (length all ≡ count) × (reader.old ≡ snapshots_bytes all ++ zeros (3472 - 112 * length all))) }

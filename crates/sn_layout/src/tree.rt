@@ -28,7 +28,7 @@ impl BlockTree {
     ghost use Rattle.sn_layout.specs.Pointers.{levels_of};
     ghost use Rattle.sn_layout.specs.declared.tree.BlockTree.{BlockTree as TheTree};
 
-    /// How many levels of indirect blocks lie between the pointers and the data blocks of so many
+    /// How many levels of indirect blocks are between the pointers and the data blocks of so many
     /// bytes: none up to 65,536, one up to 67,108,864, two up to 68,719,476,736, and else three.
     pub fn levels_of(size: u64) -> u32
         ensures value { result ≡ levels_of size }
@@ -37,7 +37,7 @@ impl BlockTree {
         u32::from(size > 65_536) + u32::from(size > 67_108_864) + u32::from(size > 68_719_476_736)
     }
 
-    /// Whether each pointer is 0 whose bytes would lie wholly past the size.
+    /// Whether each pointer whose bytes would be wholly past the size is 0.
     pub fn ends_at_size(&self) -> bool
         ensures { result ≡ ends_at_size self.now }
     {

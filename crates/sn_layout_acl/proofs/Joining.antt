@@ -137,7 +137,7 @@ rest_canonical : (e : Entry) (es : List Entry) → is_canonical (e ∷ es) ≡ t
 rest_canonical e [] h = refl
 rest_canonical e (f ∷ es) h = (both (precedes e.tag f.tag) (is_canonical (f ∷ es)) h).1
 
--- no entry stands before the first
+-- no entry is before the first
 from_first : (e : Entry) (es : List Entry) → is_canonical (e ∷ es) ≡ true → AllFrom (rank_of e.tag) es
 from_first e [] h = tt
 from_first e (f ∷ es) h =
@@ -184,7 +184,7 @@ abbrev BeginsWithoutUser : List Entry → Type 0
 BeginsWithoutUser [] = Unit {0}
 BeginsWithoutUser (e ∷ es) = is_user e.tag ≡ false
 
--- the entries behind GROUP_OBJ
+-- the entries after GROUP_OBJ
 record IsTail (es others : List Entry) (other : ℕ) : Type 0 where
   begins : BeginsWithoutUser others
   whole : es ≡ others ++ entry Other other ∷ []
@@ -214,7 +214,7 @@ tail_of (e ∷ es) ordered from none one =
     let fewer : count_of is_group_obj es ≡ 0 = omega (arith, count-step is_group_obj e es) in
     tail_step e.tag e.permissions es ordered from.0 none one (λ last. tail_of es (rest_canonical e es ordered) from.1 fewer last)
 
--- the entries behind USER_OBJ
+-- the entries after USER_OBJ
 record IsBody (es users others : List Entry) (group other : ℕ) : Type 0 where
   each : AreUsers users
   begins : BeginsWithoutUser others
@@ -272,7 +272,7 @@ split_of : (es : List Entry) → IsValid es → HasSplit es
 split_of [] v = absurd (omega (arith, v.objects.user_obj))
 split_of (e ∷ es) v = split_step e.tag e.permissions es v
 
--- ---- where the parts stand
+-- ---- where the parts are
 
 prefix_front : (users rest : List Entry) → AreUsers users → BeginsWithoutUser rest → prefix_len (λ e. is_user e.tag) (users ++ rest) ≡ length users
 prefix_front [] [] each begins = refl

@@ -13,7 +13,7 @@ abbrev pub is_user : Tag → Bool
 is_user (User _) = true
 is_user _ = false
 
--- how many entries stand before the first that is not a user's
+-- how many entries come before the first that is not a user's
 abbrev pub users_in : List Entry → ℕ
 users_in named = length (take_while (λ e. is_user e.tag) named)
 

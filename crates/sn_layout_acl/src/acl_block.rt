@@ -322,7 +322,7 @@ impl AclBlock {
         self.access.as_slice().len() + entries_of(&self.default).len()
     }
 
-    /// Writes the whole block, whatever stood there. An inode whose lists are both empty has none.
+    /// Writes the whole block, whatever was there. An inode whose lists are both empty has none.
     pub fn encode(&self, block: &mut Block)
         requires { 0 < entries_in self.now }
         ensures fits { IsAclBlock self.now }

@@ -89,7 +89,7 @@ each_without name (link ∷ links) each = each_without_if (bytes_eq link.name na
 
 -- ---- a part taken out
 
--- behind the front zeros were put
+-- after the front zeros were put
 pub taken_out : (xs pasted new : List ℕ) (start end size next : ℕ) → length xs ≡ 4096 → start ≤ end → end ≤ size → size ≤ 4096
     → pasted ≡ paste xs start (drop end xs) (size - end)
     → take next new ≡ take (start + (size - end)) pasted ++ zeros (4096 - (start + (size - end)))

@@ -29,7 +29,7 @@ bits_fit true false = omega arith
 bits_fit false true = omega arith
 bits_fit false false = omega arith
 
--- the numbers, and behind them zeros
+-- the numbers, and after them zeros
 pub head_flat : (h : Head) (rest : List ℕ) → head_bytes h ++ rest ≡ numbers_then head_widths (head_numbers h) (zeros 36 ++ rest)
 head_flat h rest =
     let kind = kind_number h.kind in

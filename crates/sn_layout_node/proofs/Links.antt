@@ -112,7 +112,7 @@ read_more bytes old new link (links, each, e) fits next = (
   e ∙ ap (λ (r : List ℕ). links_bytes links ++ r) next ∙ sym (append_assoc (links_bytes links) (link_bytes link) new) ∙ ap (λ (r : List ℕ). r ++ new) (sym (bytes_more link_bytes links link)),
 )
 
--- what was read are link bytes, and behind them is what is left
+-- what was read are link bytes, and what is left follows them
 pub read_front : (bytes left : List ℕ) (n : ℕ) → length bytes ≡ 4096 → length left ≡ n → AreRead bytes left → AreLinkBytes (take (4096 - n) bytes)
 read_front bytes left n len count (links, each, e) =
     let size = ap length e ∙ length-append (links_bytes links) left in

@@ -6,7 +6,7 @@ use Rattle.byteorder.specs.Endian.{little_number}
 use Rattle.sn_limits.specs.Names.{is_name}
 use Rattle.sn_layout.specs.Bytes.{number_bytes, zeros}
 
--- a name and the number of what it stands for
+-- a name and the number of what it denotes
 pub record Link : Type 0 where
   pub number : ℕ
   pub name : List ℕ
@@ -16,7 +16,7 @@ pub record IsLink (link : Link) : Type 0 where
   pub most : link.number < 256 ^ 2
   pub name : IsTrue (is_name link.name)
 
--- a name behind its length
+-- a name after its length
 abbrev pub name_bytes : List ℕ → List ℕ
 name_bytes name = length name ∷ name
 

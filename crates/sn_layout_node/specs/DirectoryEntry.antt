@@ -4,7 +4,7 @@ use Rattle.sn_layout_node.specs.declared.directory.DirectoryEntry.{DirectoryEntr
 use Rattle.sn_layout_node.specs.declared.directory.Entries.{Entries}
 use Rattle.sn_layout_node.specs.Directory.{Link}
 
--- an entry without where its name lies in memory
+-- an entry without the place of its name in memory
 abbrev pub link_of : DirectoryEntry → Link
 link_of entry = record { number = entry.number; name = entry.name.now }
 

@@ -23,7 +23,7 @@ kind_number Directory = 2
 abbrev pub flags_number : Bool → Bool → ℕ
 flags_number set_gid sticky = (if set_gid then 1 else 0) + (if sticky then 2 else 0)
 
--- what stands in front of the content
+-- what precedes the content
 pub record IsHead (head : Head) : Type 0 where
   pub objects : IsMode head.objects
   pub links : head.links < 256 ^ 2
@@ -42,7 +42,7 @@ head_widths = 1 ∷ 1 ∷ 2 ∷ 2 ∷ 2 ∷ 4 ∷ 4 ∷ 8 ∷ 4 ∷ []
 abbrev pub head_numbers : Head → List ℕ
 head_numbers h = kind_number h.kind ∷ flags_number h.bits.set_gid h.bits.sticky ∷ mode_bits h.objects ∷ h.links ∷ 0 ∷ h.owner ∷ h.group ∷ h.size ∷ h.acl_block ∷ []
 
--- the numbers as they were read, whatever stands between
+-- the numbers as they were read, whatever is between
 abbrev pub listed : HeadNumbers → List ℕ
 listed n = n.kind ∷ n.bits ∷ n.objects ∷ n.links ∷ n.before_owner ∷ n.owner ∷ n.group ∷ n.size ∷ n.acl_block ∷ []
 

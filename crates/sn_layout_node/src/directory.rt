@@ -19,7 +19,7 @@ use std::marker::Model;
 /// A name in a directory, lent from its block.
 #[derive(Clone, Copy, PartialEq, Eq)]
 pub struct DirectoryEntry<'a> {
-    /// The number of the inode that the name stands for.
+    /// The number of the inode that the name denotes.
     pub number: u16,
     pub name: &'a [u8],
 }
@@ -167,7 +167,7 @@ fn span_of(links: &[u8], name: &[u8]) -> Option<LinkSpan>
     None
 }
 
-// Takes a part out of so many bytes at the front of a block, and leaves zeros behind the others.
+// Takes a part out of so many bytes at the front of a block, and leaves zeros after the others.
 fn take_out(block: &mut [u8], start: usize, end: usize, size: usize)
     requires block { length block.old ≡ 4096 }
     requires start { start ≤ end }
@@ -180,7 +180,7 @@ fn take_out(block: &mut [u8], start: usize, end: usize, size: usize)
     put_zeros(block, kept, BLOCK_SIZE - kept);
 }
 
-/// The names of a directory block, which are read where they stand.
+/// The names of a directory block, which are read in place.
 ///
 /// Proved: A directory block is read in place, exactly where it spells entries, and a name is found where it is one of them.
 #[derive(Drop)]
@@ -201,7 +201,7 @@ impl<'a> Model for DirectoryBlock<'a> {
 }
 
 impl<'a> DirectoryBlock<'a> {
-    /// The names that the block spells. That no name stands twice in a directory is not tested here.
+    /// The names that the block spells. That no name occurs twice in a directory is not tested here.
     pub fn decode(block: &'a Block) -> Option<Self>
         ensures found { IfSome result (λ links. Spells block.now links) }
         ensures only { (links : List Link) → Spells block.now links → result ≡ Some links }
@@ -241,7 +241,7 @@ impl<'a> DirectoryBlock<'a> {
         BLOCK_SIZE - self.links.len()
     }
 
-    /// The names with their numbers, as they stand in the block.
+    /// The names with their numbers, as they are in the block.
     pub fn entries(&self) -> Entries<'a>
         ensures entries { result ≡ self.now }
         ensures each { AllByRecursion IsLink self.now }
@@ -249,15 +249,15 @@ impl<'a> DirectoryBlock<'a> {
         Entries::over(self.links)
     }
 
-    /// Makes the block one of no names, whatever stood there.
+    /// Makes the block one of no names, whatever was there.
     pub fn clear(block: &mut Block)
         ensures { Spells block.new [] }
     {
         put_zeros(block, 0, BLOCK_SIZE);
     }
 
-    /// Puts a name with its number behind the others. `false` where the block has no room for it,
-    /// and nothing is changed. That the name doesn't stand there yet is not tested here.
+    /// Puts a name with its number after the others. `false` where the block has no room for it,
+    /// and nothing is changed. That the name isn't there yet is not tested here.
     ///
     /// Proved, also of `remove`: A name is put in where there is room and taken out in place, and the others stay.
     pub fn insert(block: &mut Block, name: &[u8], number: u16) -> bool

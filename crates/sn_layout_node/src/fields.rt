@@ -13,7 +13,7 @@ ghost use Rattle.sn_layout_node.specs.declared.fields.SpecialBits.{SpecialBits a
 use sn_layout::{Reader, put_u8};
 use sn_limits::Kind;
 
-/// The mode bits of a node beside the rights of its classes.
+/// The mode bits of a node besides the rights of its classes.
 #[derive(Clone, Copy, Default, PartialEq, Eq)]
 pub struct SpecialBits {
     /// S_ISGID.

@@ -6,7 +6,7 @@ use sn_layout::{Reader, put_u16, put_u32, put_u64, put_zeros};
 use sn_layout_acl::{mode_of, put_mode};
 use sn_limits::Kind;
 
-// What stands in front of an inode's content.
+// What precedes an inode's content.
 #[derive(Clone, Copy)]
 pub(crate) struct Head {
     pub(crate) kind: Kind,
@@ -19,7 +19,7 @@ pub(crate) struct Head {
     pub(crate) acl_block: u32,
 }
 
-// Its numbers as they stand on the disk, those that have to be 0 among them.
+// Its numbers as they are on the disk, those that have to be 0 among them.
 #[derive(Clone, Copy)]
 struct HeadNumbers {
     kind: u8,

@@ -9,7 +9,7 @@ use std::marker::Model;
 /// How many pointers a block holds.
 pub const POINTERS_PER_BLOCK: usize = 1024;
 
-/// The pointers of a block, which are read where they stand. Any block is an indirect block.
+/// The pointers of a block, which are read in place. Any block is an indirect block.
 #[derive(Drop)]
 pub struct IndirectBlock<'a> {
     bytes: &'a [u8],
@@ -34,7 +34,7 @@ impl<'a> IndirectBlock<'a> {
         IndirectBlock { bytes }
     }
 
-    /// The 1,024 pointers that a block spells, read where it lies: each block spells some.
+    /// The 1,024 pointers that a block spells, read in place: each block spells some.
     pub fn decode(block: &'a Block) -> Self
         ensures read { block.now ≡ pointers_bytes result }
         ensures fits { ArePointers result }
@@ -60,7 +60,7 @@ impl<'a> IndirectBlock<'a> {
         put_u32s(block, 0, pointers);
     }
 
-    /// Makes the block one of holes, whatever stood there.
+    /// Makes the block one of holes, whatever was there.
     pub fn clear(block: &mut Block)
         ensures { block.new ≡ pointers_bytes (replicate 1024 0) }
     {

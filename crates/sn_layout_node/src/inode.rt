@@ -29,7 +29,7 @@ pub const INODE_SIZE: usize = 128;
 /// The most names of a file.
 pub const LINKS_MAX: u16 = 32_767;
 
-/// A file or a directory, but for the bytes that lie in blocks.
+/// A file or a directory, but for the bytes that are in blocks.
 #[derive(PartialEq, Eq, Drop)]
 pub struct Inode {
     pub kind: Kind,

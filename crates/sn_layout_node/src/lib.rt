@@ -4,7 +4,7 @@
 //! Each value has one spelling, a definition in `specs/` such as `record_bytes` or
 //! `directory_bytes`, and `decode` answers a value exactly where bytes are the spelling of one.
 //! `DirectoryBlock` and `IndirectBlock` are lent: `decode` tests the block once, and its names or
-//! pointers are read where they stand. A directory block is seen as the list of its names with
+//! pointers are read in place. A directory block is seen as the list of its names with
 //! their numbers, an indirect block as the list of its pointers. A name is put into a directory
 //! block or taken out of it in place, and so is a pointer set. No call takes memory.
 //!

@@ -28,7 +28,7 @@ tops : (f : ℕ → ℕ) → agree_below (λ x. top 7 (f x)) is_other_byte 256 �
 tops f all [] fits = refl
 tops f all (x ∷ xs) fits = ap₂ (λ a b. a ∷ b) (agree_below_at (λ y. top 7 (f y)) is_other_byte 256 x all fits.0.fits) (tops f all xs fits.1)
 
--- the mask of lanes whose highest bit tells the other bytes
+-- the mask of lanes whose highest bit marks the other bytes
 pub others_mask : (f : ℕ → ℕ) (v z : List ℕ) → length v ≤ 64 → Each1 (Fits w8) v → z ≡ map f v → agree_below (λ x. top 7 (f x)) is_other_byte 256 ≡ true
     → mask_l (map (top 7) z) % 2 ^ 64 ≡ mask_l (map is_other_byte v)
 others_mask f v z short fits e all =

@@ -6,7 +6,7 @@ use Rattle.sn_limits.specs.Versions.{Allows, limits_of, limits_written, version_
 same_some : {A : Type 0} (x y : A) → Some x ≡ Some y → x ≡ y
 same_some x y e = cc
 
--- what is so of each version is so of the limits of any version that is read
+-- what holds for each version holds for the limits of any version that is read
 pub each_version : (P : Limits → Type 0) → P version_1 → P version_2 → (version : ℕ) (limits : Limits) → limits_of version ≡ Some limits → P limits
 each_version P one two version limits e = told (version == 1) (version == 2) e
   where

@@ -2,7 +2,7 @@
 //! format fixes, the units of a disk, what a node is, and the names that directories and snapshots can have.
 //!
 //! `specs/Versions` writes the numbers of each version down, and [`Limits::of_version`] answers them
-//! exactly. No other crate has a number of its own for what stands here. `specs/Names` and
+//! exactly. No other crate has a number of its own for what is defined here. `specs/Names` and
 //! `specs/SnapshotName` are the grammars of names, which [`is_name`] and [`SnapshotName`] decide.
 //!
 //! What the sources leave open is decided in `docs/DECISIONS.md`, under "Limits".

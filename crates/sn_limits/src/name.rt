@@ -59,7 +59,7 @@ fn begins_with_few(bytes: &[u8], count: usize) -> bool
     others == 0 || others.trailing_zeros() as usize >= count
 }
 
-// Whether so many bytes at the front are bytes of a name. Those behind them are read too, where
+// Whether so many bytes at the front are bytes of a name. Those after them are read too, where
 // there are some, and don't matter.
 fn begins_with_name_bytes(bytes: &[u8], count: usize) -> bool
     requires { count ≤ length bytes.now }

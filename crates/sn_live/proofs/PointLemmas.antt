@@ -16,7 +16,7 @@ use Rattle.sn_overlay.specs.Seen.{LiesOver}
 use Rattle.sn_overlay.specs.declared.overlay.Overlay.{Overlay}
 use Rattle.sn_live.proofs.LiveLemmas.{live_begun, none_lies, none_shows}
 
--- a table in which the same numbers are taken says the same
+-- a table in which the same numbers are taken records the same
 retold : (tree : Tree) (old new : NumberTable) → ((n : ℕ) → is_taken_in new n ≡ is_taken_in old n) → TellsNumbers tree old → TellsNumbers tree new
 retold tree old new taken tells n = taken n ∙ tells n
 

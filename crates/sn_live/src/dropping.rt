@@ -1,4 +1,4 @@
-//! Files without names that go from a live tree.
+//! Files without names that are dropped from a live tree.
 ghost use Rattle.std.specs.Prelude.{◌≡◌, ◌≤◌, ℕ, ◌+◌, ◌==◌, ◌&&◌, ◌||◌, length, IfOk, OnErr, OnOk};
 ghost use Rattle.sn_changed.specs.Dropped.{TellsGone, with_drops, without_each};
 ghost use Rattle.sn_live.specs.Live.{HasDrops, IsLive, KeepsBack, ShowsAlike, ShowsNameless, changes_of, count_of, kept_back_of, kept_since_of, point_of, shown_of};
@@ -36,12 +36,12 @@ fn list_if_nameless(
 }
 
 impl LiveTree {
-    /// Removes a file that no name stands for, where there is room for a drop. `by_close` says that it goes with its last
-    /// descriptor, and then its number is kept back; that of one that goes with its last name can be given out at once. It
+    /// Removes a file that has no name, where there is room for a drop. `by_close` says that it is dropped with its last
+    /// descriptor, and then its number is kept back; that of one dropped with its last name can be given out at once. It
     /// takes no memory.
     ///
-    /// Proved, also of `reserve_drops`: A file without names goes without memory, in the room that there was for it; its
-    /// number is kept back exactly where it went with its last descriptor.
+    /// Proved, also of `reserve_drops`: A file without names is dropped without memory, in the room that there was for it; its
+    /// number is kept back exactly where it was dropped with its last descriptor.
     pub fn drop_file(&mut self, number: u16, by_close: bool)
         requires { HasDrops self.old 1 }
         ensures live { (below : Tree) → IsLive self.old below → ShowsNameless self.old below number → IsLive self.new below }
@@ -59,10 +59,10 @@ impl LiveTree {
         self.nameless = self.nameless.saturating_sub(1);
     }
 
-    /// The files that no name stands for, each once: those that go once what is shown is settled. Where none is counted,
+    /// The files that have no name, each once: those that are dropped once what is shown is settled. Where none is counted,
     /// no number is looked at. The error comes where memory is refused.
     ///
-    /// Proved, also of `settled_changes` and `settle`: All files without names are listed, each once; they go from a copy of
+    /// Proved, also of `settled_changes` and `settle`: All files without names are listed, each once; they are dropped from a copy of
     /// what changed, or from what is shown, which then is the settled tree with no number kept back for it; only memory may
     /// be refused, and then nothing that is shown changed.
     pub fn nameless_files(&self, alloc: Global) -> Result<Vec<DroppedFile>, AllocError>
@@ -79,7 +79,7 @@ impl LiveTree {
         Ok(files)
     }
 
-    /// A copy of what changed, without the files that no name stands for. The error comes where memory is refused.
+    /// A copy of what changed, without the files that have no name. The error comes where memory is refused.
     pub fn settled_changes(&self, alloc: Global) -> Result<Overlay, AllocError>
         ensures { (below : Tree) → IsLive self.now below → IfOk result (λ copy. DropsNameless (shown_of self.now below) (changes_of self.now) (layer_of copy)) }
     {
@@ -91,7 +91,7 @@ impl LiveTree {
         Ok(changed)
     }
 
-    /// Removes files that no name stands for, each once, where there is room for all. It takes no memory.
+    /// Removes files that have no name, each once, where there is room for all. It takes no memory.
     fn drop_files(&mut self, files: &[DroppedFile])
         requires { HasDrops self.old (length files.now) }
         ensures live { (below : Tree) → IsLive self.old below → CanGo (shown_of self.old below) files.now → IsLive self.new below }
@@ -105,7 +105,7 @@ impl LiveTree {
         }
     }
 
-    /// All files go that no name stands for, and their numbers can be given out at once. Where memory is refused, nothing
+    /// All files that have no name are dropped, and their numbers can be given out at once. Where memory is refused, nothing
     /// that is shown changes.
     pub fn settle(&mut self, alloc: Global) -> Result<(), AllocError>
         ensures live { OnOk result ((below : Tree) → IsLive self.old below → IsLive self.new below) }

@@ -2,8 +2,8 @@
 //!
 //! The live tree isn't in memory: it is a tree below, seen through what a consistency point in progress writes, and
 //! that through what changed since. Besides the two overlays there are the table of its directories (`sn_directories`),
-//! the table of its numbers and the list of its files without names (`sn_number_table`), which are counted. They go on
-//! with each change, so that all that a call has to know is at hand, or is a look-up of the tree below.
+//! the table of its numbers and the list of its files without names (`sn_number_table`), which are counted. They are
+//! updated with each change, so that all that a call has to know is at hand, or is a look-up of the tree below.
 //!
 //! The model is the tree of `sn_model` that is shown, and `apply` over it. What a change asks for is read and grown
 //! first ([`LiveTree::prepare`]), and nothing that is shown changes by that; then a caller records the change, and

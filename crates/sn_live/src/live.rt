@@ -188,7 +188,7 @@ impl LiveTree {
     /// gives out a number that is kept back, none is any more. It takes no memory, and leaves room for as many drops as
     /// there was besides the change.
     ///
-    /// Proved: What is shown becomes exactly what the model makes of it by a change, and the state goes on with it: overlays
+    /// Proved: What is shown becomes exactly what the model makes of it by a change, and the state follows it: overlays
     /// over one another, a name tree, tables of its directories and numbers, and the list and count of its files without
     /// names; what changed is merged with exactly the layer of the change.
     /// Proved: The numbers that are kept back are those that the model keeps back by the change.

@@ -16,11 +16,11 @@ use sn_number_table::{NamelessFiles, NumberTable};
 /// What a change does to nodes and to files without names.
 #[derive(Clone, Copy)]
 pub(crate) enum NodeMoves {
-    /// No node comes or goes, and no file gets its first name or loses its last one.
+    /// No node is made or removed, and no file gets its first name or loses its last one.
     Stay,
-    /// A number gets a node. Where a file without names had it, that one goes.
+    /// A number gets a node. Where a file without names had it, that one is dropped.
     Come { number: u16, replaces: bool },
-    /// A directory goes, and its number can be given out.
+    /// A directory is removed, and its number can be given out.
     Go { number: u16 },
     /// The file of this number had no names, and gets one.
     Name { number: u16 },
@@ -187,7 +187,7 @@ pub(crate) fn note_nodes(numbers: &mut NumberTable, moves: NodeMoves)
     }
 }
 
-/// Notes in the table of numbers that a file goes: with its last descriptor, or with its last name.
+/// Notes in the table of numbers that a file is dropped: with its last descriptor, or with its last name.
 pub(crate) fn note_drop(numbers: &mut NumberTable, number: u16, by_close: bool)
     ensures tells { (tree : Tree) → TellsNumbers tree numbers.old → TellsNumbers (take_node tree number) numbers.new }
     ensures kept { (n : ℕ) → kept_of numbers.new n ≡ (by_close && n == number || kept_of numbers.old n) }

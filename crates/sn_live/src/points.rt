@@ -17,7 +17,7 @@ impl LiveTree {
     /// changes. It takes no memory.
     ///
     /// Proved, also of `end_point`: A consistency point begins and ends without a change of what is shown, and without
-    /// memory: what changed so far lies below what changes from then on, and is let go once a root is durable over which the
+    /// memory: what changed so far is below what changes from then on, and is let go once a root is durable over which the
     /// rest shows what was shown.
     pub fn begin_point(&mut self, since: Overlay)
         requires between { HasNoPoint self.old }

@@ -53,7 +53,7 @@ module _ (at : LogPosition) (change : Change) (spelled : IsSpelled change) (room
   abbrev gate : ℕ
   gate = base + at.place
 
-  -- the sectors that are written behind the gate are of the half, apart from what stands there
+  -- the sectors that are written after the gate are of the half, apart from what is there
   behind_within : (old new : Disk) → Touches (Stretch (gate + 1) (body_sectors payload + 1)) old new → Touches (InHalf base) old new
   behind_within old new touched = Touches-within (Stretch (gate + 1) (body_sectors payload + 1)) (InHalf base) old new (Stretch-within (gate + 1) (body_sectors payload + 1) base 256 (omega arith) (omega (arith, room))) touched
 
@@ -149,7 +149,7 @@ module _ (at : LogPosition) (change : Change) (spelled : IsSpelled change) (room
       append-done bytes is fits old mid new whole whole_mid (subst (λ y. y < length (reads mid)) here inside) written.touched written.body written.shut written.synced r
       (subst (λ s. WritesSynced gate s r mid new) opens (subst (λ y. WritesSynced y sector r mid new) here opening))
 
--- ---- what an append comes to, whatever it answers beside
+-- ---- the effect of an append, whatever else it answers
 
 pub appends_failing : {T U E : Type 0} (at : LogPosition) (change : Change) (r : Result T E) (q : Result U E) (e : E) (old new : Disk) → r ≡ Err e → q ≡ Err e → Appends at change r old new → Appends at change q old new
 appends_failing at change r q e old new failed fails h = rw fails (record { touched = h.touched; any_moment = h.any_moment; acknowledged = λ changes here. tt; synced = tt; gate = tt; next_gate = tt })

@@ -33,7 +33,7 @@ unfolding zeros
 shut c at room opened =
     let zero_is : 0 ≡ 1 = sym (ap (λ s. slice_index s 0) (get_or-set_same c at (zeros 512) [] room)) ∙ opened in omega (arith, zero_is)
 
--- and behind a closed one they leave it
+-- and written after a closed one they leave it closed
 closed-by : (c : Contents) (base place : ℕ) (opened past : Bool) → base + place < length c → (gate_at c (base + place) == 1) ≡ opened
     → IsClosed (slice_set c (if opened || past then base + place else base + place + 1) (zeros 512)) (base + place)
 closed-by c base place true past room is = shut c (base + place) room

@@ -1,4 +1,4 @@
--- What the head of a body says of the record that stands there.
+-- What the head of a body says of the record that is there.
 use Rattle.std.proofs.Common.{◌≡◌, inl, inr, ℕ, suc, ◌+◌, ◌-◌, ◌*◌, ◌^◌, ◌<◌, ◌≤◌, List, [], ◌++◌, length, take, Some, sym, ◌∙◌, ap, arith, append_assoc, length-append}
 use Rattle.std.proofs.lemmas.List.{take_at, take-append-le}
 use Rattle.sn_device.specs.Sectors.{Contents, sector_at}
@@ -24,7 +24,7 @@ pub length-head : (h : Head) → length (head_bytes h) ≡ 16
 length-head h =
     omega (arith, length-append (number_bytes 8 h.epoch ++ number_bytes 4 h.sequence) (number_bytes 4 h.size), length-append (number_bytes 8 h.epoch) (number_bytes 4 h.sequence), length-number_bytes 8 h.epoch, length-number_bytes 4 h.sequence, length-number_bytes 4 h.size)
 
--- the epoch stands first
+-- the epoch is first
 epoch-first : (h : Head) (rest : List ℕ) → take 8 (head_bytes h ++ rest) ≡ number_bytes 8 h.epoch
 epoch-first h rest =
     ap (take 8) (append_assoc (number_bytes 8 h.epoch ++ number_bytes 4 h.sequence) (number_bytes 4 h.size) rest ∙ append_assoc (number_bytes 8 h.epoch) (number_bytes 4 h.sequence) (number_bytes 4 h.size ++ rest))

@@ -22,7 +22,7 @@ module _ (differ : PayloadsDiffer) (c : Contents) (blocks epoch : ℕ) (on_disk 
   abbrev position : ℕ → ℕ → LogPosition
   position place count = record { blocks = blocks; epoch = epoch; place = place; count = count }
 
-  -- behind an open gate with a record replay goes on
+  -- after an open gate with a record replay continues
   goes_on : (place sequence : ℕ) (payload : List ℕ) → IsOpen c (base + place) → HasRecord c base epoch place sequence payload → Stops c base epoch place → ⊥
   goes_on place sequence payload opened body (inl past) = omega (arith, past, body.room)
   goes_on place sequence payload opened body (inr (inl closed)) = closed opened

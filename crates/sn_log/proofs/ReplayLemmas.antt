@@ -17,7 +17,7 @@ use Rattle.sn_log.specs.Heads.{head_bytes}
 use Rattle.sn_log.proofs.HeadLemmas.{head_of, length-head}
 use Rattle.sn_log.proofs.AppendLemmas.{payloads-more, payloads-count, count-more}
 
--- the payload behind the head
+-- the payload after the head
 payload-part : (at : LogPosition) (n : ℕ) (room payload : List ℕ) → take n room ≡ body_bytes at.epoch at.count payload → take (length payload) (drop 16 room) ≡ payload
 payload-part at n room payload is =
     let h = head_bytes (head_of at payload) in

@@ -1,4 +1,4 @@
--- The writes behind a gate, one after another.
+-- The writes after a gate, one after another.
 use Rattle.std.proofs.Common.{◌≡◌, ℕ, ◌+◌, ◌<◌, List, [], length, slice_set, Result, ◌∙◌, ap, arith}
 use Rattle.std.proofs.lemmas.List.{get_or-set_same, get_or-set_other}
 use Rattle.sn_device.specs.Sectors.{Contents, Single, Stretch, sector_at}

@@ -12,7 +12,7 @@ use Rattle.sn_layout.specs.Bytes.{zeros}
 use Rattle.sn_ondisk.specs.Gates.{IsClosed}
 use Rattle.sn_ondisk.specs.LogHalf.{ReplaysTo, HasNoLater, cleared_sector}
 
--- A place of the half from `base` on is cleared: zeros are written over its gate if that is open or no record has room there, and else over the sector behind it. Whatever the answer, where nothing was unsynced before, a crash at any moment leaves the records that end there as they were, and adds no later one at the first place. At `Ok` the gate is closed after each crash, and nothing is unsynced.
+-- A place of the half from `base` on is cleared: zeros are written over its gate if that is open or no record has room there, and else over the sector after it. Whatever the answer, where nothing was unsynced before, a crash at any moment leaves the records that end there as they were, and adds no later one at the first place. At `Ok` the gate is closed after each crash, and nothing is unsynced.
 pub record Clears {T E : Type 0} (base place : ℕ) (result : Result T E) (old new : Disk) : Type 0 where
   pub written : WritesSynced (cleared_sector (reads old) base place) (zeros 512) result old new
   pub keeps : (epoch : ℕ) (payloads : List (List ℕ)) → IsSynced old → ReplaysTo (reads old) base epoch payloads place → LeavesOnly old new (λ c. ReplaysTo c base epoch payloads place)

@@ -1,4 +1,4 @@
--- What replay comes to where it is known which changes were appended.
+-- What replay finds where it is known which changes were appended.
 use Rattle.std.specs.Prelude.{◌≡◌, ℕ, List, ◌∷◌, ◌++◌}
 use Rattle.std.specs.List.{AllByRecursion}
 use Rattle.sn_device.specs.Sectors.{Contents}
@@ -11,7 +11,7 @@ use Rattle.sn_log.specs.Replaying.{Finds}
 use Rattle.sn_log.specs.declared.replay.NextRecord.{NextRecord}
 use Rattle.sn_log.specs.declared.replay.NextRecord.TheVariants.{Change, End, Misspelt}
 
--- behind the changes before, what was found is the next of all, or the end where there is none
+-- after the changes before, what was found is the next of all, or the end where there is none
 abbrev pub IsNextOf : List TheChange → List TheChange → NextRecord → Type 0
 IsNextOf before changes (Change change) = (after : List TheChange) × (changes ≡ before ++ change ∷ after)
 IsNextOf before changes End = changes ≡ before

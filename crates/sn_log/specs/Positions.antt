@@ -1,4 +1,4 @@
--- Where in the log reading or appending goes on.
+-- Where in the log reading or appending continues.
 use Rattle.std.specs.Prelude.{◌≡◌, ℕ, ◌+◌, ◌*◌, ◌≤◌, List, length, map}
 use Rattle.sn_device.specs.Sectors.{Contents}
 use Rattle.sn_layout.specs.declared.geometry.LogHalf.{LogHalf}
@@ -8,7 +8,7 @@ use Rattle.sn_model.specs.declared.change.Change.{Change}
 use Rattle.sn_ondisk.specs.LogHalf.{Leads, IsReady, base_of, place_after}
 use Rattle.sn_record.specs.Payload.{payload_bytes}
 
--- On a disk of so many blocks: at this place of the half of this epoch, behind so many records.
+-- On a disk of so many blocks: at this place of the half of this epoch, after so many records.
 pub record LogPosition : Type 0 where
   pub blocks : ℕ
   pub epoch : ℕ
@@ -31,11 +31,11 @@ base_at at = base_of at.blocks at.epoch
 abbrev pub payloads_of : List Change → List (List ℕ)
 payloads_of changes = map payload_bytes changes
 
--- there is room for the record of a change, and for the gate behind it
+-- there is room for the record of a change, and for the gate after it
 abbrev pub HasRoom : LogPosition → Change → Type 0
 HasRoom at change = place_after at.place (payload_bytes change) ≤ 255
 
--- the position behind the record of a change
+-- the position after the record of a change
 abbrev pub behind : LogPosition → Change → LogPosition
 behind at change = record at { place = place_after at.place (payload_bytes change); count = at.count + 1 }
 
@@ -44,7 +44,7 @@ pub record IsBehind (at : LogPosition) (changes : List Change) (c : Contents) : 
   pub count : at.count ≡ length changes
   pub leads : Leads c (base_at at) at.epoch 0 0 (payloads_of changes) at.place
 
--- The records of these changes are those of the epoch, and the gate at the position behind them is closed: what an append needs.
+-- The records of these changes are those of the epoch, and the gate at the position after them is closed: what an append needs.
 pub record IsReadyAt (at : LogPosition) (changes : List Change) (c : Contents) : Type 0 where
   pub count : at.count ≡ length changes
   pub ready : IsReady c (base_at at) at.epoch (payloads_of changes) at.place

@@ -15,7 +15,7 @@ use sn_device::{Device, Fault};
 use sn_layout::{Gate, SECTOR_SIZE};
 use sn_record::Payload;
 
-/// Writes a body behind the gate in the sector `at`, closes the gate behind the body, and syncs.
+/// Writes a body after the gate in the sector `at`, closes the gate after the body, and syncs.
 fn write_behind<D: Device>(blocks: &mut Blocks<D>, at: u64, body: &[u8]) -> Result<(), Fault>
     requires whole { length body.now % 512 ≡ 0 }
     requires room { at + length body.now / 512 + 2 ≤ (D.status (device_of blocks.old)).sectors }

@@ -1,4 +1,4 @@
-//! The body of a record: its epoch, how many records stand before it in the half, the length of its
+//! The body of a record: its epoch, how many records are before it in the half, the length of its
 //! payload, the payload, and zeros to the end of the last sector.
 ghost use Rattle.std.specs.Prelude.{◌≡◌, ◌+◌, ◌*◌, ◌/◌, ◌≤◌, List, ℕ, ◌++◌, take, length, IsTrue};
 ghost use Rattle.sn_ondisk.specs.LogHalf.{body_sectors, body_bytes};
@@ -13,11 +13,11 @@ pub(crate) const BODY_MAX: usize = 66_048;
 /// The bytes before the payload.
 pub(crate) const HEAD_SIZE: usize = 16;
 
-/// What stands before the payload.
+/// What precedes the payload.
 #[derive(Clone, Copy, PartialEq, Eq)]
 pub(crate) struct Head {
     pub(crate) epoch: u64,
-    /// How many records stand before this one in the half.
+    /// How many records are before this one in the half.
     pub(crate) sequence: u32,
     /// How many bytes the payload has.
     pub(crate) size: u32,

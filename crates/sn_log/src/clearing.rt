@@ -25,7 +25,7 @@ fn cleared_place(gate: &Sector, place: u64) -> u64
 }
 
 /// Clears a place of a half, with one write and one sync, so that no record counts there. A closed gate
-/// is left alone where a record has room behind it, since a torn write might open it over a whole body.
+/// is left alone where a record has room after it, since a torn write might open it over a whole body.
 ///
 /// Proved, also of `close_half`: Clearing a place writes one sector, syncs, and at no moment changes the records before it;
 /// after it the place is closed after each crash.

@@ -12,8 +12,8 @@ use sn_block::{Blocks, ReadFault};
 use sn_device::Device;
 use sn_layout::{Gate, Geometry, LogHalf, Reader};
 
-/// Whether no record of an epoch later than this one stands at the first place of a half: the gate there is
-/// closed, or what stands behind it names this epoch or an earlier one. It reads the first block of the half,
+/// Whether no record of an epoch later than this one is at the first place of a half: the gate there is
+/// closed, or what follows it names this epoch or an earlier one. It reads the first block of the half,
 /// which is spelled however it may be, and writes nothing.
 ///
 /// Proved: The test is exact, over any bytes, whether a record of a later epoch is at the first place of a half.

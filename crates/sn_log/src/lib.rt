@@ -1,9 +1,9 @@
 //! The log: the changes since the root, record by record, in the two halves of the disk that epochs
 //! take in turn.
 //!
-//! The model. A `LogPosition` says where in the log reading or appending goes on: on a disk of how many
-//! blocks, in the half of which epoch, at which place, and behind how many records. [`Position`],
-//! [`Log`] and [`Replay`] are seen as one. What stands on the disk is said in the words of `sn_ondisk`,
+//! The model. A `LogPosition` says where in the log reading or appending continues: on a disk of how many
+//! blocks, in the half of which epoch, at which place, and after how many records. [`Position`],
+//! [`Log`] and [`Replay`] are seen as one. What is on the disk is said in the words of `sn_ondisk`,
 //! for lists of changes by their payloads: `IsBehind` (the records of these changes lead up to the
 //! position) and `IsReadyAt` (and the gate there is closed, so that one more can be appended).
 //!
@@ -11,14 +11,14 @@
 //! - [`Log::append`]: where each crash left these changes, a crash at any moment of the call leaves them
 //!   or them with the new one, after `Ok` each leaves the new one too, and only sectors of the half were
 //!   touched. A record of n sectors costs n + 2 writes and 2 syncs. It takes no memory.
-//! - [`Replay::next`]: a change where its record stands next in the epoch behind an open gate, the end
-//!   where replay stops, and else a misspelt record, for which no change stands there. What lies behind
+//! - [`Replay::next`]: a change where its record is next in the epoch after an open gate, the end
+//!   where replay stops, and else a misspelt record, for which no change is there. What follows
 //!   a closed gate, of another epoch or out of turn never counts. By the law [`replay_finds_the_next`],
 //!   where the records are those of some changes, it finds these in turn and then the end.
 //! - [`clear`] and [`close_half`]: zeros are written over the one sector that `cleared_sector` names,
 //!   which at no moment changes the records that end there or adds a later one. After `Ok` the place is
 //!   closed after each crash.
-//! - [`has_no_later`]: whether a record of a later epoch stands at the first place of a half, exactly over any
+//! - [`has_no_later`]: whether a record of a later epoch is at the first place of a half, exactly over any
 //!   bytes. A mount asks it of both halves, since such a record would count once its epoch begins.
 //! - [`Log::go_to_epoch`] goes to another epoch in memory alone.
 //!

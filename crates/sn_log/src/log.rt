@@ -32,7 +32,7 @@ impl Model for Log {
 }
 
 impl Log {
-    /// Appending goes on at this position.
+    /// Appending continues at this position.
     pub fn new(position: Position, buffer: Buffer) -> Self
         ensures { result ≡ position }
     {
@@ -57,7 +57,7 @@ impl Log {
     }
 
     /// Appends the record of a change. It takes no memory. After a fault the position is as it was,
-    /// and what stands there isn't known, so that nothing may be appended before the next mount.
+    /// and what is there isn't known, so that nothing may be appended before the next mount.
     ///
     /// Proved: Where each crash left the records of some changes, a crash at any moment of an append leaves them or them
     /// with the new one, and after its success the new one too.

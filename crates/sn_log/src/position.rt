@@ -12,8 +12,8 @@ pub(crate) const LAST_GATE: u64 = 253;
 /// The last place of a half: the last record ends before it, and its gate is the last one.
 pub(crate) const LAST_PLACE: u64 = 255;
 
-/// Where in the log reading or appending goes on: on which disk, in the half of which epoch, at which
-/// sector of that half, and behind how many records.
+/// Where in the log reading or appending continues: on which disk, in the half of which epoch, at which
+/// sector of that half, and after how many records.
 #[derive(Clone, Copy, PartialEq, Eq)]
 pub struct Position {
     geometry: Geometry,
@@ -69,7 +69,7 @@ impl Position {
         self.epoch
     }
 
-    /// The sector of the half, 0 to 255, at which the next gate stands.
+    /// The sector of the half, 0 to 255, at which the next gate is.
     pub fn place(self) -> u64
         ensures value { result ≡ self.place }
         ensures within { result ≤ LAST_PLACE }
@@ -77,7 +77,7 @@ impl Position {
         self.place
     }
 
-    /// How many records stand before it in the half.
+    /// How many records are before it in the half.
     pub fn count(self) -> u32
         ensures { result ≡ self.count }
     {
@@ -107,7 +107,7 @@ impl Position {
         self.start() + (self.place / 8) as u32
     }
 
-    /// Whether a body of so many sectors has room, with the gate behind it.
+    /// Whether a body of so many sectors has room, with the gate after it.
     pub(crate) fn has_room(self, sectors: u64) -> bool
         requires { sectors ≤ 1000 }
         ensures { IsTrue result ↔ (self.place + sectors + 1 ≤ 255) }
@@ -115,7 +115,7 @@ impl Position {
         self.place + sectors < LAST_PLACE
     }
 
-    /// The position behind a body of so many sectors.
+    /// The position after a body of so many sectors.
     pub(crate) fn behind(self, sectors: u64) -> Self
         requires { self.place + sectors + 1 ≤ 255 }
         ensures { result ≡ record self { place = self.place + sectors + 1; count = self.count + 1 } }

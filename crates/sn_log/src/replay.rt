@@ -18,7 +18,7 @@ use sn_model::Change;
 use sn_record::{PAYLOAD_MAX, decode};
 use std::marker::Model;
 
-/// What stands at a position of the log.
+/// What is at a position of the log.
 pub enum NextRecord<'a> {
     /// The next record of the epoch. Its names and bytes are lent from the buffer.
     Change(Change<'a>),
@@ -55,14 +55,14 @@ impl Replay {
         }
     }
 
-    /// Where the next record is read, and at the end where appending goes on.
+    /// Where the next record is read, and at the end where appending continues.
     pub fn position(&self) -> Position
         ensures { result ≡ self.now }
     {
         self.position
     }
 
-    /// What stands at the position, which then is the one behind a change that was found, and else
+    /// What is at the position, which then is the one after a change that was found, and else
     /// stays.
     ///
     /// Proved: Replay gives a change where its record is next in the epoch after an open gate, and else says whether the
@@ -133,7 +133,7 @@ fn look<D: Device>(blocks: &mut Blocks<D>, position: Position) -> Result<Option<
     Ok(Some(head.size))
 }
 
-// Whether a body with a payload of this size stands at a position, which then is in the room.
+// Whether a body with a payload of this size is at a position, which then is in the room.
 fn fill<D: Device>(
     blocks: &mut Blocks<D>,
     position: Position,

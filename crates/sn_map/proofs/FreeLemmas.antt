@@ -54,7 +54,7 @@ seen_from words from block low zero_here =
     let back : from + (block - from) ≡ block = omega arith in
     get_or-drop from words (block - from) 0 ∙ ap (λ m. get_or words m 0) back ∙ zero_here
 
--- where no word below an index is 0, the search goes on from there
+-- where no word below an index is 0, the search continues from there
 pub goes_on : (words : List ℕ) (at : ℕ) → at ≤ length words → NoneBelow words at → (r : Option ℕ) → r ≡ position is_free_word (drop at words) → position is_free_word words ≡ option_map (λ ahead. at + ahead) r
 goes_on words at within before (Some n) e =
     let index = found_at (drop at words) n (sym e) in

@@ -10,7 +10,7 @@ use std::simd::prelude::*;
 // As many words as a mask has bits.
 const SEARCHED: usize = 64;
 
-// As many words as the registers of x86-64 have room for beside what is computed of them: a loop on
+// As many words as the registers of x86-64 have room for besides what is computed of them: a loop on
 // wider vectors takes longer.
 const CHANGED: usize = 16;
 

@@ -1,4 +1,4 @@
--- Maps in memory against the finite maps that they stand for.
+-- Maps in memory against the finite maps that they represent.
 use Rattle.std.proofs.Common.{◌≡◌, ◌≢◌, Bool, true, false, cond, List, [], ◌∷◌, Option, Some, None, length, map, refl, sym, ap, ◌∙◌, arith}
 use Rattle.std.specs.declared.cmp.Ordering.{Ordering}
 use Rattle.std.specs.Option.{option_map}
@@ -39,7 +39,7 @@ module _ {K L X Y : Type 0} (R : L → L → Ordering) (key : K → L) (f : X �
       ∙ ap (λ b. cond b (Some (f v)) (option_map f (lookup (is_at (λ k. R q (key k))) es))) ((eq_by_cmp_equiv o).symm k q)
       ∙ sym (fin.get-insert o (seen_as R key f es) k (f v) q ∙ ap (cond (is_at (R q) k) (Some (f v))) (get-seen_as o es q)))
 
-  -- the same where a key goes
+  -- the same where a key is removed
   pub remove-seen_as : IsTotalOrder R → CmpEqualImpliesEq R → (es fs : List (K × X)) (k : L) → ((q : L) → lookup (is_at (λ k. R q (key k))) fs ≡ cond (is_at (R k) q) None (lookup (is_at (λ k. R q (key k))) es)) → seen_as R key f fs ≡ fin.remove (seen_as R key f es) k
   remove-seen_as o exact es fs k h = fin.same_map o exact _ _ (λ q.
       get-seen_as o fs q ∙ ap (option_map f) (h q) ∙ none_cond f (is_at (R k) q) (lookup (is_at (λ k. R q (key k))) es)
@@ -83,7 +83,7 @@ module _ {K X Y : Type 0} (R : K → K → Ordering) (f : X → Y) (o : IsTotalO
   pub remove-seen_by : CmpEqualImpliesEq R → (es fs : List (K × X)) (k : K) → ((q : K) → lookup (is_at (R q)) fs ≡ cond (is_at (R k) q) None (lookup (is_at (R q)) es)) → seen_by R f fs ≡ fin.remove (seen_by R f es) k
   remove-seen_by exact es fs k h = remove-seen_as R (λ k. k) f o exact es fs k h
 
--- what isn't there needn't go
+-- what isn't there needn't be removed
 pub remove-absent : {K X : Type 0} {R : K → K → Ordering} → IsTotalOrder R → CmpEqualImpliesEq R → (m : fin.FinMap R X) (k : K) → fin.get m k ≡ None → fin.remove m k ≡ m
 remove-absent {K} {X} {R} o exact m k absent = fin.same_map o exact _ _ (λ q. fin.get-remove o m k q ∙ at_key q (eq_by_cmp R q k) refl)
   where
@@ -91,7 +91,7 @@ remove-absent {K} {X} {R} o exact m k absent = fin.same_map o exact _ _ (λ q. f
     at_key q true e = sym absent ∙ ap (fin.get m) (sym (tells_apart exact q k e))
     at_key q false e = refl
 
--- what was put at a new key, and goes again, leaves the map as it was
+-- what was put at a new key, and is removed again, leaves the map as it was
 pub remove-insert : {K X : Type 0} {R : K → K → Ordering} → IsTotalOrder R → CmpEqualImpliesEq R → (m : fin.FinMap R X) (k : K) (v : X) → fin.get m k ≡ None → fin.remove (fin.insert m k v) k ≡ m
 remove-insert {K} {X} {R} o exact m k v absent = fin.same_map o exact _ _ (λ q.
     fin.get-remove o (fin.insert m k v) k q ∙ ap (cond (eq_by_cmp R q k) None) (fin.get-insert o m k v q) ∙ at_key q (eq_by_cmp R q k) refl)
@@ -154,7 +154,7 @@ get-updated_each {K} {X} {R} o exact m k g q = get-updated o exact m k g q ∙ t
 pub get-updated_other : {K X : Type 0} {R : K → K → Ordering} → IsTotalOrder R → CmpEqualImpliesEq R → (m : fin.FinMap R X) (k : K) (g : X → X) (q : K) → q ≢ k → fin.get (updated m k g) q ≡ fin.get m q
 get-updated_other {K} {X} {R} o exact m k g q apart = get-updated o exact m k g q ∙ ap (λ b. cond b (option_map g (fin.get m q)) (fin.get m q)) (false_from_ne_true (eq_by_cmp R q k) (λ e. apart (tells_apart exact q k e)))
 
--- what was put at a key goes again, and what was there comes back
+-- what was put at a key is removed again, and what was there is put back
 pub restored-insert : {K X : Type 0} {R : K → K → Ordering} → IsTotalOrder R → CmpEqualImpliesEq R → (m : fin.FinMap R X) (k : K) (v : X) (old : Option X) → fin.get m k ≡ old → restored (fin.insert m k v) k old ≡ m
 restored-insert o exact m k v None e = remove-insert o exact m k v e
 restored-insert {K} {X} {R} o exact m k v (Some x) e = fin.same_map o exact _ _ (λ q. get-updated o exact (fin.insert m k v) k (λ _. x) q ∙ at_key q (eq_by_cmp R q k) refl)

@@ -1,4 +1,4 @@
-//! Maps in memory, and the finite maps that they stand for.
+//! Maps in memory, and the finite maps that they represent.
 //!
 //! The way through: `specs/Maps` has the finite map that a list of entries shows, each key and each value seen by a function,
 //! and a map with a value changed at a key or set back; `proofs/MapLemmas` what a look-up finds in these, over any keys and

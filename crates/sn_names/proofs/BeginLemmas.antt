@@ -22,7 +22,7 @@ everywhere x n i = elim (cases_lt i n) [
   | inr past ↦ get_or_past (replicate n x) i x (omega (arith, length-replicate n x))
 ]
 
--- a pointer that is kept is the one that was read, and lies on the device
+-- a pointer that is kept is the one that was read, and is on the device
 pub lying : (sectors pointer number : ℕ) → number ≡ lying_on sectors pointer → number ≢ 0 → (pointer ≡ number) × (8 * number + 8 ≤ sectors)
 lying sectors pointer number is some = by_test (nat_le (8 * pointer + 8) sectors) refl is
   where

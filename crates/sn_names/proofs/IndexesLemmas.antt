@@ -60,7 +60,7 @@ reached_all numbers pointers xs ys both sorted first second joined order block h
       | inr n ↦ Contains-append_left xs ys block (subst (λ (l : List ℕ). Contains l block) (sym first) n)
     ]))
 
--- what was put behind others, if there was memory for it
+-- what was put after others, if there was memory for it
 pub all_pushed : {X : Type 0} (P : X → Type 0) (xs ys : List X) (x : X) (b : Bool) → ys ≡ (if b then xs ++ x ∷ [] else xs) → All P xs → P x → All P ys
 all_pushed P xs ys x true is all last = subst (All P) (sym is) (All-push P xs x all last)
 all_pushed P xs ys x false is all last = subst (All P) (sym is) all

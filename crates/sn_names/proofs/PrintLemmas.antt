@@ -4,7 +4,7 @@ use Rattle.std.specs.List.{Contains}
 use Rattle.std.proofs.lemmas.List.{get_or_default}
 use Rattle.sn_names.specs.Prints.{entry_at}
 
--- what lies between two entries of a print is of that print
+-- what is between two entries of a print is of that print
 pub of_print : (entry print from i : ℕ) → i < 16384 → entry_at print from ≤ entry → entry ≤ entry_at print i → entry / 16384 ≡ print
 of_print entry print from i small low high = omega arith
 

@@ -13,7 +13,7 @@ use Rattle.sn_names.specs.Prints.{print_of, entry_at}
 use Rattle.sn_names.specs.Rooms.{room_is_below}
 use Rattle.sn_names.specs.Told.{Knows, IsTold, IsSeen, LacksName, IsUnwanted, links_before}
 
--- what stands at an index of a list, unless it's 0
+-- what is at an index of a list, unless it's 0
 pub among : (xs : List ℕ) (i : ℕ) → slice_index xs i ≢ 0 → Contains xs (slice_index xs i)
 among xs i some = elim (cases_lt i (length xs)) [
   | inl within ↦ Contains-get_or xs i 0 within

@@ -1,4 +1,4 @@
--- What stands for a name in an index.
+-- What represents a name in an index.
 use Rattle.std.specs.Prelude.{ℕ, ◌+◌, ◌*◌, ◌/◌, List}
 use Rattle.std.specs.Hash.DefaultHasher.{initial, write, finish}
 

@@ -6,7 +6,7 @@ use Rattle.sn_layout_node.specs.Directory.{Link, Spells, links_bytes, links_of, 
 use Rattle.sn_ondisk.specs.Trees.{Store, entry}
 use Rattle.sn_names.specs.Prints.{print_of, entry_for}
 
--- Block i of a directory is at this number: it and the pointer above it lie on a device of so many sectors.
+-- Block i of a directory is at this number: it and the pointer above it are on a device of so many sectors.
 pub record IsPlaced (sectors : ℕ) (s : Store) (tree : BlockTree) (i number : ℕ) : Type 0 where
   pub place : entry s (levels_of tree.size) tree.pointers i ≡ number
   pub lies : 8 * number + 8 ≤ sectors

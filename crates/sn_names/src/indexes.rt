@@ -78,7 +78,7 @@ impl NameIndexes {
     }
 
     /// Begins the index of a directory on a device of so many sectors, which knows no names, and isn't kept
-    /// before `keep`. Where there are indirect blocks, `place_below` tells it where the others are.
+    /// before `keep`. Where there are indirect blocks, `place_below` records in it where the others are.
     ///
     /// Proved, also of `place_below`, `note_names` and `keep`: What is learnt from a block's bytes, from an indirect block
     /// or from another index is true where those were.
@@ -125,7 +125,7 @@ impl NameIndexes {
     }
 
     /// The names of block `i` of a directory become known from its bytes, if the directory has an index, the
-    /// block is at this number, and they spell names. Where memory is refused the index goes.
+    /// block is at this number, and they spell names. Where memory is refused the index is dropped.
     pub fn note_names(&mut self, tree: &BlockTree, i: u64, number: u32, block: &Block)
         ensures { (sectors : ℕ) (s : Store) → AllTell sectors s self.old → s number ≡ block.now
             → AllTell sectors s self.new }
@@ -169,7 +169,7 @@ impl NameIndexes {
         Ok(index)
     }
 
-    // Makes room for one more: of eight the one goes that wasn't used for longest.
+    // Makes room for one more: of eight the one that wasn't used for longest is dropped.
     fn make_room(&mut self)
         ensures room { vec_len self.new.list < 8 }
         ensures told { (sectors : ℕ) (s : Store) → AllTell sectors s self.old → AllTell sectors s self.new }

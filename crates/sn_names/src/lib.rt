@@ -4,7 +4,7 @@
 //! The model. `NameIndex` is a filter over the blocks of one directory, by number from 0. It knows where
 //! blocks are on the device, and of some what names they may have and what room is left in them. It never
 //! says that a block has a name, only that one lacks it: such a block can be passed over, and each other one
-//! is read as ever. So what isn't known costs time alone.
+//! is read as without an index. So what isn't known costs time alone.
 //!
 //! What it says is true of the blocks of a disk, or isn't: `Tells sectors s index` of `specs/Index.antt`, in
 //! terms of a `Store`, the bytes of each block, and the number of the device's sectors. Each call says what
@@ -16,12 +16,12 @@
 //! - `name_laws`: it stays true while the blocks that its pointers lead to stay. `forget` lets the others go
 //!   before a block is written.
 //!
-//! A name stands in an index as its `Print`, 50 bits of a hash. Proofs use no more of it than that a name
+//! A name is in an index as its `Print`, 50 bits of a hash. Proofs use no more of it than that a name
 //! has one: names may share it, and each that does costs one block that is read in vain.
 //!
 //! Memory. `NameIndexes` keeps at most eight indexes, which have at most 262,144 names together; the one
-//! that wasn't used for longest goes. A name takes 8 bytes, and a block 12. Where memory is refused an index
-//! goes. No clause says which indexes are kept, or how much they know.
+//! that wasn't used for longest is dropped. A name takes 8 bytes, and a block 12. Where memory is refused an index
+//! is dropped. No clause says which indexes are kept, or how much they know.
 //!
 //! The way through the crate:
 //! - `specs/Told.antt` says what is known of blocks and when it's true, `specs/Index.antt` the same of an
@@ -29,7 +29,7 @@
 //! - `index.rt` has the type and what it answers, `begin.rt` how it begins, `learn.rt` how it learns a
 //!   block's names, `share.rt` what it takes over from another one.
 //! - `kept.rt` has an index with the blocks that it rests on, `indexes.rt` those that are kept.
-//! - `print.rt`, `ordered.rt`, `search.rt`, `place.rt` and `rooms.rt` are what these stand on.
+//! - `print.rt`, `ordered.rt`, `search.rt`, `place.rt` and `rooms.rt` are what these build on.
 //!
 //! ```text
 //! while i < count {

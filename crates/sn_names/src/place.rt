@@ -36,7 +36,7 @@ fn lying_on(sectors: u64, pointer: u32) -> u32
     }
 }
 
-// The first blocks are where the pointers of a tree say, if they lie on the device.
+// The first blocks are where the pointers of a tree say, if they are on the device.
 pub(crate) fn place_first(numbers: &mut [u32], sectors: u64, pointers: &Pointers)
     ensures len { length numbers.new ≡ length numbers.old }
     ensures placed { (i : ℕ) → slice_index numbers.new i ≡ slice_index numbers.old i
@@ -47,7 +47,7 @@ pub(crate) fn place_first(numbers: &mut [u32], sectors: u64, pointers: &Pointers
     }
 }
 
-// The blocks below a pointer are where its block says, if they lie on the device. Those stay whose place is
+// The blocks below a pointer are where its block says, if they are on the device. Those stay whose place is
 // known.
 pub(crate) fn place_below(numbers: &mut [u32], sectors: u64, top: usize, block: &Block)
     requires { top < 16 }

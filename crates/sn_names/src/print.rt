@@ -1,4 +1,4 @@
-//! What stands for a name.
+//! What represents a name in an index.
 ghost use Rattle.std.specs.Prelude.{◌≡◌, ◌≢◌, ◌<◌, ◌/◌, ◌%◌, ◌^◌, ℕ, IfSome, IsNone};
 
 use std::hash::{DefaultHasher, Hasher};
@@ -7,7 +7,7 @@ use std::marker::Model;
 /// How many bits of an entry say the block.
 const BLOCKS: u64 = 16_384;
 
-/// What stands for a name in an index: the upper 50 bits of its SipHash-1-3 with the key 0, seen as a
+/// What represents a name in an index: the upper 50 bits of its SipHash-1-3 with the key 0, seen as a
 /// number. Names may share it.
 #[derive(Clone, Copy)]
 pub struct Print {

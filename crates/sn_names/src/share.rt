@@ -24,7 +24,7 @@ fn shares(numbers: &[u32], other: &NameIndex, i: u64) -> bool
     number != 0 && number == other.numbers[i] && other.rooms[i].is_some()
 }
 
-// Puts an entry behind those that were taken, if its block is shared.
+// Puts an entry after those that were taken, if its block is shared.
 fn take_entry(
     numbers: &[u32],
     other: &NameIndex,
@@ -42,7 +42,7 @@ fn take_entry(
     Ok(())
 }
 
-// Puts the entries of shared blocks behind those that were taken.
+// Puts the entries of shared blocks after those that were taken.
 fn take_entries(
     numbers: &[u32],
     other: &NameIndex,

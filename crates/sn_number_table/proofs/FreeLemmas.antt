@@ -31,7 +31,7 @@ use Rattle.sn_number_table.specs.Numbers.{AreTaken, is_taken, next_after, next_n
 
 -- ---- the search
 module _ (tree : Tree) (kept : ℕ → Bool) where
-  -- what a search from the next number on passes over is taken, and so is what lies below
+  -- what a search from the next number on passes over is taken, and so is what is below
   pub taken_below : (next end : ℕ) → AreTaken tree kept next → ((k : ℕ) → next ≤ k → k < end → is_taken tree kept k ≡ true) → (k : ℕ) → 2 ≤ k → k < end → is_taken tree kept k ≡ true
   taken_below next end h passed k low high = told (nat_lt k next) refl
     where

@@ -28,7 +28,7 @@ one_everywhere {X} x n k = told (nat_lt k n) refl
     told true e = get_or-replicate n k x x (ltb-true k n e)
     told false e = get_or_past (replicate n x) k x (omega (arith, ltb-false k n e, length-replicate n x))
 
--- a search went on
+-- a search continued
 pub passed_on : (marks : Marks) (next end : ℕ) → ArePassed marks next → next ≤ end → end ≤ 65536 → ((n : ℕ) → next ≤ n → n < end → is_used (mark_at marks n) ≡ true) → ArePassed marks end
 passed_on marks next end passed later within over = record { low = omega (arith, passed.low, later); high = within; used = λ n low high. told n low high (nat_lt n next) refl }
   where

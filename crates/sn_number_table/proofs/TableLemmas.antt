@@ -1,4 +1,4 @@
--- A table beside a tree whose nodes come and go, and the number that it gives out.
+-- A table beside a tree whose nodes are made and removed, and the number that it gives out.
 use Rattle.std.proofs.Common.{◌≡◌, ◌≢◌, ◌⊎◌, inl, inr, ℕ, ◌<◌, ◌≤◌, true, false, ◌||◌, ◌==◌, Option, Some, None, is_some, refl, sym, ap, ◌∙◌}
 use Rattle.std.specs.Cmp.{nat_cmp_total}
 use Rattle.std.specs.FinMap as map
@@ -19,7 +19,7 @@ use Rattle.sn_number_table.specs.declared.marks.Marks.{Marks}
 use Rattle.sn_number_table.specs.declared.table.NumberTable.{NumberTable}
 use Rattle.sn_number_table.proofs.MarkLemmas.{used_is}
 
--- ---- nodes that come and go
+-- ---- nodes that are made and removed
 
 one_or_other : (a b : ℕ) → (a ≡ b) ⊎ (a ≢ b)
 one_or_other = same_or_apart nat_cmp_total exact_unsigned

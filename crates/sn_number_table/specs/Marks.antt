@@ -29,7 +29,7 @@ is_used Taken = true
 is_used KeptBefore = true
 is_used KeptSince = true
 
--- when a node goes
+-- when a node is removed
 abbrev pub without_node : Mark → Mark
 without_node Free = Free
 without_node Taken = Free

@@ -1,4 +1,4 @@
--- What a list of the files without names tells.
+-- What a list of the files without names records.
 use Rattle.std.specs.Prelude.{◌≡◌, ℕ, Bool, false, slice_index_or}
 use Rattle.std.specs.FinMap as map
 use Rattle.sn_model.specs.Settling.{is_nameless}

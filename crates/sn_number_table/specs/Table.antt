@@ -1,4 +1,4 @@
--- What a table of numbers tells.
+-- What a table of numbers records.
 use Rattle.std.specs.Prelude.{◌≡◌, ℕ, Bool, is_some}
 use Rattle.std.specs.FinMap as map
 use Rattle.sn_model.specs.Tree.{Tree}
@@ -14,7 +14,7 @@ is_taken_in table number = has_node (mark_at table.marks number)
 abbrev pub kept_of : NumberTable → ℕ → Bool
 kept_of table number = is_kept (mark_at table.marks number)
 
--- those of them that are so since the consistency point in progress began, or the durable root's where none is
+-- those of them that are kept back since the consistency point in progress began, or the durable root's where none is
 abbrev pub since_of : NumberTable → ℕ → Bool
 since_of table number = is_since (mark_at table.marks number)
 

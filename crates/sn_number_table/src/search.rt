@@ -50,8 +50,8 @@ pub(crate) fn after_take(next: u32, number: u16) -> u32
     }
 }
 
-/// The same once a new node got a number. Where that is behind the beginning, a search has just passed over
-/// what lies between: it is passed over once more here, and then by no search.
+/// The same once a new node got a number. Where that is past the beginning, a search has just passed over
+/// what is between: it is passed over once more here, and then by no search.
 pub(crate) fn after_make(marks: &Marks, next: u32, number: u16) -> u32
     requires { ArePassed marks.now next }
     ensures { ArePassed marks.now result }

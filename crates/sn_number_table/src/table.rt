@@ -100,9 +100,9 @@ impl NumberTable {
 
     /// A node has this number now. Where it was kept back, no number is any more.
     ///
-    /// Proved, also of `lose` and `lose_closed`: The table still has the numbers of the tree where a node is made or goes.
+    /// Proved, also of `lose` and `lose_closed`: The table still has the numbers of the tree where a node is made or removed.
     /// Proved, also of `lose`, `lose_closed` and `release_all`: Where a number that is kept back is given out, none is any
-    /// more; the number of a file that a close or a logout dropped is kept back, that of any other node that goes isn't.
+    /// more; the number of a file that a close or a logout dropped is kept back, that of any other node that is removed isn't.
     pub fn make(&mut self, number: u16)
         ensures tells { (tree : Tree) (node : Node) → TellsNumbers tree self.old → TellsNumbers (put_node tree number node) self.new }
         ensures kept { (n : ℕ) → kept_of self.new n ≡ (kept_of self.old n && not (kept_of self.old number)) }
@@ -113,7 +113,7 @@ impl NumberTable {
         self.next = after_make(&self.marks, self.next, number);
     }
 
-    /// The node of this number goes, and the number can be given out at once.
+    /// The node of this number is removed, and the number can be given out at once.
     pub fn lose(&mut self, number: u16)
         ensures tells { (tree : Tree) → TellsNumbers tree self.old → TellsNumbers (take_node tree number) self.new }
         ensures kept { (n : ℕ) → kept_of self.new n ≡ kept_of self.old n }
@@ -124,7 +124,7 @@ impl NumberTable {
         self.next = after_loss(self.next, number);
     }
 
-    /// The node of this number goes, as a file does with its last descriptor: the number is kept back.
+    /// The node of this number is removed, as a file is with its last descriptor: the number is kept back.
     pub fn lose_closed(&mut self, number: u16)
         ensures tells { (tree : Tree) → TellsNumbers tree self.old → TellsNumbers (take_node tree number) self.new }
         ensures kept { (n : ℕ) → kept_of self.new n ≡ (n == number || kept_of self.old n) }
@@ -133,7 +133,7 @@ impl NumberTable {
         self.marks.set(number, Mark::KeptSince);
     }
 
-    /// A consistency point begins: what is kept back so far is so since before it.
+    /// A consistency point begins: what is kept back so far has been so since before it.
     ///
     /// Proved, also of `end_point` and `is_kept_back`: Which numbers are kept back since the consistency point in progress
     /// began is known; once its root is durable, all others can be given out.

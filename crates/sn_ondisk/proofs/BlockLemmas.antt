@@ -21,7 +21,7 @@ bytes_at-same c d at (suc n) same =
     ap (λ s. s ++ bytes_at d (at + 1) n) (same at (omega arith) (omega arith))
     ∙ ap (λ rest. sector_at c at ++ rest) (bytes_at-same c d (at + 1) n (λ i from to. same i (omega (arith, from)) (omega (arith, to))))
 
--- the bytes of some sectors, and of those behind them
+-- the bytes of some sectors, and of those after them
 pub bytes_at-more : (c : Contents) (at n m : ℕ) → bytes_at c at (n + m) ≡ bytes_at c at n ++ bytes_at c (at + n) m
 unfolding bytes_at
 bytes_at-more c at zero m = ap (λ k. bytes_at c at k) (omega arith) ∙ ap (λ k. bytes_at c k m) (omega arith)

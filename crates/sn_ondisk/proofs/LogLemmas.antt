@@ -1,4 +1,4 @@
--- What stands in a log half, carried over changes of other sectors and over the write of a gate.
+-- What is in a log half, carried over changes of other sectors and over the write of a gate.
 use Rattle.std.proofs.Common.{◌≡◌, ◌⊎◌, inl, inr, ⊎_elim, ℕ, ◌+◌, ◌<◌, ◌≤◌, ◌==◌, ◌||◌, if◌then◌else◌, Bool, true, false, List, [], ◌∷◌, ◌++◌, length, slice_index, take, refl, sym, ◌∙◌, ap, subst, arith}
 use Rattle.std.specs.Prelude.{nat_le}
 use Rattle.std.proofs.lemmas.Bool.{cases_eq, cases_lt, eqb-true, eqb-false, leb-true}
@@ -63,7 +63,7 @@ ready-same c d base epoch place ps same ready = record {
   closed = closed-same c d (base + place) (same (base + place) (omega arith) (omega arith)) ready.closed;
 }
 
--- a place past 253 stops replay, and of another one the gate and the epoch behind it are read
+-- a place past 253 stops replay, and of another one the gate and the epoch after it are read
 pub Stops-same : (c d : Contents) (base epoch place : ℕ) → (place < 254 → AreSame c d (base + place) (base + place + 2)) → Stops c base epoch place → Stops d base epoch place
 Stops-same c d base epoch place same stops = ⊎_elim (λ (near : place < 254). read (same near) stops) (λ (past : 254 ≤ place). inl past) (cases_lt place 254)
   where
@@ -103,7 +103,7 @@ module _ (c d : Contents) (base epoch place : ℕ) (ps : List (List ℕ)) (p : L
 -- ---- the write that clears a place
 
 module _ (c d : Contents) (base epoch place : ℕ) where
-  -- the gate is written where it is open or no record has room, and else the sector behind it
+  -- the gate is written where it is open or no record has room, and else the sector after it
   abbrev Way : Type 0
   Way = (254 ≤ place) ⊎ ((IsOpen c (base + place) × AgreesOutside (Single (base + place)) c d) ⊎ (IsClosed c (base + place) × AgreesOutside (Single (base + place + 1)) c d))
 

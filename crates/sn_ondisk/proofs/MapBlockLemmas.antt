@@ -43,7 +43,7 @@ split k words room = ⊎_elim
     ∙ ap (λ (m : ℕ). words ++ replicate m 0) back)
     (cases_lt (length words) 1024)
 
--- a block's spelling is that of its words with zeros behind them
+-- a block's spelling is that of its words with zeros after them
 block_filled : (words : List ℕ) → length words ≤ 1024 → map_block_bytes words ≡ numbers_bytes 4 (filled 1 words)
 block_filled words room =
     let blank = 1024 * 1 - length words in

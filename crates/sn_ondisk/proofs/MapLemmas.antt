@@ -16,7 +16,7 @@ AreNumbers-zeros [] zero fits = tt
 AreNumbers-zeros [] (suc n) fits = (omega arith, AreNumbers-zeros [] n tt)
 AreNumbers-zeros (x ∷ xs) n fits = (fits.0, AreNumbers-zeros xs n fits.1)
 
--- zeros behind a list are what stands past its end anyway
+-- zeros after a list are what is read past its end anyway
 slice_index-zeros : (xs : List ℕ) (n i : ℕ) → slice_index (xs ++ replicate n 0) i ≡ slice_index xs i
 slice_index-zeros xs n i = ⊎_elim
     (λ (within : i < length xs). get_or_append_left xs (replicate n 0) 0 i within)

@@ -19,7 +19,7 @@ same_width n a b x y e = same_fronts (number_bytes n a) (number_bytes n b) x y (
 
 -- ---- one record
 
--- the parts of a body, one behind the other
+-- the parts of a body, one after the other
 parts : (epoch sequence : ℕ) (p more : List ℕ)
     → body_bytes epoch sequence p ++ more ≡ number_bytes 8 epoch ++ (number_bytes 4 sequence ++ (number_bytes 4 (length p) ++ (p ++ (zeros (512 * body_sectors p - (16 + length p)) ++ more))))
 parts epoch sequence p more =
@@ -32,7 +32,7 @@ parts epoch sequence p more =
     ∙ append_assoc (a ++ b) l (p ++ (z ++ more))
     ∙ append_assoc a b (l ++ (p ++ (z ++ more)))
 
--- what stands from a body on up to the end of so many sectors
+-- what is there from a body on, up to the end of so many sectors
 from_body : (c : Contents) (base epoch place sequence : ℕ) (p : List ℕ) → HasRecord c base epoch place sequence p
     → (more : List ℕ) × (bytes_at c (base + place + 1) 129 ≡ number_bytes 8 epoch ++ (number_bytes 4 sequence ++ (number_bytes 4 (length p) ++ (p ++ more))))
 from_body c base epoch place sequence p record_p =
@@ -93,7 +93,7 @@ module _ (c : Contents) (base epoch : ℕ) (on_disk : IsOnDisk c base) where
   pub epoch_is : (place sequence : ℕ) (p : List ℕ) → epoch < 256 ^ 8 → HasRecord c base epoch place sequence p → epoch_at c base place ≡ epoch
   epoch_is place sequence p fits body = number_of epoch (sector_at c (base + place + 1)) fits (begins place sequence p body)
 
-  -- behind an open gate with a record replay goes on
+  -- after an open gate with a record replay continues
   goes_on : (place sequence : ℕ) (p : List ℕ) → IsOpen c (base + place) → HasRecord c base epoch place sequence p → Stops c base epoch place → ⊥
   goes_on place sequence p opened body (inl past) = omega (arith, past, body.room)
   goes_on place sequence p opened body (inr (inl closed)) = closed opened

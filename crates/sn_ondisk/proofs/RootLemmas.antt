@@ -1,4 +1,4 @@
--- Which root counts, whatever a gate or a closed slot's body comes to hold.
+-- Which root counts, with any bytes in a gate or in a closed slot's body.
 use Rattle.std.proofs.Common.{◌≡◌, ◌≢◌, ◌⊎◌, inl, inr, ⊎_elim, ℕ, ◌+◌, ◌*◌, ◌<◌, ◌≤◌, refl, sym, ◌∙◌, subst, arith}
 use Rattle.std.proofs.lemmas.Bool.{cases_eq}
 use Rattle.sn_device.specs.Sectors.{Contents, AgreesOutside, Single}

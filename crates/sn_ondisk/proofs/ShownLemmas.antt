@@ -1,4 +1,4 @@
--- What a disk shows, whatever the gate of a slot comes to hold.
+-- What a disk shows, with any bytes in the gate of a slot.
 use Rattle.std.proofs.Common.{◌≢◌, ◌⊎◌, inl, inr, ⊎_elim, ℕ, ◌+◌, ◌<◌, ◌≤◌, List, [], ◌∷◌, ◌++◌, length, arith}
 use Rattle.sn_device.specs.Sectors.{Contents, AgreesOutside, AgreesOn, Single}
 use Rattle.sn_layout.specs.declared.geometry.Slot.{Slot}

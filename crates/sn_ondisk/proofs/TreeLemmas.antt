@@ -77,7 +77,7 @@ reach_has_none s tree pointer among = but_holes-none (all_pointers s (levels_of 
 -- ---- the blocks that a tree reaches are all that it depends on
 
 module _ (s r : Store) where
-  -- the same stands behind each of these pointers that isn't a hole
+  -- the block of each of these pointers that isn't a hole is the same
   abbrev pub Agree : List ℕ → Type 0
   Agree ps = (p : ℕ) → Contains ps p → (p == 0) ≡ false → r p ≡ s p
 
@@ -89,7 +89,7 @@ module _ (s r : Store) where
   unfolding below
   below-same p agree = choose (p == 0) (replicate 1024 0) (numbers_in 1024 (r p)) (numbers_in 1024 (s p)) (λ h. ap (numbers_in 1024) (agree h))
 
-  -- what each pointer stands for, one after the other
+  -- what each pointer denotes, one after the other
   all-same : (f g : ℕ → List ℕ) → ((p : ℕ) → ((p == 0) ≡ false → r p ≡ s p) → g p ≡ f p) → (ps : List ℕ) → Agree ps → flat_map g ps ≡ flat_map f ps
   all-same f g each [] agree = refl
   all-same f g each (p ∷ ps) agree =

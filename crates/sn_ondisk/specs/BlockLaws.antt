@@ -10,7 +10,7 @@ use Rattle.sn_ondisk.specs.Gates.{IsOpen}
 abbrev pub BytesFollow : Type 0
 BytesFollow = (c : Contents) (at n m : ℕ) → bytes_at c at (n + m) ≡ bytes_at c at n ++ bytes_at c (at + n) m
 
--- A block that lies on the disk has 4,096 bytes.
+-- A block that is on the disk has 4,096 bytes.
 abbrev pub BlocksAreWhole : Type 0
 BlocksAreWhole = (c : Contents) (block : ℕ) → AreSectors c → 8 * block + 8 ≤ length c → length (block_at c block) ≡ 4096
 

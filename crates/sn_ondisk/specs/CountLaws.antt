@@ -1,11 +1,11 @@
--- How often pointers lead to a block, all that stand below them counted.
+-- How often pointers lead to a block, all that are below them counted.
 use Rattle.std.specs.Prelude.{◌≡◌, ◌≢◌, ◌↔◌, ℕ, suc, ◌+◌, ◌*◌, ◌^◌, ◌<◌, List, [], ◌∷◌, ◌++◌, length, Contains}
 use Rattle.sn_layout.specs.Pointers.{levels_of}
 use Rattle.sn_layout.specs.declared.tree.BlockTree.{BlockTree}
 use Rattle.sn_ondisk.specs.Counts.{times}
 use Rattle.sn_ondisk.specs.Trees.{Store, below, pointers_at, all_pointers, tree_reach}
 
--- What stands in a list is counted.
+-- What is in a list is counted.
 abbrev pub NamedIsCounted : Type 0
 NamedIsCounted = (block : ℕ) (blocks : List ℕ) → Contains blocks block ↔ 0 < times block blocks
 
@@ -24,6 +24,6 @@ abbrev pub ReachIsCounted : Type 0
 ReachIsCounted = (s : Store) (tree : BlockTree) (block : ℕ) → block ≢ 0
     → times block (tree_reach s tree) ≡ times block (all_pointers s (levels_of tree.size) tree.pointers)
 
--- Below each pointer stand 1,024 for each level.
+-- Below each pointer are 1,024 for each level.
 abbrev pub LevelsAreFull : Type 0
 LevelsAreFull = (s : Store) (depth : ℕ) (pointers : List ℕ) → length (pointers_at s depth pointers) ≡ length pointers * 1024 ^ depth

@@ -28,7 +28,7 @@ RecordsDependOnTheirBody = (base epoch place sequence : ℕ) (payload : List ℕ
 abbrev pub ReadyDependsOnItsSectors : Type 0
 ReadyDependsOnItsSectors = (base epoch place : ℕ) (payloads : List (List ℕ)) → DependsOn (Stretch base (place + 1)) (λ c. IsReady c base epoch payloads place)
 
--- That no later record stands at the first place, on its gate and the sector behind it.
+-- That no later record is at the first place depends on the gate of that place and the sector after it.
 abbrev pub NoLaterDependsOnTheFirstPlace : Type 0
 NoLaterDependsOnTheFirstPlace = (base epoch : ℕ) → DependsOn (Stretch base 2) (λ c. HasNoLater c base epoch)
 

@@ -1,4 +1,4 @@
--- What a disk comes to show by the write of one gate, as laws on two contents that agree outside that sector: they hold of a write that a crash tore as of one that was done.
+-- What a disk shows after the write of one gate, as laws on two contents that agree outside that sector: they hold of a write that a crash tore as of one that was done.
 use Rattle.std.specs.Prelude.{◌⊎◌, ℕ, ◌+◌, List, [], ◌∷◌, ◌++◌, length}
 use Rattle.sn_device.specs.Sectors.{Contents, AreSectors, AgreesOutside, Single, Stretch}
 use Rattle.sn_device.specs.Disk.{Disk, Always, reads}
@@ -12,14 +12,14 @@ use Rattle.sn_ondisk.specs.Roots.{body_block, IsNewest, HasNext}
 use Rattle.sn_ondisk.specs.LogHalf.{HasRecord, IsReady, HasPending, Stops, ReplaysTo, Replays, HasNoLater, place_after, body_sectors, base_of, cleared_sector}
 use Rattle.sn_ondisk.specs.Shown.{Shown}
 
--- Whatever the gate of a record comes to hold that is written and doesn't count, the record is there as a whole or not at all.
+-- With any bytes in the gate of a record that is written but doesn't count, the record is there as a whole or not at all.
 abbrev pub GateAddsOneOrNone : Type 0
 GateAddsOneOrNone = (c d : Contents) (base epoch place : ℕ) (payloads : List (List ℕ)) (payload : List ℕ)
     → HasPending c base epoch payloads place payload
     → AgreesOutside (Single (base + place)) c d
     → IsReady d base epoch payloads place ⊎ IsReady d base epoch (payloads ++ payload ∷ []) (place_after place payload)
 
--- Where that gate comes to be open, the record is there.
+-- Where that gate is then open, the record is there.
 abbrev pub OpenGateAddsOne : Type 0
 OpenGateAddsOne = (c d : Contents) (base epoch place : ℕ) (payloads : List (List ℕ)) (payload : List ℕ)
     → HasPending c base epoch payloads place payload
@@ -27,7 +27,7 @@ OpenGateAddsOne = (c d : Contents) (base epoch place : ℕ) (payloads : List (Li
     → IsOpen d (base + place)
     → IsReady d base epoch (payloads ++ payload ∷ []) (place_after place payload)
 
--- A record is appended: its body and the next gate, closed, are written behind the closed gate and synced, and then the gate alone is written. A crash at any moment leaves the records as they were, or with the new one behind them.
+-- A record is appended: its body and the next gate, closed, are written after the closed gate and synced, and then the gate alone is written. A crash at any moment leaves the records as they were, or with the new one after them.
 abbrev pub AppendAddsOneOrNone : Type 0
 AppendAddsOneOrNone = (base epoch place : ℕ) (payloads : List (List ℕ)) (payload : List ℕ) (old mid new : Disk)
     → AreSectors (reads old)
@@ -38,14 +38,14 @@ AppendAddsOneOrNone = (base epoch place : ℕ) (payloads : List (List ℕ)) (pay
     → Touches (Single (base + place)) mid new
     → LeavesOnly old new (λ c. IsReady c base epoch payloads place ⊎ IsReady c base epoch (payloads ++ payload ∷ []) (place_after place payload))
 
--- An epoch that stops at a place stops there whatever comes to stand in the sector that is written to clear it.
+-- An epoch that stops at a place stops there with any bytes in the sector that is written to clear it.
 abbrev pub ClearingStops : Type 0
 ClearingStops = (c d : Contents) (base epoch place : ℕ)
     → Stops c base epoch place
     → AgreesOutside (Single (cleared_sector c base place)) c d
     → Stops d base epoch place
 
--- So clearing the place behind the last record leaves the records.
+-- So clearing the place after the last record leaves the records.
 abbrev pub ClearingKeepsTheRecords : Type 0
 ClearingKeepsTheRecords = (c d : Contents) (base epoch place : ℕ) (payloads : List (List ℕ))
     → ReplaysTo c base epoch payloads place
@@ -59,28 +59,28 @@ ClearingAddsNoLater = (c d : Contents) (base epoch : ℕ)
     → AgreesOutside (Single (cleared_sector c base 0)) c d
     → HasNoLater d base epoch
 
--- Whatever the gate of an older root comes to hold that stands open, the newest root stays. Behind a closed gate a root that never counted may stand, so that one isn't closed again.
+-- With any bytes in the gate of an older root that was open, the newest root stays. After a closed gate there may be a root that never counted, so that one isn't closed again.
 abbrev pub ClosingKeepsTheRoot : Type 0
 ClosingKeepsTheRoot = (c d : Contents) (slot : Slot) (root : RootBody)
     → IsNewest c slot root → IsOpen c (gate_sector (other_slot slot))
     → AgreesOutside (Single (gate_sector (other_slot slot))) c d
     → IsNewest d slot root
 
--- Behind a closed gate a root body may be written: whatever its block comes to hold, the newest root stays. Behind an open one a torn body would leave no newest root.
+-- After a closed gate a root body may be written: with any bytes in its block, the newest root stays. After an open one a torn body would leave no newest root.
 abbrev pub BodyKeepsTheRoot : Type 0
 BodyKeepsTheRoot = (c d : Contents) (slot : Slot) (root : RootBody)
     → IsNewest c slot root → IsClosed c (gate_sector (other_slot slot))
     → AgreesOutside (InBlock (body_block (other_slot slot))) c d
     → IsNewest d slot root
 
--- Whatever the gate of a newer root comes to hold, the newest root is the old one or the new one.
+-- With any bytes in the gate of a newer root, the newest root is the old one or the new one.
 abbrev pub OpeningChangesTheRootOrNot : Type 0
 OpeningChangesTheRootOrNot = (c d : Contents) (slot : Slot) (root next : RootBody)
     → HasNext c slot root next
     → AgreesOutside (Single (gate_sector (other_slot slot))) c d
     → IsNewest d slot root ⊎ IsNewest d (other_slot slot) next
 
--- Where that gate comes to be open, it is the new one.
+-- Where that gate is then open, it is the new one.
 abbrev pub OpenRootIsNewest : Type 0
 OpenRootIsNewest = (c d : Contents) (slot : Slot) (root next : RootBody)
     → HasNext c slot root next
@@ -98,21 +98,21 @@ OpeningShowsEither = (n : ℕ) (c d : Contents) (slot : Slot) (root next : RootB
     → AgreesOutside (Single (gate_sector (other_slot slot))) c d
     → Shown n d slot root first second ⊎ Shown n d (other_slot slot) next third fourth
 
--- Whatever the gate of an older root comes to hold that stands open, the disk shows the same.
+-- With any bytes in the gate of an older root that was open, the disk shows the same.
 abbrev pub ClosingShowsTheSame : Type 0
 ClosingShowsTheSame = (n : ℕ) (c d : Contents) (slot : Slot) (root : RootBody) (older newer : List (List ℕ))
     → Shown n c slot root older newer → IsOpen c (gate_sector (other_slot slot))
     → AgreesOutside (Single (gate_sector (other_slot slot))) c d
     → Shown n d slot root older newer
 
--- And so whatever the body of a closed slot comes to hold.
+-- And so it does with any bytes in the body of a closed slot.
 abbrev pub BodyShowsTheSame : Type 0
 BodyShowsTheSame = (n : ℕ) (c d : Contents) (slot : Slot) (root : RootBody) (older newer : List (List ℕ))
     → Shown n c slot root older newer → IsClosed c (gate_sector (other_slot slot))
     → AgreesOutside (InBlock (body_block (other_slot slot))) c d
     → Shown n d slot root older newer
 
--- Whatever the gate of a record of the root's epoch comes to hold, the disk shows the records as they were, or with that one behind the older ones.
+-- With any bytes in the gate of a record of the root's epoch, the disk shows the records as they were, or with that one after the older ones.
 abbrev pub AppendShowsOneMore : Type 0
 AppendShowsOneMore = (n : ℕ) (c d : Contents) (slot : Slot) (root : RootBody) (older newer : List (List ℕ)) (place : ℕ) (payload : List ℕ)
     → Shown n c slot root older newer
@@ -120,7 +120,7 @@ AppendShowsOneMore = (n : ℕ) (c d : Contents) (slot : Slot) (root : RootBody) 
     → AgreesOutside (Single (base_of n root.epoch + place)) c d
     → Shown n d slot root older newer ⊎ Shown n d slot root (older ++ payload ∷ []) newer
 
--- And of the next epoch, behind the newer ones.
+-- And of the next epoch, after the newer ones.
 abbrev pub AppendShowsOneNewer : Type 0
 AppendShowsOneNewer = (n : ℕ) (c d : Contents) (slot : Slot) (root : RootBody) (older newer : List (List ℕ)) (place : ℕ) (payload : List ℕ)
     → Shown n c slot root older newer

@@ -1,4 +1,4 @@
--- Gates: sectors of which the first byte alone is read. What stands behind a gate counts only while it is open.
+-- Gates: sectors of which the first byte alone is read. What follows a gate counts only while it is open.
 use Rattle.std.specs.Prelude.{◌≡◌, ◌≢◌, ℕ, slice_index}
 use Rattle.sn_device.specs.Sectors.{Contents, sector_at}
 

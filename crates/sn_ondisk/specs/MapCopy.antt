@@ -19,7 +19,7 @@ map_words n c slot = numbers_in (1024 * map_blocks n) (map_bytes n c slot)
 abbrev pub map_word : ℕ → Contents → Slot → ℕ → ℕ
 map_word n c slot block = slice_index (map_words n c slot) block
 
--- The slot's copy is spelled with these words, one for each block of the disk, and zeros behind them.
+-- The slot's copy is spelled with these words, one for each block of the disk, and zeros after them.
 pub record HasMap (n : ℕ) (c : Contents) (slot : Slot) (words : List ℕ) : Type 0 where
   pub count : length words ≡ n
   pub fits : AreNumbers 4 words

@@ -7,16 +7,16 @@ use Rattle.sn_ondisk.specs.LogHalf.{HasRecord, IsReady, ReplaysTo, HasNoLater, e
 use Rattle.sn_ondisk.specs.Roots.{HasRoot, IsNewest}
 use Rattle.sn_ondisk.specs.Shown.{Shown}
 
--- At a place stands one record at most, whatever the epoch and the number that it is read with.
+-- At a place is one record at most, whatever the epoch and the number that it is read with.
 abbrev pub RecordIsOne : Type 0
 RecordIsOne = (c : Contents) (base place epoch age sequence number : ℕ) (payload other : List ℕ)
     → HasRecord c base epoch place sequence payload → HasRecord c base age place number other → payload ≡ other
 
--- Where an append can go on, replay finds the same records, and ends there.
+-- Where an append can continue, replay finds the same records, and ends there.
 abbrev pub ReadyIsReplayed : Type 0
 ReadyIsReplayed = (c : Contents) (base epoch place : ℕ) (payloads : List (List ℕ)) → IsReady c base epoch payloads place → ReplaysTo c base epoch payloads place
 
--- A half that lies on the disk. In sectors of another length a record's first bytes needn't be in its first sector, where replay looks for its epoch.
+-- A half that is on the disk. In sectors of another length a record's first bytes needn't be in its first sector, where replay looks for its epoch.
 pub record IsOnDisk (c : Contents) (base : ℕ) : Type 0 where
   pub whole : AreSectors c
   pub within : base + 256 ≤ length c

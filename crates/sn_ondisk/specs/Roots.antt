@@ -29,7 +29,7 @@ pub record IsNewest (c : Contents) (slot : Slot) (root : RootBody) : Type 0 wher
   pub body : HasRoot c slot root
   pub other : IsOlder c (other_slot slot) root.generation
 
--- The newest root is this one, and in the other slot stands the body of a later one. Once that slot's gate opens, the later one is the newest.
+-- The newest root is this one, and in the other slot is the body of a later one. Once that slot's gate opens, the later one is the newest.
 pub record HasNext (c : Contents) (slot : Slot) (root next : RootBody) : Type 0 where
   pub newest : IsNewest c slot root
   pub body : HasRoot c (other_slot slot) next

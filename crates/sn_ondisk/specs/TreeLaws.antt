@@ -32,11 +32,11 @@ ReachHasEveryPointer = (s : Store) (tree : BlockTree) (depth pointer : ℕ) → 
 abbrev pub ReachHasNoHole : Type 0
 ReachHasNoHole = (s : Store) (tree : BlockTree) (pointer : ℕ) → Contains (tree_reach s tree) pointer → pointer ≢ 0
 
--- Looked up on its path, a pointer is the one that stands there in its level.
+-- Looked up on its path, a pointer is the one that is there in its level.
 abbrev pub EntriesAreTheirLevel : Type 0
 EntriesAreTheirLevel = (s : Store) (depth : ℕ) (pointers : List ℕ) (i : ℕ) → entry s depth pointers i ≡ slice_index (pointers_at s depth pointers) i
 
--- Where each block that a tree reaches has 4,096 bytes, a byte of the tree is one of its data block. Behind a shorter one all others would lie nearer to the front.
+-- Where each block that a tree reaches has 4,096 bytes, a byte of the tree is one of its data block. After a shorter one all others would be nearer to the front.
 abbrev pub BytesAreOfTheirBlock : Type 0
 BytesAreOfTheirBlock = (s : Store) (tree : BlockTree) → ((block : ℕ) → Contains (tree_reach s tree) block → length (s block) ≡ 4096)
     → (i k : ℕ) → k < 4096 → 4096 * i + k < tree.size → slice_index (tree_bytes s tree) (4096 * i + k) ≡ slice_index (data_block s tree i) k

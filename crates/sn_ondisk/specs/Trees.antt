@@ -7,7 +7,7 @@ use Rattle.sn_layout.specs.Pointers.{levels_of}
 use Rattle.sn_layout.specs.declared.tree.BlockTree.{BlockTree}
 use Rattle.sn_ondisk.specs.Blocks.{block_at, numbers_in}
 
--- what stands in each block, by its number
+-- the bytes of each block, by its number
 abbrev pub Store : Type 0
 Store = ℕ → List ℕ
 
@@ -15,15 +15,15 @@ Store = ℕ → List ℕ
 abbrev pub store_of : Contents → Store
 store_of c = λ block. block_at c block
 
--- the bytes that a pointer to a data block stands for: a hole, which is a pointer 0, reads as zeros
+-- the bytes that a pointer to a data block denotes: a hole, which is a pointer 0, reads as zeros
 unfoldable pub named_by : Store → ℕ → List ℕ
 named_by s pointer = if pointer == 0 then zeros 4096 else s pointer
 
--- the 1,024 pointers that a pointer to an indirect block stands for: a hole stands for holes
+-- the 1,024 pointers that a pointer to an indirect block denotes: a hole denotes holes
 unfoldable pub below : Store → ℕ → List ℕ
 below s pointer = if pointer == 0 then replicate 1024 0 else numbers_in 1024 (s pointer)
 
--- the pointers that stand so many levels below these, in order
+-- the pointers so many levels below these, in order
 unfoldable pub pointers_at : Store → ℕ → List ℕ → List ℕ
 pointers_at s zero pointers = pointers
 pointers_at s (suc depth) pointers = flat_map (below s) (pointers_at s depth pointers)
@@ -33,7 +33,7 @@ unfoldable pub all_pointers : Store → ℕ → List ℕ → List ℕ
 all_pointers s zero pointers = pointers
 all_pointers s (suc depth) pointers = all_pointers s depth pointers ++ pointers_at s (suc depth) pointers
 
--- the pointer with number i of those that stand so many levels below these, looked up on its path alone
+-- the pointer with number i of those so many levels below these, looked up on its path alone
 unfoldable pub entry : Store → ℕ → List ℕ → ℕ → ℕ
 entry s zero pointers i = slice_index pointers i
 entry s (suc depth) pointers i = slice_index (below s (entry s depth pointers (i / 1024))) (i % 1024)

@@ -22,7 +22,7 @@ pub fn log_gate_laws()
     ensures clearing_adds { ClearingAddsNoLater }
 {}
 
-/// What the write of a slot's gate, or of the body behind a closed one, does to the newest root,
+/// What the write of a slot's gate, or of the body after a closed one, does to the newest root,
 /// whether it was done or torn.
 ///
 /// Proved, also of `shown_laws`: A torn write of a root's gate leaves the old root with its records or the new one with its

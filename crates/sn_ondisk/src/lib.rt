@@ -1,4 +1,4 @@
-//! What the contents of a disk mean, for every layer that stands between the device and the trees
+//! What the contents of a disk mean, for every layer between the device and the trees
 //! of the file system: definitions and laws, and no code that runs.
 //!
 //! The model. `Contents` are the sectors of a disk, as reads give them or as a crash may leave them.
@@ -8,13 +8,13 @@
 //! - `Gates`: a sector whose first byte alone is read. It is open if that byte is 1.
 //! - `Roots`: `HasRoot`, the root body that a slot's block spells, and `IsNewest`, the root that
 //!   counts.
-//! - `LogHalf`: `HasRecord`, a record behind the gate of a place; `Leads`, the open records from a
+//! - `LogHalf`: `HasRecord`, a record after the gate of a place; `Leads`, the open records from a
 //!   place on; `Stops`, where replay of an epoch ends; `Replays`, what it finds; `IsReady`, what an
 //!   append needs; `HasPending`, a record whose own gate alone is still to be opened.
 //! - `Shown`: the newest root with the records that belong on top of it.
 //! - `Trees`: the bytes of a block tree and the blocks that it reaches, with repeats. One recursion
 //!   goes down the levels, and their number comes from the size.
-//! - `Counts`: how often a block stands in a list of pointers.
+//! - `Counts`: how often a block occurs in a list of pointers.
 //! - `MapCopy`: the words of a slot's copy of the block map.
 //!
 //! The way through the laws, each of them named by the contract of a function that does nothing:
@@ -32,7 +32,7 @@
 //! What the sources leave open is decided in `docs/DECISIONS.md`, under "What a disk means".
 //!
 //! ```text
-//! -- whatever the gate of a record comes to hold that is written and doesn't count,
+//! -- with any bytes in the gate of a record that is written but doesn't count,
 //! -- the record is there as a whole or not at all
 //! GateAddsOneOrNone = (c d : Contents) (base epoch place : ℕ) (payloads : List (List ℕ))
 //!     (payload : List ℕ) → HasPending c base epoch payloads place payload

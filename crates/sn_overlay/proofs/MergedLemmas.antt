@@ -81,7 +81,7 @@ module _ (nodes newer_nodes : List (ℕ × NodeChange)) (names newer_names : Lis
       ∙ ap (λ n. kept_under n (hides_block (fin.get (nodes_of newer_nodes) q.file) q.index) (option_map (λ (x : Bytes). x.value) (find file_block_cmp q blocks))) (get-blocks_of newer_blocks q)
       ∙ ap (λ c. kept_under (option_map (λ (x : Bytes). x.value) (find file_block_cmp q newer_blocks)) (hides_block c q.index) (option_map (λ (x : Bytes). x.value) (find file_block_cmp q blocks))) (get-nodes_of newer_nodes q.file)))
 
--- ---- one node that goes
+-- ---- one node that is dropped
 
 module _ (nodes : List (ℕ × NodeChange)) (names : List (Link × Option ℕ)) (blocks : List (FileBlock × Bytes)) (number : ℕ) (by_close : Bool) where
   abbrev held : Layer
@@ -90,7 +90,7 @@ module _ (nodes : List (ℕ × NodeChange)) (names : List (Link × Option ℕ)) 
   abbrev one_gone : List (ℕ × NodeChange)
   one_gone = (number, Gone by_close) ∷ []
 
-  -- the entries of one node that goes are its layer's
+  -- the entries of one node that is dropped are its layer's
   gone_is : record { nodes = nodes_of one_gone; names = names_of []; blocks = blocks_of [] } ≡ gone number by_close
   unfolding nodes_of names_of blocks_of
   gone_is =

@@ -94,7 +94,7 @@ paid i below between after more charged charge older newer both h p q k = omega 
 pub stays_paid : (limits : Limits) (older newer : Layer) (below between after more charged charge : ℕ) → IsPaid limits older below between charged → need limits newer + limits.inode_charge * more ≤ charge → after ≤ between + more → IsPaid limits (merge older newer) below after (charged + charge)
 stays_paid limits older newer below between after more charged charge p q k = paid limits.inode_charge below between after more charged charge (need limits older) (need limits newer) (need limits (merge older newer)) (needs_add limits older newer) p q k
 
--- a layer of one node that goes
+-- a layer of one node that is dropped
 need-gone : (limits : Limits) (number : ℕ) (by_close : Bool) → need limits (gone number by_close) ≤ (3 + levels limits) + 2
 need-gone limits number by_close =
     let nodes : fin.len (gone number by_close).nodes ≤ 1 = omega (arith, len-set_or_take nat_cmp_total fin.empty number (Some (Gone by_close)), fin.len-empty nat_cmp NodeChange) in

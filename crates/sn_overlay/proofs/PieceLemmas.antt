@@ -31,7 +31,7 @@ get_or-piece width bytes index at h = get_or-take width _ at 0 h ∙ told (cases
     told (inr k) = get_or-append_right (drop (index * width) bytes) (zeros width) _ at 0 refl k ∙ get_or-zeros width _
         ∙ sym (get_or_past bytes (index * width + at) 0 (omega (arith, length-drop (index * width) bytes)))
 
--- a piece behind the end is zeros
+-- a piece past the end is zeros
 pub piece_past : (width : ℕ) (bytes : List ℕ) (index : ℕ) → length bytes ≤ index * width → piece width bytes index ≡ zeros width
 piece_past width bytes index h = ext_get_or 0 _ _ (length-piece width bytes index ∙ sym (length-zeros width)) (λ at b.
     let short : at < width = omega (arith, length-piece width bytes index) in

@@ -54,7 +54,7 @@ DropsArePaid = (limits : Limits) → AreCharged limits → need_of limits (count
 abbrev pub MergesStayPaid : Type 0
 MergesStayPaid = (limits : Limits) (older newer : Layer) (below between after more charged charge : ℕ) → IsPaid limits older below between charged → need limits newer + limits.inode_charge * more ≤ charge → after ≤ between + more → IsPaid limits (merge older newer) below after (charged + charge)
 
--- A file without names that goes is paid by its own charge: nothing more is charged.
+-- A file without names that is dropped is paid by its own charge: nothing more is charged.
 abbrev pub DropsStayPaid : Type 0
 DropsStayPaid = (limits : Limits) (older : Layer) (number : ℕ) (by_close : Bool) (below after charged : ℕ) → AreCharged limits → IsPaid limits older below (after + 1) charged → IsPaid limits (merge older (gone number by_close)) below after charged
 

@@ -1,4 +1,4 @@
--- A layer: what changed of a tree, and the tree that is seen through it. What a layer has for a number, a name or a block stands before what is below.
+-- A layer: what changed of a tree, and the tree that is seen through it. What a layer has for a number, a name or a block takes precedence over what is below.
 use Rattle.std.specs.Prelude.{◌≡◌, ℕ, ◌+◌, ◌*◌, ◌<◌, ◌≤◌, Bool, true, false, not, ◌||◌, nat_le, List, length, map, slice_index, Option, None, Some, is_some, if◌then◌else◌}
 use Rattle.std.specs.Ordering.{nat_cmp}
 use Rattle.std.specs.Option.{option_map, unwrap_or}
@@ -29,7 +29,7 @@ hides_names None = false
 hides_names (Some (Gone by_close)) = true
 hides_names (Some (Changed state)) = state.fresh
 
--- and the blocks, as a cut does with those behind it
+-- and the blocks, as a cut hides those after it
 abbrev pub hides_block : Option NodeChange → ℕ → Bool
 hides_block None index = false
 hides_block (Some (Gone by_close)) index = true
@@ -55,7 +55,7 @@ through layer tree = record {
   links = overlaid (map.entries layer.names) (map.retain_keys tree.links (λ link. not (hides_names (map.get layer.nodes link.directory))));
 }
 
--- A layer is whole: what it has of names and blocks belongs to numbers that it has, blocks have 4,096 bytes and begin before the end of their file, and nothing is cut behind its end.
+-- A layer is whole: what it has of names and blocks belongs to numbers that it has, blocks have 4,096 bytes and begin before the end of their file, and nothing is cut past its end.
 pub record IsLayer (layer : Layer) : Type 0 where
   pub names : (link : Link) → is_some (map.get layer.names link) ≡ true → is_some (map.get layer.nodes link.directory) ≡ true
   pub blocks : (file_block : FileBlock) → is_some (map.get layer.blocks file_block) ≡ true → is_some (map.get layer.nodes file_block.file) ≡ true

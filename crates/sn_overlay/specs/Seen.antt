@@ -19,7 +19,7 @@ seen_of tree number node = record { kind = node.kind; ownership = ownership_of n
 abbrev pub seen_node : Tree → ℕ → Option SeenNode
 seen_node tree number = option_map (seen_of tree number) (map.get tree.nodes number)
 
--- a block of a file, with zeros behind its end
+-- a block of a file, with zeros past its end
 abbrev pub seen_block : Tree → FileBlock → List ℕ
 seen_block tree file_block = piece 4096 (bytes_of (map.get tree.nodes file_block.file)) file_block.index
 

@@ -24,7 +24,7 @@ pub trait Below {
     // what a look-up needs and keeps
     ghost holds: { Self → Type 0 };
 
-    // what look-ups may do: whether a tree may be a later one of an earlier
+    // what look-ups may do: whether a tree may be a later state of an earlier one
     ghost follows: { Self → Self → Type 0 };
 
     // whether what happened between an earlier tree and a later one is the cause of a fault
@@ -39,7 +39,7 @@ pub trait Below {
         ensures found { IsTrue is_told → IfOk result (λ n. n ≡ seen_node (shows self.old) number) }
         ensures cause { IfErr result (λ f. causes self.old self.new f) };
 
-    /// The number that a name stands for.
+    /// The number that a name denotes.
     fn link(&mut self, link: &Link) -> Result<Option<u16>, Self::Fault>
         requires { holds self.old }
         ensures kept { holds self.new }

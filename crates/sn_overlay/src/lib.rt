@@ -2,8 +2,8 @@
 //!
 //! The model is a layer (`specs/Layers`): finite maps of nodes that changed or are gone, of
 //! names that have another number or none, and of blocks that were written. `through layer tree` is the
-//! tree of `sn_model` that is seen through it, of a tree below. What a layer has stands first; what a
-//! gone node had, or one made anew had before, is hidden, and so are the blocks behind the least size
+//! tree of `sn_model` that is seen through it, of a tree below. What a layer has comes first; what a
+//! gone node had, or one made anew had before, is hidden, and so are the blocks past the least size
 //! that a file had since the layer began (`cut`).
 //!
 //! The way through it:
@@ -18,8 +18,8 @@
 //!    through two layers is seeing it through their merge.
 //! 7. `specs/Lists`: what a layer has of one directory and of one file, as lists in the order of keys.
 //! 8. [`Overlay`], a layer in memory: three sorted maps in which room is made first, so that inserts,
-//!    [`Overlay::drop_node`] and [`Overlay::merge`] take no memory and can't fail. What it has is handed
-//!    out by [`Overlay::nodes`], [`Overlay::names_of`] and [`Overlay::take_blocks`].
+//!    [`Overlay::drop_node`] and [`Overlay::merge`] take no memory and can't fail. What it has is
+//!    read by [`Overlay::nodes`], [`Overlay::names_of`] and [`Overlay::take_blocks`].
 //! 9. [`Below`], the tree that an overlay lies over, and [`Through`], such a tree seen through an overlay.
 //!
 //! What the sources leave open is decided in `docs/DECISIONS.md`, under "What changed since a root".

@@ -1,4 +1,4 @@
-//! Where the names of a directory and the blocks of a file stand among those of all.
+//! Where the names of a directory and the blocks of a file are among those of all.
 ghost use Rattle.std.specs.Prelude.{◌≡◌, ◌≤◌, IfOk, OnOk, OnErr, vec_len, vec_capacity};
 ghost use Rattle.std.specs.FinMap.Entries.{where_key};
 ghost use Rattle.sn_overlay.specs.Sorted.{IsSpan};
@@ -14,7 +14,7 @@ impl SortedMap<Link, Option<u16>> {
     ghost use Rattle.std.specs.Prelude.{◌==◌};
     ghost use Rattle.sn_model.specs.Tree.{link_cmp};
 
-    // Where the names of a directory stand.
+    // Where the names of a directory are.
     fn span_of(&self, directory: u16) -> Range<usize>
         ensures { IsSpan (λ link. link.directory) directory self.now.entries.items result.start result.end }
     {
@@ -40,7 +40,7 @@ impl SortedMap<FileBlock, Box<Block>> {
     ghost use Rattle.std.specs.Prelude.{◌==◌, not};
     ghost use Rattle.sn_overlay.specs.Keys.{file_block_cmp};
 
-    // Where the blocks of a file stand.
+    // Where the blocks of a file are.
     fn span_of(&self, file: u16) -> Range<usize>
         ensures { IsSpan (λ file_block. file_block.file) file self.now.entries.items result.start result.end }
     {

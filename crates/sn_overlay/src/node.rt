@@ -26,7 +26,7 @@ pub struct NodeState {
     pub links: u16,
     /// The bytes of a file. A directory has 0.
     pub size: u64,
-    /// The least size since the overlay began: what was behind it below is no longer seen.
+    /// The least size since the overlay began: what was past it below is no longer seen.
     pub cut: u64,
     /// Whether it was made since the overlay began. Then nothing of what is below is seen.
     pub fresh: bool,

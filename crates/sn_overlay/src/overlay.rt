@@ -44,7 +44,7 @@ impl Overlay {
         self.nodes.get(&number)
     }
 
-    /// What a name stands for: a number, or none, where it changed.
+    /// What a name denotes: a number, or none, where it changed.
     pub fn name(&self, link: &Link) -> Option<Option<u16>>
         ensures { result ≡ map.get (layer_of self.now).names link.now }
     {
@@ -63,7 +63,7 @@ impl Overlay {
 
     /// The nodes that changed, in the order of their numbers, each with what became of it.
     ///
-    /// Proved, also of `names_of` and `take_blocks`: An overlay hands out exactly the nodes that changed, the names of a
+    /// Proved, also of `names_of` and `take_blocks`: An overlay gives exactly the nodes that changed, the names of a
     /// directory that changed and the blocks of a file that were written, each once, in the order of their keys; the blocks
     /// are moved out, and nothing else changes.
     pub fn nodes(&self) -> &[(u16, NodeChange)]
@@ -171,9 +171,9 @@ impl Overlay {
         self.blocks.insert(file_block, block);
     }
 
-    /// A node goes, with the names and blocks that it had. It takes no memory.
+    /// A node is dropped, with the names and blocks that it had. It takes no memory.
     ///
-    /// Proved: A node goes with its names and blocks without memory, as by the merge of the layer in which it is gone.
+    /// Proved: A node is dropped with its names and blocks without memory, as by the merge of the layer in which it is gone.
     pub fn drop_node(&mut self, number: u16, by_close: bool)
         requires { HasRoom self.old (record { nodes = 1; names = 0; blocks = 0 }) }
         ensures layer { layer_of self.new ≡ merge (layer_of self.old) (gone number by_close) }

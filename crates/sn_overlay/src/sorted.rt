@@ -136,7 +136,7 @@ impl SortedMap<Link, Option<u16>> {
     ghost use Rattle.sn_model.specs.Tree.{link_cmp};
     ghost use Rattle.sn_overlay.specs.Layers.{hides_names};
 
-    /// Lets those names go that newer changes of nodes hide.
+    /// Removes the names that newer changes of nodes hide.
     pub fn retain_seen(&mut self, nodes: &SortedMap<u16, NodeChange>)
         ensures entries { self.new.entries.items ≡ where_key link_cmp (λ link. not (hides_names (find nat_cmp link.directory nodes.now.entries.items))) self.old.entries.items }
         ensures len { vec_len self.new.entries ≤ vec_len self.old.entries }
@@ -146,7 +146,7 @@ impl SortedMap<Link, Option<u16>> {
             .retain(|entry| !hides_names(nodes.get(&entry.0.directory)));
     }
 
-    /// Lets the names of a directory go.
+    /// Removes the names of a directory.
     pub fn retain_others(&mut self, directory: u16)
         ensures entries { self.new.entries.items ≡ where_key link_cmp (λ link. not (link.directory == directory)) self.old.entries.items }
         ensures len { vec_len self.new.entries ≤ vec_len self.old.entries }
@@ -183,7 +183,7 @@ impl SortedMap<FileBlock, Box<Block>> {
     ghost use Rattle.sn_overlay.specs.Keys.{file_block_cmp};
     ghost use Rattle.sn_overlay.specs.Layers.{hides_block};
 
-    /// Lets those blocks go that newer changes of nodes hide.
+    /// Removes the blocks that newer changes of nodes hide.
     pub fn retain_seen(&mut self, nodes: &SortedMap<u16, NodeChange>)
         ensures entries { self.new.entries.items ≡ where_key file_block_cmp (λ file_block. not (hides_block (find nat_cmp file_block.file nodes.now.entries.items) file_block.index)) self.old.entries.items }
         ensures len { vec_len self.new.entries ≤ vec_len self.old.entries }
@@ -192,7 +192,7 @@ impl SortedMap<FileBlock, Box<Block>> {
         self.entries.retain(|entry| !hides_block(nodes.get(&entry.0.file), entry.0.index));
     }
 
-    /// Lets the blocks of a file go.
+    /// Removes the blocks of a file.
     pub fn retain_others(&mut self, file: u16)
         ensures entries { self.new.entries.items ≡ where_key file_block_cmp (λ file_block. not (file_block.file == file)) self.old.entries.items }
         ensures len { vec_len self.new.entries ≤ vec_len self.old.entries }

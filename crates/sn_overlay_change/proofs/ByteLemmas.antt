@@ -13,7 +13,7 @@ same_file_block index from at h = omega arith
 pub past_file_block : (from n at : ℕ) → from + n ≤ at → from + n + (at - from - n) ≡ at
 past_file_block from n at h = omega arith
 
--- zeros behind some bytes read as the end does
+-- zeros after some bytes read as the end does
 padded : (bytes : List ℕ) (n at : ℕ) → get_or (bytes ++ replicate n 0) at 0 ≡ get_or bytes at 0
 padded bytes n at = told (cases_lt at (length bytes)) (cases_lt (at - length bytes) n)
   where
@@ -25,14 +25,14 @@ padded bytes n at = told (cases_lt at (length bytes)) (cases_lt (at - length byt
 pub length-resized : (bytes : List ℕ) (size : ℕ) → length (resized bytes size) ≡ size
 length-resized bytes size = omega (arith, length-take size (bytes ++ replicate (size - length bytes) 0), length-append bytes (replicate (size - length bytes) 0), length-replicate {A = ℕ} (size - length bytes) 0)
 
--- below the new size a file that was cut off or made longer has its bytes, and zeros behind them
+-- below the new size a file that was cut off or made longer has its bytes, and zeros after them
 pub get_or-resized : (bytes : List ℕ) (size at : ℕ) → at < size → get_or (resized bytes size) at 0 ≡ get_or bytes at 0
 get_or-resized bytes size at h = get_or-take size (bytes ++ replicate (size - length bytes) 0) at 0 h ∙ padded bytes (size - length bytes) at
 
 pub length-overwritten : (bytes : List ℕ) (offset : ℕ) (new : List ℕ) → length (overwritten bytes offset new) ≡ (offset + length new) + (length bytes - (offset + length new))
 length-overwritten bytes offset new = omega (arith, length-append (resized bytes offset) (new ++ drop (offset + length new) bytes), length-resized bytes offset, length-append new (drop (offset + length new) bytes), length-drop (offset + length new) bytes)
 
--- what was written stands at its place
+-- what was written is at its place
 pub get_or-overwritten_in : (bytes : List ℕ) (offset : ℕ) (new : List ℕ) (at : ℕ) → offset ≤ at → at < offset + length new → get_or (overwritten bytes offset new) at 0 ≡ get_or new (at - offset) 0
 get_or-overwritten_in bytes offset new at h k =
     get_or-append_right (resized bytes offset) (new ++ drop (offset + length new) bytes) offset at 0 (length-resized bytes offset) h

@@ -263,7 +263,7 @@ none_in tree number empty q same = told (map.get tree.links q) refl
     told None e = refl
     told (Some n) e = absurd (not_in tree number (eqb-true (names_in tree number) 0 empty) q n e same)
 
--- a name goes, and a directory with it
+-- a name is removed, and a directory with it
 module _ (tree after : Tree) (link : Link) (number : ℕ) (node : Node) (there : map.get tree.nodes number ≡ Some node) where
   abbrev parent : Layer
   parent = touching tree link.directory no_changes

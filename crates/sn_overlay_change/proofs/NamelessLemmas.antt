@@ -114,7 +114,7 @@ nameless_alike tree after nodes names =
 pub put_alike : (tree : Tree) (number : ℕ) (new : Node) → AreAlikeBut tree (put_node tree number new) number
 put_alike tree number new = record { nodes = λ q apart. get_other nat_cmp_total exact_unsigned tree.nodes number new q apart; names = λ q apart. refl }
 
--- whether it is a file without names is told by its kind
+-- its kind shows whether it is a file without names
 pub same_bare : (tree : Tree) (number : ℕ) (node new : Node) → new.kind ≡ node.kind → bare tree (number, new) ≡ bare tree (number, node)
 same_bare tree number node new kind = told node.kind refl
   where
@@ -247,7 +247,7 @@ nameless_are_counted limits (SetAttributes number o) tree after h e =
     let p = owned_is tree number o after e in
     omega (arith, ap nameless_in p.gives, nameless_put tree number p.node (node_with p.node.kind o p.node.bytes) p.there refl)
 
--- one that goes
+-- one that is dropped
 pub drops_are_counted : (tree : Tree) (number : ℕ) → is_nameless tree number (map.get tree.nodes number) ≡ true → nameless_in (take_node tree number) + 1 ≡ nameless_in tree
 unfolding nameless_in
 drops_are_counted tree number bare_now = told (map.get tree.nodes number) refl bare_now

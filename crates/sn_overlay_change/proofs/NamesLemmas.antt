@@ -126,7 +126,7 @@ link_counts limits tree after link number e =
     (names_for_more tree link number absent number refl)))
     (λ q none. names_for_other tree link number absent q (apart_from (changing tree number one_name_more parent) number q (has_changed parent tree number one_name_more (ap is_some is.0)) none)))
 
--- a name that goes
+-- a name that is removed
 fewer : (tree : Tree) (link : Link) (number : ℕ) → map.get tree.links link ≡ Some number → (q : ℕ) → names_for (take_link tree link) q + cond (number == q) 1 0 ≡ names_for tree q
 fewer tree link number e q = count_removed links_total exact_links (λ e. e.1 == q) tree.links link number e
 

@@ -27,7 +27,7 @@ use Rattle.sn_overlay.proofs.PieceLemmas.{joined_alike, joined-piece, piece_past
 use Rattle.sn_overlay_change.proofs.ByteLemmas.{length-resized, piece-resized, piece-cut}
 use Rattle.sn_overlay_change.proofs.ChangeLemmas.{through_is}
 
--- a block that isn't kept in the layer: before the cut as before, behind it zeros
+-- a block that isn't kept in the layer: before the cut as before, after it zeros
 unkept : (bytes : List ℕ) (size index : ℕ) → ((index + 1) * 4096 ≤ size) ⊎ (length bytes ≤ size) ⊎ (size ≤ index * 4096)
     → (b : Bool) → leb (min size (length bytes)) (index * 4096) ≡ b → cond b (zeros 4096) (piece 4096 bytes index) ≡ piece 4096 (resized bytes size) index
 unkept bytes size index where_is true e = told where_is (leb-true (min size (length bytes)) (index * 4096) e)

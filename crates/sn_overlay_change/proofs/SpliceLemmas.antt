@@ -63,7 +63,7 @@ spliced_whole from part a b zero whole long other =
     ap (λ front. front ++ (part ++ drop (from + length part) a)) (ap (λ n. take n a) zero ∙ sym (ap (λ n. take n b) zero))
     ∙ ap (λ rest. take from b ++ (part ++ rest)) (drop_all (from + length part) a (omega arith) ∙ sym (drop_all (from + length part) b (omega arith)))
 
--- a block gets the bytes that lie in it, where it was read, or they fill it
+-- a block gets the bytes that are in it, where it was read, or they fill it
 pub block_written : (bytes : List ℕ) (offset : ℕ) (new : List ℕ) (index : ℕ) (block : List ℕ) (from skip count : ℕ) → offset < (index + 1) * 4096 → index * 4096 < offset + length new → length block ≡ 4096
     → from ≡ offset - index * 4096 → skip ≡ index * 4096 - offset → count ≡ min (length new - skip) (4096 - from) → (count < 4096 → block ≡ piece 4096 bytes index)
     → spliced from (take (skip + count - skip) (drop skip new)) block ≡ piece 4096 (overwritten bytes offset new) index

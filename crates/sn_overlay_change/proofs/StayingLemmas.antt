@@ -24,7 +24,7 @@ use Rattle.sn_overlay_change.proofs.NamelessLemmas.{AreAlikeBut, bare, exchanged
 
 -- ---- number by number
 
--- what a name stands for isn't without names
+-- what a name denotes isn't without names
 pub named_is_not : (tree : Tree) (link : Link) (number : ℕ) → map.get tree.links link ≡ Some number → (found : Option Node) → is_nameless tree number found ≡ false
 named_is_not tree link number named None = refl
 named_is_not tree link number named (Some node) = has_name tree number node (names_for (take_link tree link) number) (sym (names_for_less tree link number named))

@@ -10,6 +10,6 @@ zeroed from block = take from block ++ zeros (4096 - from)
 abbrev pub spliced : ℕ → List ℕ → List ℕ → List ℕ
 spliced from new block = take from block ++ (new ++ drop (from + length new) block)
 
--- the bytes from an offset on that lie in a block
+-- the bytes from an offset on that are in a block
 abbrev pub part_in : ℕ → List ℕ → ℕ → List ℕ
 part_in offset new index = take (4096 - (offset - index * 4096)) (drop (index * 4096 - offset) new)

@@ -44,7 +44,7 @@ one_name_more state = record state { links = state.links + 1 }
 abbrev pub one_name_less : NodeState → NodeState
 one_name_less state = record state { links = state.links - 1 }
 
--- what loses a name: a directory goes, and a file stays
+-- what loses a name: a directory is removed, and a file stays
 abbrev pub without_name : Tree → ℕ → Layer → Option Node → Layer
 without_name tree number layer None = layer
 without_name tree number layer (Some node) = with_node layer number (if is_directory node.kind then Gone false else Changed (one_name_less (state_of tree number node)))
@@ -70,7 +70,7 @@ remove_layer tree link = removing tree link (map.get tree.links link)
 abbrev pub ownership_layer : Tree → ℕ → Ownership → Layer
 ownership_layer tree number o = changing tree number (with_ownership o) no_changes
 
--- a file of another size: what was behind the lesser one is cut off
+-- a file of another size: what was past the lesser one is cut off
 abbrev pub size_state : ℕ → NodeState → NodeState
 size_state size state = record state { size = size; cut = min size state.size }
 

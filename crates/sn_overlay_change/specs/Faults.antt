@@ -1,4 +1,4 @@
--- What is so of a fault of the tree below.
+-- What holds for a fault of the tree below.
 use Rattle.std.specs.Prelude.{Result, Ok, Err}
 use Rattle.sn_overlay_change.specs.declared.fault.LayerFault.{LayerFault}
 use Rattle.sn_overlay_change.specs.declared.fault.LayerFault.TheVariants.{Memory, Below}

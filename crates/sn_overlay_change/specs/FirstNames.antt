@@ -6,7 +6,7 @@ use Rattle.sn_model.specs.declared.change.Change.TheVariants.{Make, AddLink, Rem
 use Rattle.sn_model.specs.Settling.{is_nameless}
 use Rattle.sn_model.specs.Tree.{Tree}
 
--- No file without names is named by the change, nor goes for a node that it makes.
+-- No file without names is named by the change, nor replaced by a node that it makes.
 abbrev pub GivesNoFirstName : Tree → Change → Type 0
 GivesNoFirstName tree (Make directory name number kind o) = is_nameless tree number (map.get tree.nodes number) ≡ false
 GivesNoFirstName tree (AddLink directory name number) = is_nameless tree number (map.get tree.nodes number) ≡ false

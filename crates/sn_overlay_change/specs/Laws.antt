@@ -78,7 +78,7 @@ DropsLie = (tree : Tree) (number : ℕ) (by_close : Bool) → IsHierarchy tree �
 abbrev pub DropsNeed : Type 0
 DropsNeed = (limits : Limits) (number : ℕ) (by_close : Bool) → need limits (gone number by_close) ≡ need_of limits (counts 1 0 0)
 
--- A file without names that goes is one less of them.
+-- When a file without names is dropped, there is one less of them.
 abbrev pub DropsAreCounted : Type 0
 DropsAreCounted = (tree : Tree) (number : ℕ) → is_nameless tree number (map.get tree.nodes number) ≡ true → nameless_in (take_node tree number) + 1 ≡ nameless_in tree
 
@@ -89,11 +89,11 @@ CutsZero = (bytes : List ℕ) (index from : ℕ) → from ≤ 4096 → piece 409
 abbrev pub CutsKeep : Type 0
 CutsKeep = (bytes : List ℕ) (size index : ℕ) → ((index + 1) * 4096 ≤ size) ⊎ (length bytes ≤ size) → piece 4096 (resized bytes size) index ≡ piece 4096 bytes index
 
--- A block in which bytes are written is the old one with them in place; one in which none are stays.
+-- A block in which bytes are written is the old one with them in place; one in which none are is unchanged.
 abbrev pub WritesSplice : Type 0
 WritesSplice = (bytes : List ℕ) (index from : ℕ) (new : List ℕ) → from + length new ≤ 4096 → piece 4096 (overwritten bytes (index * 4096 + from) new) index ≡ spliced from new (piece 4096 bytes index)
 
--- The same for bytes that reach over several blocks: each block gets those that lie in it.
+-- The same for bytes that reach over several blocks: each block gets those that are in it.
 abbrev pub WritesSpan : Type 0
 WritesSpan = (bytes : List ℕ) (offset : ℕ) (new : List ℕ) (index : ℕ) → offset < (index + 1) * 4096 → index * 4096 < offset + length new → piece 4096 (overwritten bytes offset new) index ≡ spliced (offset - index * 4096) (part_in offset new index) (piece 4096 bytes index)
 

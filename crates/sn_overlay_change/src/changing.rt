@@ -222,7 +222,7 @@ fn rename<B: Below>(
     exchange(alloc, below, old, new, number, replaced)
 }
 
-// A block as it is below. Where so many bytes fill it, it isn't read, and zeros stand for it.
+// A block as it is below. Where so many bytes fill it, it isn't read, and zeros take its place.
 fn old_block<B: Below>(
     below: &mut B,
     file_block: FileBlock,
@@ -243,7 +243,7 @@ fn old_block<B: Below>(
     Ok(block)
 }
 
-// A block of a file, with those bytes in place that lie in it.
+// A block of a file, with the bytes in place that are in it.
 fn written_block<B: Below>(
     alloc: Global,
     below: &mut B,

@@ -84,7 +84,7 @@ pub fn staying_is_counted()
 /// Through the layer in which a file is gone, the tree is the one without its node.
 ///
 /// Proved, also of `drops_lie`, `drops_need` and `drops_are_counted`: The layer in which a file is gone shows the tree
-/// without its node, lies over the tree and needs what is counted for one node, and a file without names that goes is one
+/// without its node, lies over the tree and needs what is counted for one node, and a file without names that is dropped is one
 /// less of them.
 pub fn drops_show()
     ensures { DropsShow }
@@ -100,7 +100,7 @@ pub fn drops_need()
     ensures { DropsNeed }
 {}
 
-/// A file without names that goes is one less of them.
+/// When a file without names is dropped, there is one less of them.
 pub fn drops_are_counted()
     ensures { DropsAreCounted }
 {}
@@ -123,12 +123,12 @@ pub fn writes_splice()
     ensures { WritesSplice }
 {}
 
-/// Where bytes reach over several blocks, each block gets those that lie in it.
+/// Where bytes reach over several blocks, each block gets those that are in it.
 pub fn writes_span()
     ensures { WritesSpan }
 {}
 
-/// A block in which none are written stays.
+/// A block in which none are written is unchanged.
 pub fn writes_keep()
     ensures { WritesKeep }
 {}

@@ -49,7 +49,7 @@ pub(crate) fn add_name(overlay: &mut Overlay, number: u16, seen: Option<SeenNode
     }
 }
 
-// What had a name and loses it: a directory goes, and a file stays.
+// What had a name and loses it: a directory is removed, and a file stays.
 pub(crate) fn lose_name(overlay: &mut Overlay, number: u16, seen: Option<SeenNode>)
     requires { HasRoom overlay.old (record { nodes = 1; names = 0; blocks = 0 }) }
     ensures layer { layer_of overlay.new ≡ with_loss number (layer_of overlay.old) seen }

@@ -73,7 +73,7 @@ attributes_at P h (SetAttributes number o) e = h number o
 
 -- ---- reading
 
--- bytes of a change's fields, and nothing behind them, were read as that change
+-- bytes of a change's fields, and nothing after them, were read as that change
 abbrev pub IsReadAs : List ℕ → Option Change → List ℕ → Change → Type 0
 IsReadAs fields read left change = IsSpelled change → fields ≡ fields_bytes change → (read ≡ Some change) × (left ≡ [])
 

@@ -1,4 +1,4 @@
--- What stands in front of the two lists of an ownership.
+-- What precedes the two lists of an ownership.
 use Rattle.std.proofs.Common.{◌≡◌, ◌∙◌, ℕ, ◌<◌, List, ◌∷◌, ◌++◌, drop, sym, append_assoc, arith}
 use Rattle.sn_acl.specs.Modes.{mode_bits}
 use Rattle.sn_layout.specs.Records.{numbers_then, AreOfWidths}
@@ -14,7 +14,7 @@ use Rattle.sn_record.proofs.Parts.{parts_named, parts_mode}
 pub are_acls : (o : Ownership) → IsOwnership o → AreAcls (lists_of o)
 are_acls o fits = record { access = parts_named o.acl fits.acl; default = fits.default }
 
--- the numbers, and behind them the lists
+-- the numbers, and after them the lists
 pub front_flat : (o : Ownership) (rest : List ℕ) → ownership_bytes o ++ rest ≡ numbers_then front_widths (front_numbers o) (acls_bytes (lists_of o) ++ rest)
 front_flat o rest =
     let bits = flags_number o.set_gid o.sticky in

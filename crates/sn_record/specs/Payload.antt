@@ -91,7 +91,7 @@ change_number (Write number offset bytes) = 5
 change_number (SetSize number size) = 6
 change_number (SetAttributes number o) = 7
 
--- what stands behind it
+-- what follows it
 abbrev pub fields_bytes : Change → List ℕ
 fields_bytes (Make directory name number kind o) = number_bytes 2 directory ++ number_bytes 2 number ++ (kind_number kind ∷ ownership_bytes o) ++ name_bytes name
 fields_bytes (AddLink directory name number) = number_bytes 2 directory ++ number_bytes 2 number ++ name_bytes name

@@ -51,7 +51,7 @@ fn read_written<'a>(reader: &mut Reader<'a>) -> Option<Bytes<'a>>
     Some(Bytes::new(reader.bytes(count)))
 }
 
-// The bytes that are written go on to the end.
+// The bytes that are written extend to the end.
 pub(crate) fn read_write<'a>(reader: &mut Reader<'a>) -> Option<Change<'a>>
     ensures found { IfSome result (λ change. IsSpelled change × (5 ∷ reader.old ≡ payload_bytes change ++ reader.new)) }
     ensures only { (number offset : ℕ) (bytes : List ℕ) → IsSpelled (Write number offset bytes)

@@ -24,7 +24,7 @@ use sn_model::Ownership;
 // The entries USER_OBJ, GROUP_OBJ and OTHER, which the rights say.
 const OBJECTS: usize = 3;
 
-// How many bytes stand in front of the lists.
+// How many bytes precede the lists.
 const FRONT_SIZE: usize = 11;
 
 fn parts_of(acl: &Acl) -> AclParts
@@ -54,7 +54,7 @@ fn copy_of(default: &Option<Acl>) -> Option<Acl>
     }
 }
 
-// How many entries stand in both lists.
+// How many entries are in both lists.
 pub(crate) fn entries_of(ownership: &Ownership) -> usize
     ensures value { result ≡ entries_of ownership.now }
     ensures most { result ≤ 69 }
@@ -87,7 +87,7 @@ pub(crate) fn put_ownership(block: &mut [u8], at: usize, ownership: &Ownership) 
     lists.put_lists(block, at)
 }
 
-// The numbers in front of the lists as they stand in a payload.
+// The numbers in front of the lists as they are in a payload.
 #[derive(Clone, Copy)]
 struct Front {
     bits: u8,

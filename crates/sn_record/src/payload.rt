@@ -47,7 +47,7 @@ impl<'a> Model for Payload<'a> {
 
 impl<'a> Payload<'a> {
     /// The payload of a change, or none where its names aren't such as a directory can have, or it writes no byte or over
-    /// 65,536. All else is so by its types. Whether it can be applied to a tree is not asked.
+    /// 65,536. All else is valid by its types. Whether it can be applied to a tree is not asked.
     ///
     /// Proved: The test is exact which changes have a payload; whether a change can be applied is not asked.
     pub fn of(change: &'a Change<'a>) -> Option<Self>
@@ -139,7 +139,7 @@ fn numbers_fit(change: &Change<'_>)
     }
 }
 
-// Whether a change has a payload. All but its names and the bytes that it writes is so by its types.
+// Whether a change has a payload. All but its names and the bytes that it writes is valid by its types.
 fn is_valid(change: &Change<'_>) -> bool
     ensures { IsTrue result ↔ IsSpelled change.now }
 {

@@ -4,7 +4,7 @@ use Rattle.sn_limits.specs.declared.limits.Limits.{Limits}
 use Rattle.sn_model.specs.declared.outcome.Outcome.{Outcome}
 use Rattle.sn_room.specs.Rooms.{RoomCounts, begun, done, fits, fresh, logged, parked}
 
--- A call that fits leaves what is charged behind it within what is free.
+-- A call that fits leaves what is charged after it within what is free.
 abbrev pub CallsThatFitArePaid : Type 0
 CallsThatFitArePaid = (limits : Limits) (room : RoomCounts) (nameless : ℕ) (o : Outcome) → fits limits room nameless o ≡ true
     → (logged o.charge room).charged + limits.inode_charge * parked room nameless ≤ room.free

@@ -34,7 +34,7 @@ gives_back pending = false
 abbrev pub charged_behind : Limits → RoomCounts → ℕ → Outcome → ℕ
 charged_behind limits room nameless o = room.charged + o.charge + limits.inode_charge * parked room nameless
 
--- a call fits that comes to this, where so many live files have no name
+-- a call with this outcome fits, where so many live files have no name
 abbrev pub fits : Limits → RoomCounts → ℕ → Outcome → Bool
 fits limits room nameless o = nat_le (charged_behind limits room nameless o + (if gives_back o.change then 0 else limits.reserve)) room.free
 
@@ -62,6 +62,6 @@ done free room = record room { free = free; charged = room.charged_since; droppe
 abbrev pub fresh : ℕ → RoomCounts
 fresh free = record { free = free; charged = 0; charged_since = 0; dropped = 0; dropped_since = 0 }
 
--- Behind a mount, which makes no point: all that was charged, and was dropped, came since the root's moment.
+-- After a mount, which makes no point: all that was charged, and was dropped, came since the root's moment.
 abbrev pub mounted : ℕ → ℕ → ℕ → RoomCounts
 mounted free charged dropped = record { free = free; charged = charged; charged_since = charged; dropped = dropped; dropped_since = dropped }

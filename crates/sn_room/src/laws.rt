@@ -9,7 +9,7 @@ pub fn calls_that_fit_are_paid()
     ensures { CallsThatFitArePaid }
 {}
 
-/// Behind a whole point nothing is charged, and no dropped file is parked.
+/// After a whole point nothing is charged, and no dropped file is parked.
 pub fn points_begin_anew()
     ensures { PointsBeginAnew }
 {}

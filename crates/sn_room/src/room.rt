@@ -41,7 +41,7 @@ fn gives_back(change: &Pending<'_>) -> bool
 }
 
 impl Room {
-    /// So many data blocks are free, and nothing is charged: behind a format, a recovery, or a mount that needed none.
+    /// So many data blocks are free, and nothing is charged: after a format, a recovery, or a mount that needed none.
     pub fn fresh(free: u32) -> Room
         ensures { result ≡ fresh free }
     {
@@ -54,7 +54,7 @@ impl Room {
         }
     }
 
-    /// Behind a mount, where so many data blocks are free, what was replayed was charged so much, and so many files were
+    /// After a mount, where so many data blocks are free, what was replayed was charged so much, and so many files were
     /// dropped that the root's tree has without names. None where these charges are more than is free.
     pub fn mounted(limits: &Limits, free: u32, charged: u128, dropped: u32) -> Option<Room>
         ensures covered { IfSome result (λ room. (room ≡ mounted free charged dropped) × (is_covered limits.now (mounted free charged dropped) ≡ true)) }
@@ -81,7 +81,7 @@ impl Room {
         self.free
     }
 
-    /// Whether a call fits that comes to this, where so many live files have no name.
+    /// Whether a call with this outcome fits, where so many live files have no name.
     ///
     /// Proved: A call fits exactly where the charges since the durable root's moment, its own, one inode's for each parked
     /// file, and the reserve unless it removes, are at most the free blocks.
@@ -112,7 +112,7 @@ impl Room {
         self.charged_since += charge;
     }
 
-    /// A close or a logout dropped so many files that no name stood for.
+    /// A close or a logout dropped so many files without a name.
     pub fn drop_files(&mut self, count: u32)
         requires { self.old.dropped + count < 2 ^ 64 }
         ensures { self.new ≡ dropping count self.old }

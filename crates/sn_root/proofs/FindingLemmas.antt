@@ -98,7 +98,7 @@ newest_not_damaged c slot root EqualGenerations newest equal = newest_not_equal 
 newest_known : (c : Contents) (slot place : Slot) (root : RootBody) → IsNewest c slot root → IsUnknown c place → ⊥
 newest_known c slot place root newest unknown = let has = open_has c slot place root newest unknown.is_open in root_known c place has.0 has.1 unknown.version
 
--- a damage stands in an open slot
+-- a damage is in an open slot
 damaged_open : (c : Contents) (damage : RootDamage) → IsDamaged c damage → (slot : Slot) × IsOpen c (gate_sector slot)
 damaged_open c (Misspelt A) wrong = (A, wrong.is_open)
 damaged_open c (Misspelt B) wrong = (B, wrong.0.is_open)

@@ -67,7 +67,7 @@ open_along slot kept c same read = subst (λ (s : Slot). IsOpen c (gate_sector s
 closed_along : (slot kept : Slot) (c : Contents) → other_slot kept ≡ slot → IsClosed c (gate_sector slot) → IsClosed c (gate_sector (other_slot kept))
 closed_along slot kept c same closed = subst (λ (s : Slot). IsClosed c (gate_sector s)) (sym same) closed
 
--- a write of the gate that stands open
+-- a write of the gate that is open
 pub KeepsRoot-closing : (slot : Slot) (old new : Disk) → AreSectors (reads old) → Always old (λ c. gate_in c slot ≡ Open) → Touches (Single (gate_sector slot)) old new → KeepsRoot slot old new
 KeepsRoot-closing slot old new whole opened touched = record {
   newest = λ kept root same newest. LeavesOnly-torn (Single (gate_sector slot)) (λ c. (gate_in c slot ≡ Open) × IsNewest c kept root) (λ c. IsNewest c kept root)
@@ -89,7 +89,7 @@ KeepsRoot-nowhere slot old new whole touched = record {
       (λ i none inside. none) old new whole shown touched;
 }
 
--- a write of the body behind a closed gate
+-- a write of the body after a closed gate
 pub KeepsRoot-body : (slot : Slot) (old new : Disk) → AreSectors (reads old) → Always old (λ c. IsClosed c (gate_sector slot)) → Touches (InBlock (body_block slot)) old new → KeepsRoot slot old new
 KeepsRoot-body slot old new whole closed touched = record {
   newest = λ kept root same newest. LeavesOnly-torn (InBlock (body_block slot)) (λ c. IsClosed c (gate_sector slot) × IsNewest c kept root) (λ c. IsNewest c kept root)
@@ -284,7 +284,7 @@ module _ {T E : Type 0} (slot : Slot) (next : RootBody) (result : Result T E) (o
         record { any_moment = LeavesOnly-join old mid new Q (LeavesOnly-weaker old mid P Q (λ c is. inl is) before) opens.any_moment; done = opens.done };
   }
 
--- what reads give behind the opened gate
+-- what reads give after the opened gate
 module _ {T E : Type 0} (slot : Slot) (next : RootBody) (result : Result T E) (mid new : Disk) (whole : AreSectors (reads mid)) (room : 32 ≤ length (reads mid)) (opens : OpensSlot slot result mid new) where
   pub reads_open : OnOk result (IsOpen (reads new) (gate_sector slot))
   reads_open = OnOk-then result (λ is. subst (λ c. IsOpen c (gate_sector slot)) (sym is) (open_written (reads mid) slot room)) opens.done

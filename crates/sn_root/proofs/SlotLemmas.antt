@@ -31,7 +31,7 @@ pub some_of : {X : Type 0} (o : Option X) → is_some o ≡ true → o ≢ None
 some_of None some is = absurd cc
 some_of (Some x) some is = absurd cc
 
--- these bytes stand in front of the others
+-- these bytes precede the others
 Front : List ℕ → List ℕ → Type 0
 Front first bytes = (rest : List ℕ) × (bytes ≡ first ++ rest)
 

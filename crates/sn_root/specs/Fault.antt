@@ -1,4 +1,4 @@
--- Where a fault stands, and its text.
+-- Where a fault is, and its text.
 use Rattle.std.specs.Prelude.{ℕ, List, codes}
 use Rattle.sn_block.specs.Fault as reading
 use Rattle.sn_layout.specs.declared.geometry.Slot.TheVariants.{A, B}
@@ -8,7 +8,7 @@ use Rattle.sn_root.specs.declared.fault.RootFault.TheVariants.{NoOpenRoot, Unkno
 use Rattle.sn_root.specs.declared.fault.RootDamage.{RootDamage}
 use Rattle.sn_root.specs.declared.fault.RootDamage.TheVariants.{Misspelt, EqualGenerations}
 
--- the block that a damage is told of: the body's, or that of the gates
+-- the block that a damage is reported of: the body's, or that of the gates
 abbrev pub block_of : RootDamage → ℕ
 block_of (Misspelt slot) = body_block slot
 block_of EqualGenerations = 3

@@ -20,7 +20,7 @@ use Rattle.sn_root.specs.declared.fault.RootDamage.{RootDamage}
 use Rattle.sn_root.specs.declared.fault.RootDamage.TheVariants.{Misspelt, EqualGenerations}
 use Rattle.sn_root.specs.declared.finding.NewestRoot.{NewestRoot}
 
--- The newest root is this one, and the other slot's gate is so.
+-- The newest root is this one, and the other slot's gate is the one it says.
 pub record HasNewest (c : Contents) (it : NewestRoot) : Type 0 where
   pub newest : IsNewest c it.slot it.root
   pub other : gate_in c (other_slot it.slot) ≡ it.other
@@ -38,7 +38,7 @@ pub record AreEqual (c : Contents) : Type 0 where
   pub has_other : HasRoot c B other
   pub same : one.generation ≡ other.generation
 
--- Where both slots are misspelt, slot A is told.
+-- Where both slots are misspelt, slot A is reported.
 abbrev pub IsDamaged : Contents → RootDamage → Type 0
 IsDamaged c (Misspelt A) = IsMisspelt c A
 IsDamaged c (Misspelt B) = IsMisspelt c B × (IsMisspelt c A → ⊥)

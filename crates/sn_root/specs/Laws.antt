@@ -1,4 +1,4 @@
--- Laws of what is found, and of what stands between the parts.
+-- Laws of what is found, and of what holds between the parts.
 use Rattle.std.specs.Prelude.{◌≡◌, ℕ, Result}
 use Rattle.sn_device.specs.Sectors.{Contents, AreSectors}
 use Rattle.sn_device.specs.Disk.{Disk, Always, reads}
@@ -15,7 +15,7 @@ use Rattle.sn_root.specs.Finding.{Finds, IsRead}
 use Rattle.sn_root.specs.declared.fault.RootFault.{RootFault}
 use Rattle.sn_root.specs.declared.finding.NewestRoot.{NewestRoot}
 
--- A disk has one answer, so that each fault comes exactly where it stands.
+-- A disk has one answer, so that each fault comes exactly where it is.
 abbrev pub FindingIsOne : Type 0
 FindingIsOne = (c : Contents) (one other : Result NewestRoot RootFault) → IsRead one → IsRead other → Finds c one → Finds c other → one ≡ other
 
@@ -24,12 +24,12 @@ abbrev pub LogKeepsGates : Type 0
 LogKeepsGates = (n epoch : ℕ) (slot : Slot) (gate : Gate) (old new : Disk) → AreSectors (reads old) → Touches (InHalf (base_of n epoch)) old new
     → Always old (λ c. gate_in c slot ≡ gate) → Always new (λ c. gate_in c slot ≡ gate)
 
--- A gate that always stood closed goes on to stand closed.
+-- A gate that was closed after every crash stays so.
 abbrev pub LogKeepsClosed : Type 0
 LogKeepsClosed = (n epoch : ℕ) (slot : Slot) (old new : Disk) → AreSectors (reads old) → Touches (InHalf (base_of n epoch)) old new
     → Always old (λ c. IsClosed c (gate_sector slot)) → Always new (λ c. IsClosed c (gate_sector slot))
 
--- And so the body of a root.
+-- And so does the body of a root.
 abbrev pub LogKeepsBodies : Type 0
 LogKeepsBodies = (n epoch : ℕ) (slot : Slot) (root : RootBody) (old new : Disk) → AreSectors (reads old) → Touches (InHalf (base_of n epoch)) old new
     → Always old (λ c. HasRoot c slot root) → Always new (λ c. HasRoot c slot root)

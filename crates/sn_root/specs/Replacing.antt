@@ -1,4 +1,4 @@
--- What the three parts of replacing a root do. The slot is the one that is replaced, and the root that counts stands in the other one.
+-- What the three parts of replacing a root do. The slot is the one that is replaced, and the root that counts is in the other one.
 use Rattle.std.specs.Prelude.{◌≡◌, ◌⊎◌, ℕ, ◌+◌, ◌<◌, List, Result, OnOk, slice_set}
 use Rattle.sn_device.specs.Sectors.{Contents, Single, Union}
 use Rattle.sn_device.specs.Disk.{Disk, reads, IsSynced, Always}
@@ -20,7 +20,7 @@ use Rattle.sn_ondisk.specs.Shown.{Shown}
 abbrev pub with_gate : Slot → Gate → Contents → Contents
 with_gate slot gate c = slice_set c (gate_sector slot) (gate_bytes gate)
 
--- A gate that stands open is closed. One that is closed isn't written: a torn write of it might open it.
+-- An open gate is closed. One that is closed isn't written: a torn write of it might open it.
 abbrev pub closed_from : Slot → Gate → Contents → Contents
 closed_from slot Open c = with_gate slot Closed c
 closed_from slot Closed c = c
@@ -35,21 +35,21 @@ abbrev pub closing_writes : Gate → ℕ
 closing_writes Open = 1
 closing_writes Closed = 0
 
--- Whatever the answer, no other sector was written. At `Ok` the gate stands synced closed.
+-- Whatever the answer, no other sector was written. At `Ok` the gate is closed and synced.
 pub record ClosesSlot {T E : Type 0} (slot : Slot) (gate : Gate) (result : Result T E) (old new : Disk) : Type 0 where
   pub touched : Touches (InClosing slot gate) old new
   pub done : OnOk result (reads new ≡ closed_from slot gate (reads old))
   pub synced : OnOk result (IsSynced new)
   pub closed : OnOk result (Always new (λ c. IsClosed c (gate_sector slot)))
 
--- Whatever the answer, only the body's block was written, and the gate stays closed. At `Ok` the body stands there, synced.
+-- Whatever the answer, only the body's block was written, and the gate stays closed. At `Ok` the body is there, synced.
 pub record WritesBody {T E : Type 0} (slot : Slot) (next : RootBody) (result : Result T E) (old new : Disk) : Type 0 where
   pub touched : Touches (InBlock (body_block slot)) old new
   pub closed : Always new (λ c. IsClosed c (gate_sector slot))
   pub body : OnOk result (Always new (λ c. HasRoot c slot next))
   pub synced : OnOk result (IsSynced new)
 
--- Whatever the answer, no sector but the gate's was written. At `Ok` the gate stands synced open.
+-- Whatever the answer, no sector but the gate's was written. At `Ok` the gate is open and synced.
 pub record OpensSlot {T E : Type 0} (slot : Slot) (result : Result T E) (old new : Disk) : Type 0 where
   pub touched : Touches (Single (gate_sector slot)) old new
   pub done : OnOk result (reads new ≡ with_gate slot Open (reads old))
@@ -82,7 +82,7 @@ pub record ChangesRoot {T E : Type 0} (slot : Slot) (next : RootBody) (result : 
 abbrev pub InReplacing : Slot → ℕ → Type 0
 InReplacing slot = Union (Single (gate_sector slot)) (InBlock (body_block slot))
 
--- Whatever the answer, no sector but those of the slot was written. At `Ok` the body stands synced behind the open gate.
+-- Whatever the answer, no sector but those of the slot was written. At `Ok` the body is synced, after the open gate.
 pub record ReplacesSlot {T E : Type 0} (slot : Slot) (next : RootBody) (result : Result T E) (old new : Disk) : Type 0 where
   pub touched : Touches (InReplacing slot) old new
   pub opened : OnOk result (IsOpen (reads new) (gate_sector slot))

@@ -22,7 +22,7 @@ pub enum RootDamage {
 }
 
 impl RootDamage {
-    /// The block that it is told of: 1 or 2 for a body, and 3, that of the gates, for both.
+    /// The block that it is reported of: 1 or 2 for a body, and 3, that of the gates, for both.
     pub fn block(self) -> u32
         ensures { result ≡ block_of self }
     {
@@ -45,8 +45,8 @@ impl fmt::Display for RootDamage {
     }
 }
 
-/// Why no newest root is found. Of several that are true the one that stands first here comes, but
-/// for a fault of the reading, which comes where a block can't be read that is needed to tell.
+/// Why no newest root is found. Of several that are true the one that is first here comes, but
+/// for a fault of the reading, which comes where a block can't be read that is needed to decide.
 #[derive(Clone, Copy, PartialEq, Eq)]
 pub enum RootFault {
     /// Neither slot is open.

@@ -15,12 +15,12 @@ use sn_block::Blocks;
 use sn_device::Device;
 use sn_layout::{Gate, RootBody, Slot};
 
-/// The root that counts, and where it stands.
+/// The root that counts, and where it is.
 #[derive(PartialEq, Eq, Drop)]
 pub struct NewestRoot {
     pub slot: Slot,
     pub root: RootBody,
-    /// The gate of the other slot, behind which an older root stands if it is open.
+    /// The gate of the other slot, after which there is an older root if it is open.
     pub other: Gate,
 }
 
@@ -73,7 +73,7 @@ fn choose_b(b: Carried) -> Result<NewestRoot, RootFault>
     }
 }
 
-// What counts beside a root in slot A.
+// What counts where slot A has a root.
 fn choose_beside(root: RootBody, b: Carried) -> Result<NewestRoot, RootFault>
     ensures finds { (c : Contents) → Holds c SlotA (HeldRoot root) → Holds c SlotB b → Finds c result }
     ensures read { IsRead result }

@@ -6,7 +6,7 @@ pub fn finding_is_one()
     ensures { FindingIsOne }
 {}
 
-/// What stands between the parts of replacing a root goes on to stand there while calls are logged.
+/// What holds between the parts of replacing a root still holds after calls are logged.
 ///
 /// Proved: Calls of the log between the parts keep what the parts need.
 pub fn log_keeps_slots()

@@ -1,10 +1,10 @@
 //! The two slots of roots: which root counts, and how the other one is replaced.
 //!
-//! A root is the state that a consistency point left on the disk. It stands in one of two slots, a body
-//! in a block of its own behind a gate, and of the slots whose gate is open the one with the greater
+//! A root is the state that a consistency point left on the disk. It is in one of two slots, a body
+//! in a block of its own after a gate, and of the slots whose gate is open the one with the greater
 //! generation counts. A point replaces the other slot, in three parts of which each is a call of its own:
 //! close the gate (`close_slot`), write the body (`write_body`), open the gate (`open_slot`). Each ends in
-//! a sync, and calls of the log may stand between them. `replace` is the three in a row.
+//! a sync, and calls of the log may come between them. `replace` is the three in a row.
 //!
 //! The model is that of `sn_ondisk`: `IsNewest`, the root that counts, and `Shown`, that root with the
 //! records of the log on top of it. `NewestRoot` is what a caller keeps of it in memory.

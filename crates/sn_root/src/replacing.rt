@@ -19,7 +19,7 @@ use sn_device::{Device, Fault};
 use sn_layout::{BLOCK_SIZE, Gate, Geometry, RootBody, SECTOR_SIZE, Slot};
 
 /// Closes the gate of the slot that is to be replaced, where it is open, and syncs. A gate that is closed
-/// is left alone: behind it a whole body may stand that never counted, and a torn write might open it.
+/// is left alone: after it there may be a whole body that never counted, and a torn write might open it.
 ///
 /// Proved, also of `write_body`: The root in the other slot is replaced in three parts, each synced, and whatever a crash
 /// tears, closing and the body leave the old root with its log records.
@@ -42,7 +42,7 @@ pub fn close_slot<D: Device>(blocks: &mut Blocks<D>, slot: Slot, gate: Gate) -> 
     }
 }
 
-/// Writes the body of the next root behind the closed gate, and syncs.
+/// Writes the body of the next root after the closed gate, and syncs.
 pub fn write_body<D: Device>(
     blocks: &mut Blocks<D>,
     slot: Slot,

@@ -92,7 +92,7 @@ pub fn read_gate<D: Device>(blocks: &mut Blocks<D>, slot: Slot) -> Result<Gate, 
     }
 }
 
-/// What a slot holds whose gate is so. Behind a closed one nothing is read.
+/// What a slot holds whose gate is this one. After a closed one nothing is read.
 pub(crate) fn look<D: Device>(
     blocks: &mut Blocks<D>,
     slot: Slot,

@@ -8,7 +8,7 @@ use Rattle.sn_layout.specs.declared.snapshot.Snapshot.{Snapshot}
 use Rattle.sn_layout.specs.declared.tree.BlockTree.{BlockTree}
 use Rattle.sn_layout.specs.Snapshot.{are_distinct, are_rising, has_no_bit}
 
--- what a name stands for: the bit of its snapshot in each word of the map, and the root of its inode file
+-- what a name denotes: the bit of its snapshot in each word of the map, and the root of its inode file
 pub record Entry : Type 0 where
   pub bit : ℕ
   pub tree : BlockTree

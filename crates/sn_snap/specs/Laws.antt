@@ -38,7 +38,7 @@ VersionsHaveTheBits = (version : ℕ) (limits : Limits) → limits_of version �
 abbrev pub VersionsHaveTheRoom : Type 0
 VersionsHaveTheRoom = (version : ℕ) (limits : Limits) → limits_of version ≡ Some limits → limits.snapshots ≤ 31
 
--- What another name stands for stays, its bit with it: with one more snapshot, and without one.
+-- What another name denotes stays, its bit with it: with one more snapshot, and without one.
 abbrev pub OtherNamesStay : Type 0
 OtherNamesStay = (s : Snapshot) (snapshots : List Snapshot) (other : List ℕ) → other ≢ s.name → map.get (catalogue snapshots) s.name ≡ None
     → map.get (catalogue (with_snapshot s snapshots)) other ≡ map.get (catalogue snapshots) other

@@ -1,4 +1,4 @@
-//! What a name stands for, and which bit is free.
+//! What a name denotes, and which bit is free.
 ghost use Rattle.std.specs.Prelude.{◌≡◌, ◌+◌, ◌≤◌, ◌↔◌, length, position, Some, IfSome, IsNone};
 ghost use Rattle.std.specs.FinMap as map;
 ghost use Rattle.std.specs.Option.{option_copied, option_map};

@@ -18,7 +18,7 @@ pub fn versions_fit()
     ensures room { VersionsHaveTheRoom }
 {}
 
-/// A change leaves what other names stand for, and their bits; one that is taken back leaves all as it was.
+/// A change leaves what other names denote, and their bits; one that is taken back leaves all as it was.
 ///
 /// Proved: The snapshots of other names and their bits are unchanged, and a snapshot that is added and removed leaves what was
 /// there.

@@ -1,4 +1,4 @@
-//! The catalogue of a root's snapshots: what a name stands for, which bit of the map's words is free, and the catalogue
+//! The catalogue of a root's snapshots: what a name denotes, which bit of the map's words is free, and the catalogue
 //! with one snapshot more or less.
 //!
 //! A root body holds its snapshots by rising bit, with different names, and no more of them than its version allows.

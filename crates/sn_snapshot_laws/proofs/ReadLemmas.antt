@@ -54,7 +54,7 @@ module _ {B : Type 0} (name : List ℕ) (a b : ViewedTrees) (same : a.tree (Froz
   abbrev after_b : Result Walked WalkRefusal → Result B Refusal
   after_b r = walked path r >>= (λ w. g w (found_at b w))
 
-  -- what a name of a directory of this tree stands for
+  -- what a name of a directory of this tree denotes
   abbrev passed_by : ViewedTree → ℕ → ℕ → List ℕ → Result (Option Object) WalkRefusal
   passed_by t place n word = admitted cred place (t.node n) >>= (λ _. Ok (option_map (Node (Frozen name)) (t.link n word)))
 

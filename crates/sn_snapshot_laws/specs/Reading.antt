@@ -28,7 +28,7 @@ below name names = codes ".snapshot" ∷ name ∷ names
 abbrev pub MaySearch : World → Credential → Type 0
 MaySearch w cred = admitted cred 0 (attributes_at (viewed_trees (trees_of w)) root) ≡ Ok tt
 
--- In two worlds a caller is told the same of a path in a snapshot's tree, be it refused or let through, and may open the same there; and whoever has a file of it open reads the same.
+-- In two worlds a caller gets the same answer for a path in a snapshot's tree, refused or not, and may open the same there; and whoever has a file of it open reads the same.
 pub record ReadsAlike (limits : Limits) (name : List ℕ) (before now : World) (session : Session) (names : List (List ℕ)) : Type 0 where
   pub stat : stat_outcome (viewed_trees (trees_of before)) session (below name names) ≡ stat_outcome (viewed_trees (trees_of now)) session (below name names)
   pub access : (want : Access) → access_outcome (viewed_trees (trees_of before)) session (below name names) want ≡ access_outcome (viewed_trees (trees_of now)) session (below name names) want

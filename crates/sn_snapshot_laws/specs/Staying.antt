@@ -11,7 +11,7 @@ use Rattle.sn_model.specs.Machine.{State, Running, Stopped, Mishap, Anything, Cu
 use Rattle.sn_model.specs.Tree.{Tree}
 use Rattle.sn_model.specs.World.{World}
 
--- a snapshot's name stands for this tree
+-- a snapshot's name denotes this tree
 abbrev pub HasTree : List ℕ → Tree → World → Type 0
 HasTree name tree w = map.get w.frozen name ≡ Some tree
 
@@ -24,7 +24,7 @@ HasFrozen name tree (Stopped before after) = HasTree name tree before × HasTree
 abbrev pub Spares : List ℕ → Event → Type 0
 Spares name e = (session : ℕ) → e ≢ Call session (SnapDelete name)
 
--- Over an event, whatever it meets with, the tree stays what it is.
+-- Over an event, whatever mishap it has, the tree is unchanged.
 abbrev pub EventsKeepFrozenTrees : Type 0
 EventsKeepFrozenTrees = (limits : Limits) (name : List ℕ) (tree : Tree) (s : State) (e : Event) (met : Option Mishap) (reply : Reply) (next : State) → Spares name e → HasFrozen name tree s → EventStep limits s e met reply next → HasFrozen name tree next
 
@@ -36,6 +36,6 @@ RunsKeepFrozenTrees = (limits : Limits) (name : List ℕ) (tree : Tree) (s : Sta
 abbrev pub CrashesKeepFrozenTrees : Type 0
 CrashesKeepFrozenTrees = (limits : Limits) (name : List ℕ) (tree : Tree) (s : State) (events : List Event) (replies : List Reply) (w : World) → AllByRecursion (Spares name) events → HasFrozen name tree s → CutRun Anything limits s events replies w → HasTree name tree w
 
--- And so it does behind many crashes.
+-- It does so after many crashes too.
 abbrev pub LivesKeepFrozenTrees : Type 0
 LivesKeepFrozenTrees = (limits : Limits) (name : List ℕ) (tree : Tree) (first : World) (runs : List (List Event × List Reply)) (last : World) → AllByRecursion (λ (r : List Event × List Reply). AllByRecursion (Spares name) r.0) runs → HasTree name tree first → Life Anything limits first runs last → HasTree name tree last

@@ -1,7 +1,7 @@
 //! What becomes of frozen trees in the machine of `sn_model`: laws, and no code that runs.
 //!
-//! A snapshot is made by one call and goes by another. In between its tree is what it was: whatever calls, steps and
-//! restarts come, whatever fails, and wherever a crash cuts a run short. So whoever reads below `/.snapshot/NAME` meets
+//! A snapshot is made by one call and deleted by another. In between its tree is unchanged: whatever calls, steps and
+//! restarts come, whatever fails, and wherever a crash cuts a run short. So whoever reads below `/.snapshot/NAME` finds
 //! the names, the bytes, the owners and the access lists that were there when the snapshot was made.
 //!
 //! The way through: `specs/Staying.antt` has the laws of what stays, `specs/Reading.antt` that of who reads what in it, and

@@ -16,7 +16,7 @@ looks_on : (trees : ViewedTrees) (cred : Credential) (place : ℕ) (directory : 
 unfolding looks_from
 looks_on trees cred place directory name next names r e = ap (λ p. looks_in trees cred place directory name ++ from_found p (λ object. looks_from trees cred (place + 1) object next names)) e
 
--- none is made behind a place that refuses
+-- none is made after a place that refuses
 looks_refused : (trees : ViewedTrees) (cred : Credential) (place : ℕ) (directory : Object) (name : List ℕ) (names : List (List ℕ)) (r : WalkRefusal) → passed trees cred place directory name ≡ Err r → looks_from trees cred place directory name names ≡ looks_in trees cred place directory name
 unfolding looks_from
 looks_refused trees cred place directory name [] r e = refl
@@ -28,7 +28,7 @@ unfolding looks_from
 looks_first trees cred place directory name [] = ([], sym (append-nil _))
 looks_first trees cred place directory name (next ∷ names) = (_, refl)
 
--- nor behind a name that isn't there
+-- nor after a name that isn't there
 pub looks-missing : (trees : ViewedTrees) (cred : Credential) (place : ℕ) (directory : Object) (name next : List ℕ) (names : List (List ℕ)) → passed trees cred place directory name ≡ Ok None → looks_from trees cred place directory name (next ∷ names) ≡ looks_in trees cred place directory name
 looks-missing trees cred place directory name next names e = looks_on trees cred place directory name next names (Ok None) e ∙ append-nil _
 
@@ -57,7 +57,7 @@ looks-stop Made Later trees cred place directory name names (Fault f) all before
       made = join made.front made.made;
     }
 
--- those of a place that admits, where the name's came to a fault
+-- those of a place that admits, where the name's look-up ended in a fault
 pub looks-to-fault : (Made : List LookUp → Type 0) (trees : ViewedTrees) (cred : Credential) (place : ℕ) (directory : Object) (name : List ℕ) (u : Unit {0}) → admitted cred place (attributes_at trees directory) ≡ Ok u
     → Made (looks_at directory ++ looks_for directory name) → MadeInPart Made (looks_in trees cred place directory name)
 looks-to-fault Made trees cred place directory name u e made = record {

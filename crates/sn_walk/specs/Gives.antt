@@ -16,7 +16,7 @@ abbrev pub Answers : {X Y R : Type 0} → (X → Y) → Result X R → Result Y 
 Answers view (Ok x) test = test ≡ Ok (view x)
 Answers view (Err r) test = test ≡ Err r
 
--- what is so of the fault, where a function found one
+-- what holds for the fault, where a function found one
 abbrev pub OfFault : {R F : Type 0} → Failure R F → (F → Type 0) → Type 0
 OfFault (Refused r) P = Unit {0}
 OfFault (Fault f) P = P f

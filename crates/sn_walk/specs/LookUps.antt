@@ -59,7 +59,7 @@ abbrev pub looks_of_walk : ViewedTrees → Credential → List (List ℕ) → Li
 looks_of_walk trees cred [] = []
 looks_of_walk trees cred (name ∷ names) = looks_from trees cred 0 root name names
 
--- for what a walk's last name stands for
+-- for what a walk's last name denotes
 abbrev pub looks_at_last : Option Object → List LookUp
 looks_at_last None = []
 looks_at_last (Some object) = looks_at object

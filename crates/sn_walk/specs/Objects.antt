@@ -1,4 +1,4 @@
--- What a name can stand for, and in which tree it is.
+-- What a name can denote, and in which tree it is.
 use Rattle.std.specs.Prelude.{ℕ, Bool, true, false, ◌==◌}
 use Rattle.std.specs.Cmp.Lexicographic.{pointwise}
 use Rattle.sn_walk.specs.declared.object.Home.{Home}
@@ -10,7 +10,7 @@ use Rattle.sn_walk.specs.declared.object.Object.TheVariants.{Node, Snapshots}
 abbrev pub root : Object
 root = Node Live 2
 
--- the number that a caller is told; that of the directory of snapshots is 1
+-- the number that a caller sees; that of the directory of snapshots is 1
 abbrev pub number_of : Object → ℕ
 number_of (Node home number) = number
 number_of Snapshots = 1

@@ -1,4 +1,4 @@
--- Paths: POSIX.1-2017, 3.271 Pathname. That a path is absolute, and which of its faults is told first, are rules of this project.
+-- Paths: POSIX.1-2017, 3.271 Pathname. That a path is absolute, and which of its faults is reported first, are rules of this project.
 use Rattle.std.specs.Prelude.{ℕ, ◌==◌, nat_lt, List, [], ◌∷◌, length, Option, None, Some, Result, Ok, Err, if◌then◌else◌}
 use Rattle.std.specs.List.{list_all, slice_split}
 use Rattle.sn_walk.specs.declared.fault.PathFault.{PathFault}

@@ -62,7 +62,7 @@ hides (Frozen s) directory name = false
 abbrev pub is_snapshot : ViewedTrees → List ℕ → Bool
 is_snapshot trees name = is_snapshot_name name && trees.has_snapshot name
 
--- what a name stands for in a directory; in the directory of snapshots, the root of a frozen tree
+-- what a name denotes in a directory; in the directory of snapshots, the root of a frozen tree
 abbrev pub child_of : ViewedTrees → Object → List ℕ → Option Object
 child_of trees (Node home directory) name = if hides home directory name then Some Snapshots else option_map (Node home) ((trees.tree home).link directory name)
 child_of trees Snapshots name = if is_snapshot trees name then Some (Node (Frozen name) 2) else None

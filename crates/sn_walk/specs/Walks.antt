@@ -29,7 +29,7 @@ abbrev pub admitted : Credential → ℕ → Option Attributes → Result (Unit 
 admitted cred place None = Err (refusal place Missing)
 admitted cred place (Some a) = if is_directory a.kind then searched place (denial_of cred a.owner a.group a.acl 1) else Err (refusal place NotADirectory)
 
--- what the next name stands for
+-- what the next name denotes
 abbrev pub passed : ViewedTrees → Credential → ℕ → Object → List ℕ → Result (Option Object) WalkRefusal
 passed trees cred place directory name = admitted cred place (attributes_at trees directory) >>= (λ _. Ok (child_of trees directory name))
 
@@ -63,7 +63,7 @@ abbrev pub end_of : Walked → ℕ
 end_of Root = 0
 end_of (Name directory place object) = place
 
--- Where a walk along these names may end: the place counts the names before the last, the object is what the last name stands for in what is there, and that is a directory.
+-- Where a walk along these names may end: the place counts the names before the last, the object is what the last name denotes in what is there, and that is a directory.
 abbrev pub EndsAfter : ViewedTrees → ℕ → List ℕ → List (List ℕ) → Walked → Type 0
 EndsAfter trees place name names Root = ⊥
 EndsAfter trees place name names (Name directory end object) = (end ≡ place + length names) × (object ≡ child_of trees directory (last_after name names)) × IsSomeAnd (attributes_at trees directory) (λ a. a.kind ≡ Directory)

@@ -1,6 +1,6 @@
 //! Paths, and the walk from a path to what it names (POSIX.1-2017, 4.13 Pathname Resolution).
 //!
-//! A path is parsed first, with no tree at hand: [`Path::parse`] takes a word of a call and answers
+//! A path is parsed first, without a tree: [`Path::parse`] takes a word of a call and answers
 //! the path, which borrows the word's bytes, or what is wrong in it. Clauses see a path as the list
 //! of its names. A tree is whatever implements [`TreeView`]; clauses see it as the two look-ups that
 //! it shows. [`walk`] follows a path's names through a tree for a caller, and answers where they

@@ -35,13 +35,13 @@ impl Home {
     }
 }
 
-/// What a name can stand for.
+/// What a name can denote.
 #[derive(PartialEq, Eq, Drop)]
 pub enum Object {
     /// The node of a tree with this number.
     Node { home: Home, number: u16 },
     /// The directory of snapshots, which the live root has under the name `.snapshot`. Its names are
-    /// those of the snapshots, and each stands for the root of a frozen tree. It is in none of the
+    /// those of the snapshots, and each denotes the root of a frozen tree. It is in none of the
     /// trees.
     Snapshots,
 }
@@ -70,7 +70,7 @@ impl Object {
         }
     }
 
-    /// The number that a caller is told. That of the directory of snapshots is 1.
+    /// The number that a caller sees. That of the directory of snapshots is 1.
     pub fn number(&self) -> u16
         ensures { result ≡ objects.number_of self.now }
     {

@@ -86,7 +86,7 @@ impl<'a> Path<'a> {
     }
 }
 
-/// What stands before the first slash, and what follows it, where there is a slash.
+/// What precedes the first slash, and what follows it, where there is a slash.
 fn first_piece(text: &[u8]) -> (&[u8], Option<&[u8]>)
     ensures { pieces text.now ≡ result.0.now ∷ pieces_of (option_copied result.1) }
 {

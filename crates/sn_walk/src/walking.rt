@@ -23,7 +23,7 @@ pub enum Obstacle {
     Missing,
 }
 
-/// A walk's refusal. Place 0 is the root, and place i is what the first i names stand for.
+/// A walk's refusal. Place 0 is the root, and place i is what the first i names denote.
 #[derive(Clone, Copy, PartialEq, Eq, Hash)]
 pub struct WalkRefusal {
     pub place: u16,
@@ -36,7 +36,7 @@ pub enum Walked {
     /// The path is `/`.
     Root,
     /// The last name is one of a directory, which is at a place of the path. The object is what the
-    /// name stands for, if it is there.
+    /// name denotes, if it is there.
     Name {
         directory: Object,
         place: u16,
@@ -101,7 +101,7 @@ fn hides(home: &Home, directory: u16, name: &[u8]) -> bool
     }
 }
 
-/// What a name stands for in a directory of a tree.
+/// What a name denotes in a directory of a tree.
 fn child_in<T: TreeView>(
     view: &mut T,
     home: &Home,
@@ -128,7 +128,7 @@ fn child_in<T: TreeView>(
     }
 }
 
-/// What a name stands for in the directory of snapshots: the root of a frozen tree.
+/// What a name denotes in the directory of snapshots: the root of a frozen tree.
 fn snapshot_root<T: TreeView>(view: &mut T, name: &[u8]) -> Result<Option<Object>, T::Fault>
     requires { T.holds view.old }
     ensures kept { T.holds view.new }
@@ -150,7 +150,7 @@ fn snapshot_root<T: TreeView>(view: &mut T, name: &[u8]) -> Result<Option<Object
     }))
 }
 
-/// What a name stands for in a directory.
+/// What a name denotes in a directory.
 pub fn child_of<T: TreeView>(
     view: &mut T,
     directory: &Object,
@@ -185,7 +185,7 @@ fn admit(cred: &Cred, place: u16, attributes: Option<Attributes>) -> Result<(), 
     Err(WalkRefusal { place, obstacle })
 }
 
-/// What a name stands for in what is at this place, which has to be a directory that lets the
+/// What a name denotes in what is at this place, which has to be a directory that lets the
 /// caller search it.
 fn pass<T: TreeView>(
     view: &mut T,
@@ -218,13 +218,13 @@ fn pass<T: TreeView>(
 /// tree of a snapshot that tree's own owners and ACLs decide.
 ///
 /// The first test that fails, in the order of the places, is the refusal: a caller that may not
-/// search a directory isn't told which names it has (POSIX.1-2017, Pathname Resolution).
+/// search a directory doesn't learn which names it has (POSIX.1-2017, Pathname Resolution).
 ///
 /// Proved: Over every view of the live tree and the frozen ones, a walk is the chain of links or its first refusal, with its
 /// place, by the owners and ACLs of the tree that each directory is in.
-/// Proved: A missing name below a directory without search isn't told; only the live root has the directory of snapshots.
+/// Proved: A missing name below a directory without search isn't revealed; only the live root has the directory of snapshots.
 /// Proved: A walk makes the look-ups of its path, in their order, as far as it goes, and no other.
-/// Proved: A fault of the view is handed on with its cause, and what the view keeps is kept.
+/// Proved: A fault of the view is passed on with its cause, and what the view keeps is kept.
 pub fn walk<T: TreeView>(
     view: &mut T,
     cred: &Cred,
@@ -266,7 +266,7 @@ pub fn walk<T: TreeView>(
     })
 }
 
-/// What a walk's last name stands for, if it is there.
+/// What a walk's last name denotes, if it is there.
 pub fn reached<T: TreeView>(view: &mut T, walked: Walked) -> Result<Option<Found>, T::Fault>
     requires holds { T.holds view.old }
     requires few { end_of walked ≤ 1023 }

@@ -11,7 +11,7 @@ use Rattle.sn_layout.proofs.Roots.{head_flat, head_spelled}
 use Rattle.sn_layout.proofs.root.Head.read.Goals as goal
 use Rattle.sn_layout.proofs.root.Head.read.Goals.{then-numbers-ne0-via-then-numbers-ne0, then-numbers-ne0-via-else-numbers-ne0+then-numbers-ne0-2, then-numbers-ne0-via-else-numbers-ne0+else-numbers-ne0-2+then-not-is_blank}
 
--- where zeros stand between
+-- where zeros are between
 abbrev made : HeadNumbers → BlockTree → Head
 made n tree = record { version = n.version; generation = n.generation; epoch = n.epoch; count = n.count; inode_file = tree }
 

@@ -24,7 +24,7 @@ room : (a d : List Entry) (bytes rest : List ℕ) → bytes ≡ entries_bytes a 
 room a d bytes rest e =
     omega (arith, ap length e, length-append (entries_bytes a) (entries_bytes d ++ rest), length-append (entries_bytes d) rest, length-entries a, length-entries d)
 
--- the numbers that were read are those of the lists that are spelled, which stand behind them
+-- the numbers that were read are those of the lists that are spelled, which follow them
 counts : (acls : AclBlock) (rest old one two : List ℕ) (x y : ℕ) → old ≡ x ∷ one → one ≡ y ∷ two → old ≡ acls_bytes acls ++ rest
     → (length acls.access ≡ x) × (length (default_entries acls.default) ≡ y) × (two ≡ entries_bytes acls.access ++ (entries_bytes (default_entries acls.default) ++ rest))
 counts acls rest old one two x y first second e =

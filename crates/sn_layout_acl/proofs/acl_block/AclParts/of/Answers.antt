@@ -12,7 +12,7 @@ short es acl count same valid e =
     let (users, others, owner, group, other, s, p) = parts_of es acl count same valid e in
     omega (arith, p.long, p.counted)
 
--- the entries between the first and the last, but for the one behind the users
+-- the entries between the first and the last, but for the one after the users
 gathered : (es users others before named : List Entry) (count : ℕ) → take (1 + count - 1) (drop 1 es) ≡ users → take (length es - 1 - (2 + count)) (drop (2 + count) es) ≡ others
     → before ≡ [] ++ take (1 + count - 1) (drop 1 es) → named ≡ before ++ take (length es - 1 - (2 + count)) (drop (2 + count) es) → named ≡ users ++ others
 gathered es users others before named count front back first second = second ∙ ap (λ (r : List Entry). r ++ take (length es - 1 - (2 + count)) (drop (2 + count) es)) (first ∙ front) ∙ ap (λ (r : List Entry). users ++ r) back
