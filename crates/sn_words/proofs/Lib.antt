@@ -4,3 +4,4 @@ pub mod Parts
 pub mod Bytes
 pub mod FieldLaws
 pub mod FlagLaws
+pub mod Digits

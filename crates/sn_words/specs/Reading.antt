@@ -1,5 +1,6 @@
 -- What a word of each kind spells, or that it spells nothing.
 use Rattle.std.specs.Prelude.{◌≡◌, ℕ, ◌+◌, ◌-◌, ◌*◌, ◌^◌, ◌==◌, ◌&&◌, Bool, true, false, not, nat_le, nat_lt, List, [], ◌∷◌, length, Option, Some, None, Result, Ok, Err, if◌then◌else◌, codes, decimal}
+use Rattle.std.specs.List.{list_any}
 use Rattle.std.specs.Str.{bytes_eq}
 use Rattle.std.specs.Str.Parse.{digits_value}
 use Rattle.hex.specs.Hex.{decode_of}
@@ -97,6 +98,14 @@ unfoldable pub file_mode_of : Bool → List (List ℕ) → Option ℕ
 file_mode_of true (mode ∷ []) = octal_of mode
 file_mode_of false [] = Some 0
 file_mode_of _ _ = None
+
+-- a digit from ten on in upper case, which no word has
+abbrev pub is_upper_digit : ℕ → Bool
+is_upper_digit c = nat_le 65 c && nat_le c 70
+
+-- one digit or more, and none of them in upper case
+abbrev pub are_lower_digits : List ℕ → Bool
+are_lower_digits word = not (length word == 0) && not (list_any is_upper_digit word)
 
 -- the bytes that digits denote, where they are spelled with these
 abbrev pub spelled_by : List ℕ → Result (List ℕ) FromHexError → Option (List ℕ)

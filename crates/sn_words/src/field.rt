@@ -1,8 +1,8 @@
 ghost use Rattle.std.specs.Prelude.{◌≡◌, ◌^◌, ◌≤◌, ◌∷◌, [], map, length};
 ghost use Rattle.std.specs.Char.{is_ascii_graphic};
-ghost use Rattle.std.specs.List.{list_all};
+ghost use Rattle.std.specs.List.{list_all, list_any};
 ghost use Rattle.sn_words.specs.Fields.{is_word};
-ghost use Rattle.sn_words.specs.Reading.{IsRead, number_below, octal_digit_of, octal_of, right_of, want_of, kind_named, numbers_of, groups_of, id_of, word_of, letter_of, flags_of, file_mode_of, content_of};
+ghost use Rattle.sn_words.specs.Reading.{IsRead, number_below, octal_digit_of, octal_of, right_of, want_of, kind_named, numbers_of, groups_of, id_of, word_of, letter_of, flags_of, file_mode_of, content_of, are_lower_digits, is_upper_digit};
 
 use crate::cut::parts;
 use crate::fault::SpellingFault;
@@ -220,22 +220,41 @@ pub fn file_mode(creates: bool, words: &[&[u8]]) -> Result<u16, SpellingFault>
     }
 }
 
+// Whether a digit is one that is written in upper case.
+fn is_upper_digit(digit: u8) -> bool
+    ensures { result ≡ is_upper_digit digit }
+{
+    matches!(digit, b'A'..=b'F')
+}
+
+fn has_upper_digits(word: &[u8]) -> bool
+    ensures { result ≡ list_any is_upper_digit word.now }
+{
+    word.iter().any(|digit| is_upper_digit(*digit))
+}
+
+// One digit or more, and none of them in upper case. Whether the others are digits is for decoding to find.
+fn are_lower_digits(word: &[u8]) -> bool
+    ensures { result ≡ are_lower_digits word.now }
+{
+    !word.is_empty() && !has_upper_digits(word)
+}
+
 /// Bytes in hexadecimal, or a dash for none.
-#[tactic(auto, unfolding(crate::specs::Reading::content_of))]
+#[tactic(auto, using(crate::proofs::Digits::content_low, crate::proofs::Digits::content_not_low), unfolding(crate::specs::Reading::content_of))]
 pub fn content(alloc: Global, word: &[u8]) -> Result<FileData, SpellingFault>
     ensures { IsRead (λ c. c) result (content_of word.now) }
 {
-    if let b"-" = word {
+    if word == b"-".as_slice() {
         return Ok(FileData::new(Vec::new(alloc)));
     }
-    let bytes = match hex::decode(alloc, word) {
-        Ok(bytes) => bytes,
-        Err(FromHexError::OutOfMemory) => return Err(SpellingFault::Memory),
-        Err(_) => return Err(SpellingFault::Bad),
-    };
     // A dash alone spells no bytes, and lower case alone the others.
-    if bytes.is_empty() || hex::encode(alloc, bytes.as_slice())?.as_bytes() != word {
+    if !are_lower_digits(word) {
         return Err(SpellingFault::Bad);
     }
-    Ok(FileData::new(bytes))
+    match hex::decode(alloc, word) {
+        Ok(bytes) => Ok(FileData::new(bytes)),
+        Err(FromHexError::OutOfMemory) => Err(SpellingFault::Memory),
+        Err(_) => Err(SpellingFault::Bad),
+    }
 }
