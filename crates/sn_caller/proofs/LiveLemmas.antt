@@ -1,7 +1,7 @@
 -- How many descriptors of live files a caller leaves.
 use Rattle.std.proofs.Common.{◌≡◌, ℕ, ◌+◌, ◌≤◌, Bool, true, false, cond, Option, Some, None, refl, ap, arith}
 use Rattle.std.specs.FinMap as map
-use Rattle.sn_model.specs.Descriptors.{Descriptors, at_offset, moved_if, moved_to, opened}
+use Rattle.sn_model.specs.Descriptors.{Descriptors, moved_if, moved_to, opened}
 use Rattle.sn_model.specs.World.{Descriptor}
 use Rattle.sn_model.proofs.CountLemmas.{count_inserted, once}
 use Rattle.sn_model.proofs.EntryLemmas.{share, total-insert}
@@ -27,6 +27,6 @@ moved_live table session fd offset = told (map.get table (session, fd)) refl
     told (Some d) e =
         omega (
           arith,
-          total-insert descriptors_total exact_descriptors (once is_of_live_file) table (session, fd) (at_offset offset d),
+          total-insert descriptors_total exact_descriptors (once is_of_live_file) table (session, fd) (record d { offset = offset }),
           ap (share (once is_of_live_file) (session, fd)) e,
         )

@@ -1,5 +1,5 @@
 -- No file gets its first name by what a call decides.
-use Rattle.std.proofs.Common.{◌≡◌, ℕ, ◌+◌, ◌≤◌, Bool, true, false, cond, ◌==◌, List, [], ◌∷◌, Option, Some, None, Result, Ok, Err, length, take, drop, refl, sym, ap, subst, ◌∙◌, ◌⊎◌, inl, inr}
+use Rattle.std.proofs.Common.{◌≡◌, ℕ, ◌+◌, ◌≤◌, Bool, true, false, cond, ◌==◌, List, [], ◌∷◌, Option, Some, None, Result, Ok, Err, length, take, drop, refl, sym, ap, subst, ◌∙◌, ◌⊎◌, inl, inr, ◌*◌}
 use Rattle.std.specs.Prelude.{IsSomeAnd}
 use Rattle.std.specs.FinMap as map
 use Rattle.sn_acl.specs.declared.modes.Mode.{Mode}
@@ -23,7 +23,7 @@ use Rattle.sn_walk.proofs.WalkLemmas.{ends_at}
 use Rattle.sn_model.specs.declared.argument.OpenFlags.{OpenFlags}
 use Rattle.sn_model.specs.declared.call.Call.{Call}
 use Rattle.sn_model.specs.declared.call.Call.TheVariants as call
-use Rattle.sn_model.specs.declared.change.Change.TheVariants.{Make}
+use Rattle.sn_model.specs.declared.change.Change.TheVariants.{Make, Remove, SetSize}
 use Rattle.sn_model.specs.declared.reply.Errno.TheVariants.{Enoent, Eperm}
 use Rattle.sn_model.specs.declared.reply.Refusal.{Refusal}
 use Rattle.sn_model.specs.declared.session.Session.{Session}
@@ -31,11 +31,11 @@ use Rattle.sn_model.specs.AccessCalls.{access_outcome, chmod_outcome, chown_outc
 use Rattle.sn_model.specs.Calls.{Ready, mkdir_outcome, new_session, outcome_of, ready, seen, stat_outcome, with_path}
 use Rattle.sn_model.specs.AccessCalls.{acl_argument, id_argument, mode_bits_argument}
 use Rattle.sn_model.specs.SnapshotCalls.{snapshot_argument}
-use Rattle.sn_model.specs.FileCalls.{bytes_argument, count_argument, flags_argument}
+use Rattle.sn_model.specs.FileCalls.{bytes_argument, count_argument, flags_argument, file_charge}
 use Rattle.sn_model.specs.Tests.{logged_in, logged_out, new_mode_argument, path_argument}
 use Rattle.sn_model.proofs.Deciding as deciding
 use Rattle.sn_model.specs.Descriptors.{descriptor_at, is_offset, next_descriptor, readable_at, writable_at}
-use Rattle.sn_model.specs.FileCalls.{access_of, close_outcome, creating, cuts, file, first_ownership, ftruncate_outcome, is_size, no_directory, not_exclusive, open_absent, open_bytes, open_found, open_outcome, open_there, opens_new, opens_there, read_outcome, reads, seek_outcome, unlink_outcome, unlinks, write_offset, write_outcome, write_some, writes}
+use Rattle.sn_model.specs.FileCalls.{access_of, close_outcome, creating, file, first_ownership, ftruncate_outcome, is_size, no_directory, not_exclusive, open_absent, open_bytes, open_found, open_outcome, open_there, opens_new, opens_there, read_outcome, reads, seek_outcome, unlink_outcome, write_offset, write_outcome, write_some, writes}
 use Rattle.sn_model.specs.NameCalls.{home_of, link_outcome, may_link, readdir_outcome, rename_outcome, rmdir_outcome}
 use Rattle.sn_model.specs.NameTree.{IsHierarchy}
 use Rattle.sn_model.specs.declared.outcome.AskedPoint.{AskedPoint}
@@ -45,7 +45,7 @@ use Rattle.sn_model.specs.declared.outcome.Caller.TheVariants.{Closes, LogsIn, L
 use Rattle.sn_model.specs.declared.outcome.Outcome.{Outcome}
 use Rattle.sn_model.specs.declared.outcome.Pending.{Pending}
 use Rattle.sn_model.specs.declared.outcome.Pending.TheVariants.{Does, Makes, Nothing}
-use Rattle.sn_model.specs.Outcomes.{tells, asks}
+use Rattle.sn_model.specs.Outcomes.{tells, asks, does}
 use Rattle.sn_model.specs.Seen.{last_name, parent_of}
 use Rattle.sn_model.specs.SnapshotCalls.{snap_create_outcome, snap_delete_outcome, snap_restore_outcome}
 use Rattle.sn_model.specs.Settling.{is_nameless, nameless_in}
@@ -165,7 +165,7 @@ module _ (limits : Limits) (world : World) where
   unlink_gives_none : (s : Session) (names : List (List ℕ)) → Decided (unlink_outcome limits trees s names)
   unfolding unlink_outcome
   unlink_gives_none s names =
-      let last = λ (at : Object × ℕ). ok (unlinks limits (number_of at.0) (last_name names)) in
+      let last = λ (at : Object × ℕ). ok (does (3 * limits.inode_charge + limits.block_charge) (Remove (number_of at.0) (last_name names))) in
       let behind = λ (w : Walked) (f : Found). parent_of Eperm w >>= (λ at. writable_parent trees s.cred 1 at.1 at.0 >>= (λ parent. sticky s.cred 1 parent f >>= (λ _. last at))) in
       then (prefix trees s.cred 1 names) (λ w. there (found_at trees w) >>= (λ f. no_directory f >>= (λ _. live f.object >>= (λ _. behind w f)))) (λ w.
       then (there (found_at trees w)) (λ f. no_directory f >>= (λ _. live f.object >>= (λ _. behind w f))) (λ f.
@@ -243,8 +243,8 @@ module _ (limits : Limits) (world : World) where
   ftruncate_gives_none : (session fd size : ℕ) → Decided (ftruncate_outcome limits world.descriptors session fd size)
   unfolding ftruncate_outcome
   ftruncate_gives_none session fd size =
-      then (writable_at world.descriptors session fd) (λ d. is_size limits size >>= (λ _. ok (cuts limits d.number size))) (λ d.
-      then (is_size limits size) (λ _. ok (cuts limits d.number size)) (λ _. (tt, tt)))
+      then (writable_at world.descriptors session fd) (λ d. is_size limits size >>= (λ _. ok (does (file_charge limits 1) (SetSize d.number size)))) (λ d.
+      then (is_size limits size) (λ _. ok (does (file_charge limits 1) (SetSize d.number size))) (λ _. (tt, tt)))
 
   -- and so where the tests of the session and of the arguments come first
   abbrev Readied : Result Ready Refusal → Type 0

@@ -1,11 +1,13 @@
 -- Calls that close nothing: who held a file holds it still.
 use Rattle.std.proofs.Common.{◌≡◌, ◌⊎◌, inl, inr, ℕ, Bool, true, false, not, ◌||◌, cond, Option, Some, None, Ok, is_some, refl, sym, ap, subst, ◌∙◌, true≢false}
 use Rattle.std.specs.FinMap as map
-use Rattle.std.specs.Prelude.{IsSomeAnd}
+use Rattle.std.specs.Prelude.{IsSomeAnd, ok_or}
 use Rattle.sn_limits.specs.declared.kind.Kind.TheVariants.{File}
 use Rattle.sn_limits.specs.declared.limits.Limits.{Limits}
 use Rattle.sn_walk.specs.declared.object.Home.TheVariants.{Live}
-use Rattle.sn_model.specs.Descriptors.{Descriptors, at_offset, descriptor_for, given, is_held_in, moved_if, moved_to, next_descriptor, opened}
+use Rattle.sn_model.specs.Tests.{plain}
+use Rattle.sn_model.specs.declared.reply.Errno.TheVariants.{Emfile}
+use Rattle.sn_model.specs.Descriptors.{Descriptors, descriptor_for, is_held_in, moved_if, moved_to, next_descriptor, opened}
 use Rattle.sn_model.specs.declared.outcome.Caller.{Caller}
 use Rattle.sn_model.specs.declared.outcome.Caller.TheVariants.{Closes, LogsIn, LogsOut, Moves, Opens, OpensNew, SetsUmask, Stays}
 use Rattle.sn_model.specs.Settling.{dropped, is_held, is_nameless, without_nameless}
@@ -61,18 +63,18 @@ moved_holds table session fd offset n held = told (map.get table (session, fd)) 
         b : (i : ℕ) × (k : ℕ) × IsSomeAnd (map.get table (i, k)) (λ x. (x.home ≡ Live) × (x.number ≡ n))
         b = held_by table n held
 
-        split : AreOne (b.0, b.1) (session, fd) ⊎ (AreOne (b.0, b.1) (session, fd) → ⊥) → is_held_in (opened table session fd (at_offset offset d)) n ≡ true
+        split : AreOne (b.0, b.1) (session, fd) ⊎ (AreOne (b.0, b.1) (session, fd) → ⊥) → is_held_in (opened table session fd (record d { offset = offset })) n ≡ true
         split (inl q) =
             let x = some_descriptor (map.get table (b.0, b.1)) b.2 in
             let both : Some x.0 ≡ Some d = sym x.1 ∙ ap (map.get table) q ∙ e in
             let same = some_same x.0 d both in
-            held_at (opened table session fd (at_offset offset d)) n session fd (at_offset offset d) (get_inserted descriptors_total table (session, fd) (at_offset offset d))
+            held_at (opened table session fd (record d { offset = offset })) n session fd (record d { offset = offset }) (get_inserted descriptors_total table (session, fd) (record d { offset = offset }))
             (ap (λ (y : Descriptor). y.home) (sym same) ∙ x.2.0) (ap (λ (y : Descriptor). y.number) (sym same) ∙ x.2.1)
         split (inr apart) =
             let x = some_descriptor (map.get table (b.0, b.1)) b.2 in
-            held_at (opened table session fd (at_offset offset d)) n b.0 b.1 x.0 (get_other descriptors_total exact_descriptors table (session, fd) (at_offset offset d) (b.0, b.1) apart ∙ x.1) x.2.0 x.2.1
+            held_at (opened table session fd (record d { offset = offset })) n b.0 b.1 x.0 (get_other descriptors_total exact_descriptors table (session, fd) (record d { offset = offset }) (b.0, b.1) apart ∙ x.1) x.2.0 x.2.1
 
-given_is : (o : Option ℕ) (fd : ℕ) → given o ≡ Ok fd → o ≡ Some fd
+given_is : (o : Option ℕ) (fd : ℕ) → ok_or o (plain Emfile) ≡ Ok fd → o ≡ Some fd
 given_is None fd e = cc
 given_is (Some n) fd e = ap (λ (k : ℕ). Some k) (same_ok n fd e)
 

@@ -1,6 +1,7 @@
 //! The calls that ask for rights and set them.
 ghost use Rattle.std.specs.Prelude.{◌≡◌, IsTrue, IfOk, IfErr};
 ghost use Rattle.sn_model.specs.AccessCalls as calls;
+ghost use Rattle.sn_model.specs.Outcomes as outcomes;
 ghost use Rattle.sn_model.specs.Outcomes.{tells};
 ghost use Rattle.sn_walk.specs.Gives.{Gives, IfFault};
 
@@ -115,7 +116,7 @@ fn kind_of(acl: &NewAcl) -> AclKind
 
 /// Owner, group, S bits and ACLs are set at once.
 fn sets(limits: &Limits, number: u16, ownership: Ownership) -> Outcome<'static>
-    ensures { result ≡ calls.sets limits.now.inode_charge number ownership }
+    ensures { result ≡ outcomes.does limits.now.inode_charge (Change.SetAttributes number ownership) }
 {
     does(
         attributes_charge(limits),
@@ -125,7 +126,7 @@ fn sets(limits: &Limits, number: u16, ownership: Ownership) -> Outcome<'static>
 
 /// The outcome of umask: the answer is the mask before.
 pub fn umask(caller: &Session, mask: Mode) -> Outcome<'static>
-    ensures { result ≡ calls.umask_outcome caller.now mask }
+    ensures { result ≡ outcomes.asks (Caller.SetsUmask mask) (Reply.Mode caller.now.umask) }
 {
     asks(Caller::SetsUmask(mask), Reply::Mode(caller.umask))
 }

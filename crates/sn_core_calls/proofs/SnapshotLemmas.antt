@@ -19,7 +19,7 @@ use Rattle.sn_model.specs.declared.reply.Errno.TheVariants.{Ebusy}
 use Rattle.sn_model.specs.declared.reply.Refusal.{Refusal}
 use Rattle.sn_model.specs.Descriptors.{Descriptors}
 use Rattle.sn_model.specs.Seen.{SeenNames, seen_names}
-use Rattle.sn_model.specs.SnapshotCalls.{closed_live, closed_snapshot, has_open_in}
+use Rattle.sn_model.specs.SnapshotCalls.{closed_tree, has_open}
 use Rattle.sn_model.specs.Tests.{plain}
 use Rattle.sn_model.specs.World.{Descriptor, World, trees_of}
 use Rattle.sn_model.proofs.CountLemmas.{count, count_found}
@@ -97,8 +97,8 @@ open_is table home false is = told (has_open_at table home) refl
 abbrev pub busy_if : Bool → Result (Unit {0}) Refusal
 busy_if b = if b then Err (plain Ebusy) else Ok tt
 
-pub closed_is : (world : World) (name copy : List ℕ) (b : Bool) → copy ≡ name → (IsTrue b ↔ HasOpen world.descriptors (Frozen copy)) → closed_snapshot world name ≡ busy_if b
-closed_is world name copy b same is = ap busy_if (ap (has_open_in world.descriptors) (sym same) ∙ open_is world.descriptors (Frozen copy) b is)
+pub closed_is : (world : World) (name copy : List ℕ) (b : Bool) → copy ≡ name → (IsTrue b ↔ HasOpen world.descriptors (Frozen copy)) → closed_tree world (Frozen name) ≡ busy_if b
+closed_is world name copy b same is = ap busy_if (ap (λ n. has_open world.descriptors (Frozen n)) (sym same) ∙ open_is world.descriptors (Frozen copy) b is)
 
-pub closed_live_is : (world : World) (b : Bool) → (IsTrue b ↔ HasOpen world.descriptors Live) → closed_live world ≡ busy_if b
+pub closed_live_is : (world : World) (b : Bool) → (IsTrue b ↔ HasOpen world.descriptors Live) → closed_tree world Live ≡ busy_if b
 closed_live_is world b is = ap busy_if (open_is world.descriptors Live b is)

@@ -3,7 +3,7 @@ ghost use Rattle.std.specs.Prelude.{◌≡◌, ◌<◌, ◌^◌, ℕ, IsTrue, If
 ghost use Rattle.sn_limits.specs.Versions.{limits_written};
 ghost use Rattle.sn_model.specs.Calls.{new_session};
 ghost use Rattle.sn_model.specs.declared.call.Call.{Call as TheCall};
-ghost use Rattle.sn_model.specs.Outcomes.{opens};
+ghost use Rattle.sn_model.specs.Outcomes.{asks};
 ghost use Rattle.sn_model.specs.Steps.{decision};
 ghost use Rattle.sn_model.specs.World.{World};
 ghost use Rattle.sn_model.specs.Worlds.{IsCall};
@@ -37,7 +37,7 @@ use std::alloc::Global;
 
 /// The outcome of a login.
 fn login(uid: u32, gid: u32, groups: &Groups) -> Outcome<'static>
-    ensures outcome { result ≡ opens (new_session uid gid groups.now) }
+    ensures outcome { result ≡ asks (Caller.LogsIn (new_session uid gid groups.now)) Reply.Done }
     ensures uid { uid < 2 ^ 32 }
     ensures gid { gid < 2 ^ 32 }
 {

@@ -89,7 +89,7 @@ fn room_beside(limits: &Limits, count: usize) -> Result<(), Refusal>
 
 /// Whether nobody has a file of a snapshot open.
 fn closed(sessions: &Sessions, name: &SnapshotName) -> Result<(), Refusal>
-    ensures { (world : World) → result ≡ calls.closed_snapshot (in_world (in_use_of sessions.now) world) name.now }
+    ensures { (world : World) → result ≡ calls.closed_tree (in_world (in_use_of sessions.now) world) (Home.Frozen name.now) }
 {
     if sessions.has_open(&Home::Frozen(name.copy())) {
         return Err(Refusal::plain(Errno::Ebusy));
@@ -99,7 +99,7 @@ fn closed(sessions: &Sessions, name: &SnapshotName) -> Result<(), Refusal>
 
 /// Whether nobody has a file of the live tree open.
 fn closed_live(sessions: &Sessions) -> Result<(), Refusal>
-    ensures { (world : World) → result ≡ calls.closed_live (in_world (in_use_of sessions.now) world) }
+    ensures { (world : World) → result ≡ calls.closed_tree (in_world (in_use_of sessions.now) world) Home.Live }
 {
     if sessions.has_open(&Home::Live) {
         return Err(Refusal::plain(Errno::Ebusy));

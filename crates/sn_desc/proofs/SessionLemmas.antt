@@ -3,6 +3,7 @@ use Rattle.std.proofs.Common.{◌≡◌, ◌≢◌, ◌⊎◌, inl, inr, ℕ, �
 use Rattle.std.specs.FinMap as map
 use Rattle.std.specs.Option.{option_copied, option_map}
 use Rattle.std.proofs.lemmas.Bool.{true≢false, ltb-true, ltb-false, le-leb}
+use Rattle.std.specs.Prelude.{ok_or}
 use Rattle.sn_model.proofs.ChainLemmas.{and_left, and_right, some_same}
 use Rattle.sn_model.proofs.MapLemmas.{same_or_apart, get_left, get_removed}
 use Rattle.sn_limits.specs.declared.limits.Limits.{Limits}
@@ -10,7 +11,7 @@ use Rattle.sn_walk.specs.Chains.{◌>>=◌}
 use Rattle.sn_model.proofs.SearchLemmas.{first_found, none_without}
 use Rattle.sn_model.specs.declared.reply.Errno.TheVariants.{Ebadf, Einval, Emfile}
 use Rattle.sn_model.specs.declared.reply.Refusal.{Refusal}
-use Rattle.sn_model.specs.Descriptors.{Descriptors, closed, descriptor_at, found, given, is_offset, moved_if, moved_to, next_descriptor, opened, released, sought}
+use Rattle.sn_model.specs.Descriptors.{Descriptors, closed, descriptor_at, is_offset, moved_if, moved_to, next_descriptor, opened, released, sought}
 use Rattle.sn_model.specs.Tests.{plain}
 use Rattle.sn_model.specs.World.{Descriptor}
 use Rattle.sn_desc.specs.Closing.{closing, released_if}
@@ -100,17 +101,17 @@ some_of (Some x) e = absurd (true≢false e)
 pub next_is : (table : Descriptors) (session fd : ℕ) → ((k : ℕ) → k < fd → is_some (map.get table (session, k)) ≡ true) → map.get table (session, fd) ≡ None → fd < 64 → next_descriptor table session ≡ Ok fd
 next_is table session fd used none few =
     let none_at : is_some (map.get table (session, 0 + fd)) ≡ false = ap (λ (n : ℕ). is_some (map.get table (session, n))) (zero-add fd) ∙ ap is_some none in
-    ap given (first_found (λ k. is_some (map.get table (session, k))) 0 fd 64 (λ k low high. used k (omega (arith, high))) none_at few ∙ ap (λ (n : ℕ). Some n) (zero-add fd))
+    ap (λ (o : Option ℕ). ok_or o (plain Emfile)) (first_found (λ k. is_some (map.get table (session, k))) 0 fd 64 (λ k low high. used k (omega (arith, high))) none_at few ∙ ap (λ (n : ℕ). Some n) (zero-add fd))
 
 pub next_none : (table : Descriptors) (session : ℕ) → ((k : ℕ) → k < 64 → is_some (map.get table (session, k)) ≡ true) → next_descriptor table session ≡ Err (plain Emfile)
-next_none table session used = ap given (none_without (λ k. is_some (map.get table (session, k))) 0 64 (λ k low high. used k (omega (arith, high))))
+next_none table session used = ap (λ (o : Option ℕ). ok_or o (plain Emfile)) (none_without (λ k. is_some (map.get table (session, k))) 0 64 (λ k low high. used k (omega (arith, high))))
 
 -- what is there is what was found
-found_some : (o : Option Descriptor) (d : Descriptor) → found o ≡ Ok d → o ≡ Some d
+found_some : (o : Option Descriptor) (d : Descriptor) → ok_or o (plain Ebadf) ≡ Ok d → o ≡ Some d
 found_some None d e = let never : Err (plain Ebadf) ≡ Ok d = e in absurd cc
 found_some (Some x) d e = ok_some x d e
   where
-    ok_some : (x d : Descriptor) → found (Some x) ≡ Ok d → Some x ≡ Some d
+    ok_some : (x d : Descriptor) → ok_or (Some x) (plain Ebadf) ≡ Ok d → Some x ≡ Some d
     ok_some x d e = cc
 
 module _ (table : Descriptors) (session fd : ℕ) where

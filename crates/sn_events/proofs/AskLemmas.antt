@@ -6,6 +6,7 @@ use Rattle.std.proofs.lemmas.Bool.{eqb-false, eqb-true, ltb-false, ltb-true, tru
 use Rattle.sn_limits.specs.Versions.{limits_written}
 use Rattle.sn_walk.specs.Chains.{◌>>=◌}
 use Rattle.sn_walk.proofs.ChainLemmas.{bind_ok}
+use Rattle.sn_walk.specs.declared.object.Home.TheVariants.{Frozen}
 use Rattle.sn_model.specs.declared.call.Call.{Call}
 use Rattle.sn_model.specs.declared.call.Call.TheVariants as call
 use Rattle.sn_model.specs.declared.call.Event.TheVariants as event
@@ -26,7 +27,7 @@ use Rattle.sn_model.specs.declared.outcome.Pending.{Pending}
 use Rattle.sn_model.specs.declared.outcome.Pending.TheVariants.{Nothing}
 use Rattle.sn_model.specs.Outcomes.{points}
 use Rattle.sn_model.specs.Settling.{dropped, nameless_if, nameless_in, settle}
-use Rattle.sn_model.specs.SnapshotCalls.{closed_snapshot, present_snapshot, snap_delete_outcome, snapshot_argument, user_0}
+use Rattle.sn_model.specs.SnapshotCalls.{closed_tree, present_snapshot, snap_delete_outcome, snapshot_argument, user_0}
 use Rattle.sn_model.specs.Steps.{AsksForPoint, Becomes, Comes, IsNumberFor, TakesMemory, asks_for_point, changed, decision, filled, pointed, with_caller}
 use Rattle.sn_model.specs.Tests.{logged_in, plain}
 use Rattle.sn_model.specs.Tree.{Tree}
@@ -86,8 +87,8 @@ module _ (w : World) (session : ℕ) where
       let s = bind_ok (logged_in w session) (λ s. snapshot_argument name >>= (λ old. ok (deciding.snap_delete s old))) r.0 r.1 in
       let n = bind_ok (snapshot_argument name) (λ old. ok (deciding.snap_delete s.0 old)) r.0 s.2 in
       let came = subst (λ (x : calls.Ready). outcome_of limits_written w x ≡ Ok o) (sym (same_ok (deciding.snap_delete s.0 n.0) r.0 n.2)) r.2 in
-      let user = bind_ok (user_0 s.0.cred) (λ _. present_snapshot (viewed_trees (trees_of w)) n.0 >>= (λ _. closed_snapshot w n.0 >>= (λ _. ok (points (Thaws n.0))))) o came in
-      let there = bind_ok (present_snapshot (viewed_trees (trees_of w)) n.0) (λ _. closed_snapshot w n.0 >>= (λ _. ok (points (Thaws n.0)))) o user.2 in
+      let user = bind_ok (user_0 s.0.cred) (λ _. present_snapshot (viewed_trees (trees_of w)) n.0 >>= (λ _. closed_tree w (Frozen n.0) >>= (λ _. ok (points (Thaws n.0))))) o came in
+      let there = bind_ok (present_snapshot (viewed_trees (trees_of w)) n.0) (λ _. closed_tree w (Frozen n.0) >>= (λ _. ok (points (Thaws n.0)))) o user.2 in
       (tt, λ _. ok_point w (Thaws n.0) o (delete_is w s.0 n.0 o came).0 (present_is n.0 there.0 (map.contains_key w.frozen n.0) there.1))
 
   restore_asks : (name : List ℕ) (o : Outcome) → decision limits_written w session (call.SnapRestore name) ≡ Ok o → CanAsk w (call.SnapRestore name) o
@@ -173,7 +174,7 @@ asked_answers old new session c asked fits whole p = record {
     point = inl refl;
     may = ap (λ (s : Status). s.failures) p.costs;
     next = Running after;
-    step = record { next = after; becomes = becomes old.world session c asked.asks asked.outcome asked.decided whole; runs = refl };
+    step = (after, becomes old.world session c asked.asks asked.outcome asked.decided whole, refl);
     means = (refl, running_between new after p.fresh.between p.runs);
     lasts = record { moments = p.moments; answered = runs_show new after p.runs.runs };
     later = later-is _ _ old.status new.status p.costs;
@@ -202,7 +203,7 @@ module _ (old : Held) (session : ℕ) (c : Call) (whole : IsWorld limits_written
     age = ((asked.outcome, asked.decided, inr asked.asks), record { told = refl; same = refl });
     aged = λ last. (inr asked, last);
     after = settle after;
-    cut = record { outcome = asked.outcome; decided = asked.decided; writes = inr asked.asks; next = after; comes = comes_to old.world session c asked.asks asked.outcome asked.decided whole; stops = record { told = refl; left = refl } };
+    cut = record { passes = (asked.outcome, asked.decided, inr asked.asks); next = after; comes = comes_to old.world session c asked.asks asked.outcome asked.decided whole; stops = record { told = refl; left = refl } };
     unchanged = unchanged_call old session c;
     cut_point = cuts;
     cut_finish = λ new cut. inr (inr (inr cut));

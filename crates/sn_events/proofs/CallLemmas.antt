@@ -208,7 +208,7 @@ undecided_serves h new session c e none = in_world h new false session c (reply_
     told : RunsWith h.point h h.world → (e : CallFault) → IsUndecided e h session c new → ServesFrom (Running h.world) session c (reply_to e) h new false
     told r (lack.Refused refusal) (none, same) = subst (λ (x : Held). ServesFrom (Running h.world) session c (answer.Refused refusal) h x false) (sym same)
         (kept h false (Running h.world) session c None (answer.Refused refusal) tt (refl, r) refl (inr (record { alone = λ asks. cannot_ask h session c refusal asks none; leaves = inl (record { none = refused_none h.world h.kept session c refusal none; drops = drops_none h; carries = carries_none h }) }))
-        (record { next = h.world; becomes = subst (λ (d : Result Outcome Refusal). Becomes limits_written h.world session d (answer.Refused refusal) h.world) (sym none) (refl, refl); runs = refl }))
+        (h.world, subst (λ (d : Result Outcome Refusal). Becomes limits_written h.world session d (answer.Refused refusal) h.world) (sym none) (refl, refl), refl))
     told r lack.Memory (takes, same) = subst (λ (x : Held). ServesFrom (Running h.world) session c (refused Enomem) h x false) (sym same)
         (kept h false (Running h.world) session c (Some Memory) (refused Enomem) tt (refl, r) refl refl (takes, record { told = refl; same = refl }))
     told r lack.Read (takes, same, fails) = read_fails h new session c same fails takes r
@@ -297,9 +297,7 @@ module _ (old : Held) (session : ℕ) (c : Call) (o : Outcome) (picked : Chosen)
               may = fails.failed;
               next = Stopped (settle old.world) (settle next);
               step = record {
-                outcome = o;
-                decided = decided;
-                writes = inl (is_charged old.world old.kept session c o picked change decided chosen some);
+                passes = (o, decided, inl (is_charged old.world old.kept session c o picked change decided chosen some));
                 next = next;
                 comes = comes tree fails.applied;
                 stops = record { told = refl; left = refl };
@@ -432,7 +430,7 @@ module _ (old : Held) (session : ℕ) (c : Call) (o : Outcome) (picked : Chosen)
                 point = inl refl;
                 may = ap (λ (s : Status). s.failures) (status_is ∙ logged.costs);
                 next = Running next;
-                step = record { next = next; becomes = becomes tree logged.made.applied; runs = refl };
+                step = (next, becomes tree logged.made.applied, refl);
                 means = (refl, on);
                 lasts = runs_lasts old new old.world next change tree runs can.spelled logged.made.applied of whole.live.hierarchy (has_room all.fits) aged touched moments (runs_with new next new.point on);
                 later = later-is (writes_of change) 2 old.status new.status (status_is ∙ logged.costs);

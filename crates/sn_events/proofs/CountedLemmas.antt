@@ -113,7 +113,7 @@ module _ (old new : Held) (going next : Going) (is : old.point ≡ Some going) (
   counted (Running w) event.Restart (Some Write) reply state fin mid f p (inl step) m n l = not_stopped new _ _ state step.left n
   counted (Running w) event.Restart (Some Space) reply state fin mid f p (inl step) m n l = absurd step
   counted (Running w) event.Restart (Some Age) reply state fin mid f p (inl step) m n l = stays event.Restart reply refl (keeps (Running w) event.Restart fin fin f (inl refl) (same_point Age fin new (subst (λ (s : State). LeavesRestart fin mid (Some Age) s new) step.same l)))
-  counted (Running w) event.Restart (Some met) reply state fin mid f p (inr step) m n l = not_stopped new _ _ state step.left n
+  counted (Running w) event.Restart (Some met) reply state fin mid f p (inr step) m n l = not_stopped new _ _ state step.3 n
 
 -- so it is of an event that is answered from a state that is meant
 pub counts_event : (s : State) (e : Event) (reply : Reply) (old new : Held) (going next : Going) → old.point ≡ Some going → new.point ≡ Some next → Means old false s → AnswersFrom s e reply old new false → left_of new.point + counts_down e reply ≡ left_of old.point

@@ -12,7 +12,7 @@ use Rattle.sn_model.specs.declared.outcome.Outcome.{Outcome}
 use Rattle.sn_model.specs.declared.reply.Errno.TheVariants.{Eio, Elimit, Enomem, Enospc}
 use Rattle.sn_model.specs.declared.reply.Reply.{Reply}
 use Rattle.sn_model.specs.Calls.{ready}
-use Rattle.sn_model.specs.Machine.{Running, Stopped, Mishap, Memory, Read, Write, Space, Age, EventStep, IsCharged, errno_of, refused}
+use Rattle.sn_model.specs.Machine.{Running, Stopped, Mishap, Memory, Read, Write, Space, Age, EventStep, Passes, errno_of, refused}
 use Rattle.sn_model.specs.declared.outcome.AskedPoint.{AskedPoint}
 use Rattle.sn_model.specs.declared.outcome.AskedPoint.TheVariants.{Unasked, Plain, Freezes, Thaws, Restores}
 use Rattle.sn_model.specs.Settling.{settle}
@@ -249,7 +249,7 @@ space_answers old mid session c needed p over = record {
   point = inr (needed, made);
   may = ((needed, made, over), ap (λ (s : Status). s.failures) p.costs);
   next = Running old.world;
-  step = (subst (λ (w : World). IsCharged limits_written w session c) p.world (over.outcome, over.decided, over.some), record { told = refl; same = refl });
+  step = (subst (λ (w : World). Passes (λ (x : Outcome). 0 < x.charge) limits_written w session c) p.world (over.outcome, over.decided, over.some), record { told = refl; same = refl });
   means = (refl, running_between mid old.world p.fresh.between p.runs);
   lasts = record {
     moments = LeavesOnly-weaker old.disk mid.disk (λ d. IsImage d (settle old.world)) (λ d. ShowsState (Running old.world) d ⊎ ShowsState (Running old.world) d) (λ d h. inl h) (settled_all old mid p);
@@ -417,7 +417,7 @@ call_point old session c numbers whole needed = record {
   age = ((o, is.decided, inl charged), record { told = refl; same = refl });
   aged = λ last. (inl needed, last);
   after = settle next;
-  cut = record { outcome = o; decided = is.decided; writes = inl charged; next = next; comes = comes old session c o is.picked needed.change numbers whole is.decided is.chosen is.is can.tree can.applied; stops = record { told = refl; left = refl } };
+  cut = record { passes = (o, is.decided, inl charged); next = next; comes = comes old session c o is.picked needed.change numbers whole is.decided is.chosen is.is can.tree can.applied; stops = record { told = refl; left = refl } };
   unchanged = unchanged_call old session c;
   cut_point = λ new cut. inr (inr (inl (inl needed, cut)));
   cut_finish = λ new cut. inr (inr (inr cut));

@@ -95,7 +95,7 @@ module _ (old new : Held) (session : ℕ) (c : Call) (o : Outcome) (picked : Cho
               point = inl refl;
               may = refl;
               next = Running next;
-              step = record { next = next; becomes = served.0; runs = refl };
+              step = (next, served.0, refl);
               means = (refl, on);
               lasts = record { moments = LeavesOnly-start old.disk (λ d. ShowsState (Running old.world) d ⊎ ShowsState (Running next) d) (λ d crash. inr (shows d crash)); answered = shows };
               later = later-same old.status old.status refl;

@@ -1,6 +1,6 @@
 -- What the calls that set rights have found, and that what they decide can be applied.
 use Rattle.std.proofs.Common.{◌≡◌, ℕ, ◌^◌, Bool, true, false, cond, ◌&&◌, nat_lt, List, Option, Some, None, Ok, Err, is_some, refl, sym, ap, subst, ◌∙◌, arith, ◌||◌, ◌==◌, ◌≢◌, ◌<◌, ◌⊎◌, inl, inr, eq-eqb, eqb-true, ltb-true}
-use Rattle.std.specs.Prelude.{IfSome, codes, unwrap_or}
+use Rattle.std.specs.Prelude.{IfSome, codes, unwrap_or, ◌/◌, ◌%◌}
 use Rattle.std.specs.FinMap as map
 use Rattle.std.specs.Str.{bytes_eq}
 use Rattle.std.proofs.lemmas.Bool.{lt-ltb, ne_eqb}
@@ -34,12 +34,12 @@ use Rattle.sn_model.specs.declared.reply.Errno.TheVariants.{Einval}
 use Rattle.sn_model.specs.declared.reply.Reply.TheVariants as reply
 use Rattle.sn_model.specs.declared.reply.Rule.TheVariants as rule
 use Rattle.sn_model.specs.declared.session.Session.{Session}
-use Rattle.sn_model.specs.AccessCalls.{AclKind, OfAccess, OfDefault, ModeBits, NewAcl, NewAccess, NewDefault, access_outcome, acl_argument, acl_at, by_owner, chmod_outcome, chown_outcome, default_acl_at, getacl_outcome, given_to, has_acl, id_argument, kind_of, live_if, mode_bits_argument, mode_bits_from, new_acl, ownership_at, setacl_outcome, sets, to_group, to_owner, with_acl, with_mode_bits}
+use Rattle.sn_model.specs.AccessCalls.{AclKind, OfAccess, OfDefault, ModeBits, NewAcl, NewAccess, NewDefault, access_outcome, acl_argument, acl_at, by_owner, chmod_outcome, chown_outcome, default_acl_at, getacl_outcome, given_to, has_acl, id_argument, kind_of, live_if, mode_bits_argument, new_acl, ownership_at, setacl_outcome, to_group, to_owner, with_acl, with_mode_bits}
 use Rattle.sn_model.specs.AccessLaws.{GivesTo, Sets, SetsAcl, ShowsMode}
 use Rattle.sn_model.specs.Changes.{apply, is_default_acl, is_ownership, node_with, owned, ownership_of, put_node}
 use Rattle.sn_model.specs.NameTree.{IsNode}
-use Rattle.sn_model.specs.Outcomes.{Outcome, Does, tells}
-use Rattle.sn_model.specs.Tests.{forbidden, full, granted, live, plain, prefix, there}
+use Rattle.sn_model.specs.Outcomes.{Outcome, Does, tells, does}
+use Rattle.sn_model.specs.Tests.{forbidden, full, granted, live, plain, prefix, there, mode_from_bits}
 use Rattle.sn_model.specs.Tree.{Node, Tree}
 use Rattle.sn_model.specs.World.{World, trees_of, viewed_trees}
 use Rattle.sn_model.specs.Worlds.{IsWorld}
@@ -128,8 +128,8 @@ set_applies tree number node o there fits = ap is_some (owned_of tree number o (
 mode_within : (argument : ℕ) (bits : ModeBits) → mode_bits_argument argument ≡ Ok bits → IsMode bits.mode
 mode_within argument bits e = told (nat_lt argument 2048) e
   where
-    told : (b : Bool) → cond b (ok (mode_bits_from argument)) (Err (plain Einval)) ≡ Ok bits → IsMode bits.mode
-    told true f = subst (λ (x : ModeBits). IsMode x.mode) (same_ok (mode_bits_from argument) bits f) (record { owner = omega arith; group = omega arith; other = omega arith })
+    told : (b : Bool) → cond b (ok (record { mode = mode_from_bits (argument % 512); set_gid = argument / 1024 == 1; sticky = argument / 512 % 2 == 1 })) (Err (plain Einval)) ≡ Ok bits → IsMode bits.mode
+    told true f = subst (λ (x : ModeBits). IsMode x.mode) (same_ok (record { mode = mode_from_bits (argument % 512); set_gid = argument / 1024 == 1; sticky = argument / 512 % 2 == 1 }) bits f) (record { owner = omega arith; group = omega arith; other = omega arith })
     told false f = cc
 
 -- S_ISGID is as asked where one of three tests passes
@@ -163,14 +163,14 @@ module _ (limits : Limits) (world : World) (s : Session) (bits : ModeBits) (foun
   chmod_node : IsNode limits number found_live.node
   chmod_node = whole.live.nodes.nodes number found_live.node found_live.there
 
-  chmod_sets : (o : Outcome) → o ≡ sets limits.inode_charge number (with_mode_bits s.cred found.attributes bits (ownership_at (viewed_trees (trees_of world)) found)) → Sets limits world s o (ShowsMode s bits)
+  chmod_sets : (o : Outcome) → o ≡ does limits.inode_charge (SetAttributes number (with_mode_bits s.cred found.attributes bits (ownership_at (viewed_trees (trees_of world)) found))) → Sets limits world s o (ShowsMode s bits)
   unfolding given
   chmod_sets o is = record {
     number = number;
     node = found_live.node;
     there = found_live.there;
     new = given;
-    change = ap (λ (x : Outcome). x.change) (is ∙ ap (λ (x : Ownership). sets limits.inode_charge number (with_mode_bits s.cred found.attributes bits x)) found_live.had);
+    change = ap (λ (x : Outcome). x.change) (is ∙ ap (λ (x : Ownership). does limits.inode_charge (SetAttributes number (with_mode_bits s.cred found.attributes bits x))) found_live.had);
     by_owner = owner_is world s found number found_live u owns;
     follows = record {
       owner = refl;
@@ -194,7 +194,7 @@ pub chmod_is : (limits : Limits) (world : World) (s : Session) (names : List (Li
 unfolding chmod_outcome
 chmod_is limits world s names argument bits o whole a e =
     let trees = viewed_trees (trees_of world) in
-    let last = λ (f : Found) (n : ℕ). ok (sets limits.inode_charge n (with_mode_bits s.cred f.attributes bits (ownership_at (viewed_trees (trees_of world)) f))) in
+    let last = λ (f : Found) (n : ℕ). ok (does limits.inode_charge (SetAttributes n (with_mode_bits s.cred f.attributes bits (ownership_at (viewed_trees (trees_of world)) f)))) in
     let f = bind_ok (full trees s.cred 1 names) (λ f. live f.object >>= (λ n. by_owner s.cred 1 f >>= (λ _. last f n))) o e in
     let n = bind_ok (live f.0.object) (λ n. by_owner s.cred 1 f.0 >>= (λ _. last f.0 n)) o f.2 in
     let u = bind_ok (by_owner s.cred 1 f.0) (λ _. last f.0 n.0) o n.2 in
@@ -241,7 +241,7 @@ group_kept s found gid u e other = told (s.cred.uid == 0) (unwrap_or gid found.a
     told false false true f g m h = inr m
     told false false false f g m h = cc h
 
--- what chown has found, and what it comes to
+-- what chown has found, and its outcome
 record HasGiven (limits : Limits) (trees : ViewedTrees) (s : Session) (names : List (List ℕ)) (uid gid : Option ℕ) (o : Outcome) : Type 0 where
   found : Found
   number : ℕ
@@ -250,12 +250,12 @@ record HasGiven (limits : Limits) (trees : ViewedTrees) (s : Session) (names : L
   owns : (u : Unit {0}) × (by_owner s.cred 1 found ≡ Ok u)
   keeps : (u : Unit {0}) × (to_owner s.cred 1 found uid ≡ Ok u)
   joins : (u : Unit {0}) × (to_group s.cred 1 found gid ≡ Ok u)
-  is : o ≡ sets limits.inode_charge number (given_to s.cred found.attributes uid gid (ownership_at trees found))
+  is : o ≡ does limits.inode_charge (SetAttributes number (given_to s.cred found.attributes uid gid (ownership_at trees found)))
 
 has_given : (limits : Limits) (trees : ViewedTrees) (s : Session) (names : List (List ℕ)) (uid gid : Option ℕ) (o : Outcome) → chown_outcome limits trees s names uid gid ≡ Ok o → HasGiven limits trees s names uid gid o
 unfolding chown_outcome
 has_given limits trees s names uid gid o e =
-    let last = λ (f : Found) (n : ℕ). ok (sets limits.inode_charge n (given_to s.cred f.attributes uid gid (ownership_at trees f))) in
+    let last = λ (f : Found) (n : ℕ). ok (does limits.inode_charge (SetAttributes n (given_to s.cred f.attributes uid gid (ownership_at trees f)))) in
     let f = bind_ok (full trees s.cred 1 names) (λ f. live f.object >>= (λ n. by_owner s.cred 1 f >>= (λ _. to_owner s.cred 1 f uid >>= (λ _. to_group s.cred 1 f gid >>= (λ _. last f n))))) o e in
     let n = bind_ok (live f.0.object) (λ n. by_owner s.cred 1 f.0 >>= (λ _. to_owner s.cred 1 f.0 uid >>= (λ _. to_group s.cred 1 f.0 gid >>= (λ _. last f.0 n)))) o f.2 in
     let u = bind_ok (by_owner s.cred 1 f.0) (λ _. to_owner s.cred 1 f.0 uid >>= (λ _. to_group s.cred 1 f.0 gid >>= (λ _. last f.0 n.0))) o n.2 in
@@ -303,7 +303,7 @@ module _ (limits : Limits) (world : World) (s : Session) (names : List (List ℕ
     there = given_node.there;
     by_owner = owner_is world s p.found p.number given_node p.owns.0 p.owns.1;
     new = given_away;
-    change = ap (λ (x : Outcome). x.change) (p.is ∙ ap (λ (x : Ownership). sets limits.inode_charge p.number (given_to s.cred p.found.attributes uid gid x)) given_node.had);
+    change = ap (λ (x : Outcome). x.change) (p.is ∙ ap (λ (x : Ownership). does limits.inode_charge (SetAttributes p.number (given_to s.cred p.found.attributes uid gid x))) given_node.had);
     follows = gives;
     applies = given_applies;
   }
@@ -357,7 +357,7 @@ acl_set (NewAccess acl) node = record { owner = refl; group = refl; which = (ref
 acl_set (NewDefault acl) node = record { owner = refl; group = refl; which = (refl, refl); set_gid = refl; sticky = refl }
 
 setacl_sets : (limits : Limits) (world : World) (s : Session) (found : Found) (number : ℕ) (acl : NewAcl) (o : Outcome) (u v : Unit {0}) → IsWorld limits world → IsNew acl → IsLive world found number → has_acl (kind_of acl) found.attributes ≡ Ok u → by_owner s.cred 1 found ≡ Ok v
-    → o ≡ sets limits.inode_charge number (with_acl acl (ownership_at (viewed_trees (trees_of world)) found)) → Sets limits world s o (SetsAcl acl)
+    → o ≡ does limits.inode_charge (SetAttributes number (with_acl acl (ownership_at (viewed_trees (trees_of world)) found))) → Sets limits world s o (SetsAcl acl)
 setacl_sets limits world s found number acl o u v whole valid found_live has owns is =
     let node = whole.live.nodes.nodes number found_live.node found_live.there in
     record {
@@ -365,7 +365,7 @@ setacl_sets limits world s found number acl o u v whole valid found_live has own
       node = found_live.node;
       there = found_live.there;
       new = with_acl acl (ownership_of found_live.node);
-      change = ap (λ (x : Outcome). x.change) (is ∙ ap (λ (x : Ownership). sets limits.inode_charge number (with_acl acl x)) found_live.had);
+      change = ap (λ (x : Outcome). x.change) (is ∙ ap (λ (x : Ownership). does limits.inode_charge (SetAttributes number (with_acl acl x))) found_live.had);
       by_owner = owner_is world s found number found_live v owns;
       follows = acl_set acl found_live.node;
       applies = set_applies world.live number found_live.node (with_acl acl (ownership_of found_live.node)) found_live.there
@@ -378,18 +378,18 @@ pub setacl_is : (limits : Limits) (world : World) (s : Session) (names : List (L
 unfolding setacl_outcome
 setacl_is limits world s names kind argument acl o whole a e =
     let trees = viewed_trees (trees_of world) in
-    let last = λ (f : Found) (n : ℕ). ok (sets limits.inode_charge n (with_acl acl (ownership_at (viewed_trees (trees_of world)) f))) in
+    let last = λ (f : Found) (n : ℕ). ok (does limits.inode_charge (SetAttributes n (with_acl acl (ownership_at (viewed_trees (trees_of world)) f)))) in
     let f = bind_ok (full trees s.cred 1 names) (λ f. has_acl (kind_of acl) f.attributes >>= (λ _. live f.object >>= (λ n. by_owner s.cred 1 f >>= (λ _. last f n)))) o e in
     let h = bind_ok (has_acl (kind_of acl) f.0.attributes) (λ _. live f.0.object >>= (λ n. by_owner s.cred 1 f.0 >>= (λ _. last f.0 n))) o f.2 in
     let n = bind_ok (live f.0.object) (λ n. by_owner s.cred 1 f.0 >>= (λ _. last f.0 n)) o h.2 in
     let u = bind_ok (by_owner s.cred 1 f.0) (λ _. last f.0 n.0) o n.2 in
     setacl_sets limits world s f.0 n.0 acl o h.0 u.0 whole (argument_valid kind argument acl a) (live_found world s names f.0 n.0 f.1 n.1) h.1 u.1 (sym (same_ok _ o u.2))
 
--- ---- what the calls come to
+-- ---- the outcomes of the calls
 
 -- attributes that are set, whatever they are
 abbrev pub SetsSome : Limits → Outcome → Type 0
-SetsSome limits o = (number : ℕ) × (new : Ownership) × (o ≡ sets limits.inode_charge number new)
+SetsSome limits o = (number : ℕ) × (new : Ownership) × (o ≡ does limits.inode_charge (SetAttributes number new))
 
 -- what is set so can be set
 pub can_be_set : (limits : Limits) (world : World) (s : Session) (o : Outcome) (Follows : Node → Ownership → Type 0) (is : SetsSome limits o) → Sets limits world s o Follows → is_some (owned world.live is.0 is.1) ≡ true
@@ -401,7 +401,7 @@ can_be_set limits world s o Follows is h =
 pub chmod_some : (limits : Limits) (trees : ViewedTrees) (s : Session) (names : List (List ℕ)) (bits : ModeBits) (o : Outcome) → chmod_outcome limits trees s names bits ≡ Ok o → SetsSome limits o
 unfolding chmod_outcome
 chmod_some limits trees s names bits o e =
-    let last = λ (f : Found) (n : ℕ). ok (sets limits.inode_charge n (with_mode_bits s.cred f.attributes bits (ownership_at trees f))) in
+    let last = λ (f : Found) (n : ℕ). ok (does limits.inode_charge (SetAttributes n (with_mode_bits s.cred f.attributes bits (ownership_at trees f)))) in
     let f = bind_ok (full trees s.cred 1 names) (λ f. live f.object >>= (λ n. by_owner s.cred 1 f >>= (λ _. last f n))) o e in
     let n = bind_ok (live f.0.object) (λ n. by_owner s.cred 1 f.0 >>= (λ _. last f.0 n)) o f.2 in
     let u = bind_ok (by_owner s.cred 1 f.0) (λ _. last f.0 n.0) o n.2 in
@@ -415,7 +415,7 @@ chown_some limits trees s names uid gid o e =
 pub setacl_some : (limits : Limits) (trees : ViewedTrees) (s : Session) (names : List (List ℕ)) (acl : NewAcl) (o : Outcome) → setacl_outcome limits trees s names acl ≡ Ok o → SetsSome limits o
 unfolding setacl_outcome
 setacl_some limits trees s names acl o e =
-    let last = λ (f : Found) (n : ℕ). ok (sets limits.inode_charge n (with_acl acl (ownership_at trees f))) in
+    let last = λ (f : Found) (n : ℕ). ok (does limits.inode_charge (SetAttributes n (with_acl acl (ownership_at trees f)))) in
     let f = bind_ok (full trees s.cred 1 names) (λ f. has_acl (kind_of acl) f.attributes >>= (λ _. live f.object >>= (λ n. by_owner s.cred 1 f >>= (λ _. last f n)))) o e in
     let h = bind_ok (has_acl (kind_of acl) f.0.attributes) (λ _. live f.0.object >>= (λ n. by_owner s.cred 1 f.0 >>= (λ _. last f.0 n))) o f.2 in
     let n = bind_ok (live f.0.object) (λ n. by_owner s.cred 1 f.0 >>= (λ _. last f.0 n)) o h.2 in

@@ -5,7 +5,7 @@ use Rattle.std.specs.Option.{option_and_then}
 use Rattle.std.proofs.Math.Seq.{take-length}
 use Rattle.sn_acl.specs.declared.entries.Entry.{Entry}
 use Rattle.sn_acl.specs.Access.{denial_of}
-use Rattle.sn_acl.specs.Credential.{Credential}
+use Rattle.sn_acl.specs.Credential.{Credential, is_member}
 use Rattle.sn_limits.specs.declared.limits.Limits.{Limits}
 use Rattle.sn_walk.specs.declared.object.Object.{Object}
 use Rattle.sn_walk.specs.declared.view.Attributes.{Attributes}
@@ -17,6 +17,7 @@ use Rattle.sn_walk.specs.Objects.{root}
 use Rattle.sn_walk.specs.Views.{ViewedTrees, attributes_at, is_directory}
 use Rattle.sn_walk.specs.Walks.{found_as, found_at, passed, present, walk_from, walk_of}
 use Rattle.sn_walk.proofs.ChainLemmas.{bind_ok}
+use Rattle.sn_model.specs.declared.change.Change.TheVariants.{SetAttributes}
 use Rattle.sn_model.specs.declared.reply.Access.{Access}
 use Rattle.sn_model.specs.declared.reply.Errno.{Errno}
 use Rattle.sn_model.specs.declared.reply.Errno.TheVariants.{Eacces, Einval, Eperm}
@@ -25,10 +26,10 @@ use Rattle.sn_model.specs.declared.reply.Reply.TheVariants as reply
 use Rattle.sn_model.specs.declared.reply.Rule.{Rule}
 use Rattle.sn_model.specs.declared.reply.Rule.TheVariants as rule
 use Rattle.sn_model.specs.declared.session.Session.{Session}
-use Rattle.sn_model.specs.AccessCalls.{AclKind, OfAccess, OfDefault, ModeBits, NewAcl, access_outcome, acl_at, by_owner, chmod_outcome, chown_outcome, getacl_outcome, given_to, has_acl, kind_of, live_if, may_join, ownership_at, setacl_outcome, sets, to_group, to_owner, with_acl, with_mode_bits}
+use Rattle.sn_model.specs.AccessCalls.{AclKind, OfAccess, OfDefault, ModeBits, NewAcl, access_outcome, acl_at, by_owner, chmod_outcome, chown_outcome, getacl_outcome, given_to, has_acl, kind_of, live_if, ownership_at, setacl_outcome, to_group, to_owner, with_acl, with_mode_bits}
 use Rattle.sn_model.specs.AccessLaws.{IsGranted, IsDeniedOn, EachDeniesByRule}
 use Rattle.sn_model.specs.Denials.{at_place, led_to}
-use Rattle.sn_model.specs.Outcomes.{Outcome, tells}
+use Rattle.sn_model.specs.Outcomes.{Outcome, tells, does}
 use Rattle.sn_model.specs.Tests.{forbidden, full, granted, live, plain, prefix, rights_of, there, unless_denied}
 use Rattle.sn_model.proofs.AccessCallLemmas.{full_has, some_found, there_is}
 use Rattle.sn_model.proofs.DecisionLemmas.{ok, walked_ok}
@@ -110,7 +111,7 @@ to_owner_other : (cred : Credential) (found : Found) (uid : Option ℕ) (r : Ref
 to_owner_other cred found uid r = rule_other (cred.uid == 0 || unwrap_or uid found.attributes.owner == found.attributes.owner) found.place rule.NotRoot r
 
 to_group_other : (cred : Credential) (found : Found) (gid : Option ℕ) (r : Refusal) → to_group cred 1 found gid ≡ Err r → r.errno ≡ Eacces → ⊥
-to_group_other cred found gid r = rule_other (may_join cred found.attributes.group (unwrap_or gid found.attributes.group)) found.place rule.NotMember r
+to_group_other cred found gid r = rule_other (cred.uid == 0 || unwrap_or gid found.attributes.group == found.attributes.group || is_member cred (unwrap_or gid found.attributes.group)) found.place rule.NotMember r
 
 acl_other : (kind : AclKind) (a : Attributes) (r : Refusal) → has_acl kind a ≡ Err r → r.errno ≡ Eacces → ⊥
 acl_other OfAccess a r e is = cc e
@@ -156,7 +157,7 @@ module _ (trees : ViewedTrees) (s : Session) (names : List (List ℕ)) (r : Refu
   chmod_denied : (limits : Limits) (bits : ModeBits) → chmod_outcome limits trees s names bits ≡ Err r → Denied_here
   unfolding chmod_outcome
   chmod_denied limits bits =
-      let last = λ (x : Found) (n : ℕ). ok (sets limits.inode_charge n (with_mode_bits s.cred x.attributes bits (ownership_at trees x))) in
+      let last = λ (x : Found) (n : ℕ). ok (does limits.inode_charge (SetAttributes n (with_mode_bits s.cred x.attributes bits (ownership_at trees x)))) in
       behind_full (λ x. live x.object >>= (λ n. by_owner s.cred 1 x >>= (λ _. last x n))) (λ x _.
       behind (live x.object) (λ n. by_owner s.cred 1 x >>= (λ _. last x n)) (λ h. live_other x.object r h is) (λ n.
       behind (by_owner s.cred 1 x) (λ _. last x n) (λ h. owner_other s.cred x r h is) (λ _ h. cc h)))
@@ -164,7 +165,7 @@ module _ (trees : ViewedTrees) (s : Session) (names : List (List ℕ)) (r : Refu
   chown_denied : (limits : Limits) (uid gid : Option ℕ) → chown_outcome limits trees s names uid gid ≡ Err r → Denied_here
   unfolding chown_outcome
   chown_denied limits uid gid =
-      let last = λ (x : Found) (n : ℕ). ok (sets limits.inode_charge n (given_to s.cred x.attributes uid gid (ownership_at trees x))) in
+      let last = λ (x : Found) (n : ℕ). ok (does limits.inode_charge (SetAttributes n (given_to s.cred x.attributes uid gid (ownership_at trees x)))) in
       let joined = λ (x : Found) (n : ℕ). to_group s.cred 1 x gid >>= (λ _. last x n) in
       let kept = λ (x : Found) (n : ℕ). to_owner s.cred 1 x uid >>= (λ _. joined x n) in
       behind_full (λ x. live x.object >>= (λ n. by_owner s.cred 1 x >>= (λ _. kept x n))) (λ x _.
@@ -195,7 +196,7 @@ module _ (trees : ViewedTrees) (s : Session) (names : List (List ℕ)) (r : Refu
   setacl_denied : (limits : Limits) (acl : NewAcl) → setacl_outcome limits trees s names acl ≡ Err r → Denied_here
   unfolding setacl_outcome
   setacl_denied limits acl =
-      let last = λ (x : Found) (n : ℕ). ok (sets limits.inode_charge n (with_acl acl (ownership_at trees x))) in
+      let last = λ (x : Found) (n : ℕ). ok (does limits.inode_charge (SetAttributes n (with_acl acl (ownership_at trees x)))) in
       behind_full (λ x. has_acl (kind_of acl) x.attributes >>= (λ _. live x.object >>= (λ n. by_owner s.cred 1 x >>= (λ _. last x n)))) (λ x _.
       behind (has_acl (kind_of acl) x.attributes) (λ _. live x.object >>= (λ n. by_owner s.cred 1 x >>= (λ _. last x n))) (λ h. acl_other (kind_of acl) x.attributes r h is) (λ _.
       behind (live x.object) (λ n. by_owner s.cred 1 x >>= (λ _. last x n)) (λ h. live_other x.object r h is) (λ n.

@@ -27,7 +27,7 @@ named_same : (number : ℕ) (o : Option ℕ) → same_number number o ≡ true �
 named_same number None e = cc
 named_same number (Some other) e = ap (λ (n : ℕ). Some n) (sym (eqb-true number other e))
 
--- the bytes that were written, behind as many as the offset says
+-- the bytes that were written, after as many as the offset says
 found_written : (bytes : List ℕ) (offset : ℕ) (new : List ℕ) → take (length new) (drop offset (overwritten bytes offset new)) ≡ new
 found_written bytes offset new =
     let front = resized bytes offset in

@@ -1,8 +1,8 @@
 -- Each EACCES of a call is of a place of its path where the access rule denies.
-use Rattle.std.specs.Option.{option_flatten}
+use Rattle.std.specs.Option.{option_flatten, option_map_or}
 use Rattle.std.proofs.Common.{◌≡◌, ◌⊎◌, inl, inr, ℕ, ◌^◌, Bool, true, false, cond, List, Option, Some, None, Result, Ok, Err, nat_lt, nat_le, length, refl, ap, subst, sym, ◌∙◌}
 use Rattle.std.specs.List.{list_all}
-use Rattle.std.specs.Prelude.{codes, slice_get}
+use Rattle.std.specs.Prelude.{codes, slice_get, ok_or, ◌==◌, ◌/◌, ◌%◌}
 use Rattle.std.specs.Str.{bytes_eq}
 use Rattle.sn_acl.specs.declared.entries.Entry.{Entry}
 use Rattle.sn_acl.specs.Text.{acl_of}
@@ -20,7 +20,7 @@ use Rattle.sn_model.specs.declared.reply.Access as access
 use Rattle.sn_model.specs.declared.reply.Errno.TheVariants.{Eacces, Einval, Enametoolong, Ebusy, Ebadf}
 use Rattle.sn_model.specs.declared.reply.Refusal.{Refusal}
 use Rattle.sn_model.specs.declared.session.Session.{Session}
-use Rattle.sn_model.specs.AccessCalls.{AclKind, OfAccess, OfDefault, NewDefault, acl_argument, id_argument, mode_bits_argument, mode_bits_from, new_acl}
+use Rattle.sn_model.specs.AccessCalls.{AclKind, OfAccess, OfDefault, NewDefault, acl_argument, id_argument, mode_bits_argument, new_acl}
 use Rattle.sn_model.specs.AccessLaws.{DeniesByRule}
 use Rattle.sn_model.specs.FileCalls.{OpenFlags, are_flags, bytes_argument, count_argument, flags_argument}
 use Rattle.sn_model.specs.Calls as calls
@@ -28,7 +28,7 @@ use Rattle.sn_model.proofs.Deciding as deciding
 use Rattle.sn_model.specs.Calls.{new_session, outcome_of, ready}
 use Rattle.sn_model.specs.Denials.{IsDenied, path_of}
 use Rattle.sn_model.specs.Steps.{decision}
-use Rattle.sn_model.specs.Tests.{plain, session_at, is_open, is_free, logged_in, logged_out, read_path, path_argument, mode_from_bits, new_mode_argument}
+use Rattle.sn_model.specs.Tests.{plain, session_at, logged_in, logged_out, read_path, path_argument, mode_from_bits, new_mode_argument}
 use Rattle.sn_model.specs.World.{World, trees_of, viewed_trees}
 use Rattle.sn_model.specs.SnapshotCalls.{snapshot_argument}
 use Rattle.sn_model.proofs.SnapshotLemmas.{argument_other, create_other, delete_other, restore_other}
@@ -45,11 +45,11 @@ use Rattle.sn_model.proofs.FileDenialLemmas.{close_other, ftruncate_other, never
 session_other : (world : World) (session : ℕ) (r : Refusal) → session_at world session ≡ Err r → r.errno ≡ Eacces → ⊥
 session_other world session r e is = tested_other Einval (λ q. cc q) (nat_lt session 64) (option_flatten (slice_get world.sessions session)) r e is
 
-open_other : (o : Option Session) (r : Refusal) → is_open o ≡ Err r → r.errno ≡ Eacces → ⊥
+open_other : (o : Option Session) (r : Refusal) → ok_or o (plain Ebadf) ≡ Err r → r.errno ≡ Eacces → ⊥
 open_other None r e is = let never : Ebadf ≡ Eacces = (let same : plain Ebadf ≡ r = cc e in ap (λ (x : Refusal). x.errno) same ∙ is) in cc never
 open_other (Some s) r e is = cc e
 
-free_other : (o : Option Session) (r : Refusal) → is_free o ≡ Err r → r.errno ≡ Eacces → ⊥
+free_other : (o : Option Session) (r : Refusal) → option_map_or (λ _. Err (plain Ebusy)) o (Ok (tt {0})) ≡ Err r → r.errno ≡ Eacces → ⊥
 free_other None r e is = cc e
 free_other (Some s) r e is = let never : Ebusy ≡ Eacces = (let same : plain Ebusy ≡ r = cc e in ap (λ (x : Refusal). x.errno) same ∙ is) in cc never
 
@@ -65,10 +65,10 @@ mode_other : (bits : ℕ) (r : Refusal) → new_mode_argument bits ≡ Err r →
 mode_other bits r e is = tested_other Einval (λ q. cc q) (nat_lt bits 512) (mode_from_bits bits) r e is
 
 caller_other : (world : World) (session : ℕ) (r : Refusal) → logged_in world session ≡ Err r → r.errno ≡ Eacces → ⊥
-caller_other world session r e is = chain_other (session_at world session) is_open r (λ h. session_other world session r h is) (λ o h. open_other o r h is) e
+caller_other world session r e is = chain_other (session_at world session) (λ o. ok_or o (plain Ebadf)) r (λ h. session_other world session r h is) (λ o h. open_other o r h is) e
 
 bits_other : (bits : ℕ) (r : Refusal) → mode_bits_argument bits ≡ Err r → r.errno ≡ Eacces → ⊥
-bits_other bits r e is = tested_other Einval (λ q. cc q) (nat_lt bits 2048) (mode_bits_from bits) r e is
+bits_other bits r e is = tested_other Einval (λ q. cc q) (nat_lt bits 2048) (record { mode = mode_from_bits (bits % 512); set_gid = bits / 1024 == 1; sticky = bits / 512 % 2 == 1 }) r e is
 
 id_other : (id : Option ℕ) (r : Refusal) → id_argument id ≡ Err r → r.errno ≡ Eacces → ⊥
 id_other None r e is = cc e
@@ -117,7 +117,7 @@ module _ (world : World) (session : ℕ) (r : Refusal) (is : r.errno ≡ Eacces)
   ready_other : (c : Call) → ready world session c ≡ Err r → ⊥
   ready_other (call.Login uid gid groups) =
       chain_other (logged_out world session) (λ _. ready_ok (deciding.login (new_session uid gid groups))) r
-      (chain_other (session_at world session) is_free r (λ h. session_other world session r h is) (λ o h. free_other o r h is)) (λ _ h. never_ok _ r h)
+      (chain_other (session_at world session) (λ o. option_map_or (λ _. Err (plain Ebusy)) o (Ok (tt {0}))) r (λ h. session_other world session r h is) (λ o h. free_other o r h is)) (λ _ h. never_ok _ r h)
   ready_other (call.Umask mask) =
       behind_caller (λ s. new_mode_argument mask >>= (λ bits. ready_ok (deciding.umask s bits))) (λ s. chain_other (new_mode_argument mask) (λ bits. ready_ok (deciding.umask s bits)) r (λ h. mode_other mask r h is) (λ bits h. never_ok _ r h))
   ready_other (call.Mkdir path mode) =
@@ -169,7 +169,8 @@ module _ (world : World) (session : ℕ) (r : Refusal) (is : r.errno ≡ Eacces)
 
 read_ok : (p : Result (List (List ℕ)) PathFault) (names : List (List ℕ)) → read_path p ≡ Ok names → p ≡ Ok names
 read_ok (Ok all) names e = let same : all ≡ names = cc e in ap (λ (x : List (List ℕ)). Ok x) same
-read_ok (Err fault) names e = cc e
+read_ok (Err Misspelt) names e = cc e
+read_ok (Err TooLong) names e = cc e
 
 same_ready : (x y : calls.Ready) → ready_ok x ≡ Ok y → x ≡ y
 same_ready x y e = cc e

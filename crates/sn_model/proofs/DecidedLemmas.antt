@@ -153,7 +153,8 @@ parsed_is names word e = told (nat_lt 1023 (length word)) e
 
 read_is : (r : Result (List (List ℕ)) PathFault) (names : List (List ℕ)) → read_path r ≡ Ok names → r ≡ Ok names
 read_is (Ok all) names e = ap path_ok (same_ok all names e)
-read_is (Err fault) names e = cc
+read_is (Err Misspelt) names e = cc
+read_is (Err TooLong) names e = cc
 
 pub path_names : (word : List ℕ) (names : List (List ℕ)) → path_argument word ≡ Ok names → AreNames names
 path_names word names e = parsed_is names word (read_is (parsed word) names e)

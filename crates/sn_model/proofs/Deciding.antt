@@ -4,8 +4,8 @@ use Rattle.sn_acl.specs.declared.modes.Mode.{Mode}
 use Rattle.sn_model.specs.declared.reply.Access.{Access}
 use Rattle.sn_model.specs.declared.reply.Reply.TheVariants as reply
 use Rattle.std.specs.FinMap as map
-use Rattle.sn_model.specs.Outcomes.{LogsOut, Plain, asks, tells, opens, points}
-use Rattle.sn_model.specs.AccessCalls.{AclKind, ModeBits, NewAcl, access_outcome, chmod_outcome, chown_outcome, getacl_outcome, setacl_outcome, umask_outcome}
+use Rattle.sn_model.specs.Outcomes.{LogsIn, LogsOut, Plain, SetsUmask, asks, tells, points}
+use Rattle.sn_model.specs.AccessCalls.{AclKind, ModeBits, NewAcl, access_outcome, chmod_outcome, chown_outcome, getacl_outcome, setacl_outcome}
 use Rattle.sn_model.specs.declared.session.Session.{Session}
 use Rattle.sn_model.specs.World.{trees_of, viewed_trees}
 use Rattle.sn_model.specs.FileCalls.{OpenFlags, close_outcome, ftruncate_outcome, open_outcome, read_outcome, seek_outcome, unlink_outcome, write_outcome}
@@ -15,10 +15,10 @@ use Rattle.sn_model.specs.Seen.{seen}
 use Rattle.sn_model.specs.Calls.{Ready, mkdir_outcome, stat_outcome}
 
 abbrev pub login : Session → Ready
-login session = λ limits w. Ok (opens session)
+login session = λ limits w. Ok (asks (LogsIn session) reply.Done)
 
 abbrev pub umask : Session → Mode → Ready
-umask session mask = λ limits w. Ok (umask_outcome session mask)
+umask session mask = λ limits w. Ok (asks (SetsUmask mask) (reply.Mode session.umask))
 
 abbrev pub mkdir : Session → List (List ℕ) → Mode → Ready
 mkdir session names mode = λ limits w. mkdir_outcome limits (seen limits w) session names mode

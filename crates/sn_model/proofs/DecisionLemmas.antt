@@ -118,7 +118,7 @@ pub record HasPlace (limits : Limits) (tree : Tree) (names : List (List ℕ)) (d
   pub number : is_none (least_unused limits tree) ≡ false
   pub room : nat_le limits.names (names_in tree directory) ≡ false
 
--- what mkdir has found, and what it comes to
+-- what mkdir has found, and its outcome
 pub record Made (limits : Limits) (tree : Tree) (s : Session) (names : List (List ℕ)) (mode : Mode) (o : Outcome) : Type 0 where
   pub directory : ℕ
   pub at : HasPlace limits tree names directory

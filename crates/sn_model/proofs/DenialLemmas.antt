@@ -46,7 +46,7 @@ pub bind_err : {A B E : Type 0} (r : Result A E) (f : A → Result B E) (e : E) 
 bind_err (Ok x) f e h = inr (x, refl, h)
 bind_err (Err r) f e h = let same : r ≡ e = cc in inl (ap (λ y. Err y) same)
 
--- the last of these names stands for something whose ACL denies search by an entry with this tag
+-- the last of these names denotes something whose ACL denies search by an entry with this tag
 record IsShut (trees : ViewedTrees) (cred : Credential) (start : Object) (names : List (List ℕ)) (k : ℕ) (tag : Tag) : Type 0 where
   pub object : Object
   pub place : led_to trees start (take k names) ≡ Some object

@@ -1,4 +1,4 @@
--- Worlds whose files that nobody has and no name stands for go.
+-- Worlds without the files that have no name and that nobody has open.
 use Rattle.std.proofs.Common.{◌≡◌, ℕ, ◌≤◌, Bool, true, false, not, cond, ◌||◌, List, Option, Some, None, length, refl, sym, ap, ◌∙◌}
 use Rattle.std.specs.Prelude.{IsSomeAnd, IsTrue}
 use Rattle.std.specs.Cmp.{nat_cmp_total}

@@ -51,7 +51,7 @@ module _ {K X : Type 0} {R : K → K → Ordering} (o : IsTotalOrder R) where
       let s = both (is_lt (R x e.0)) (below_all R x es) h in
       ap (λ (r : Ordering). cond (is_eq r) (Some e.1) (find R q es)) (further e.0 (less (R x e.0) s.0)) ∙ none_below q x es further s.1
 
-  -- what is found behind the first entry is found in the whole list
+  -- what is found after the first entry is found in the whole list
   found_later : (e : K × X) (es : List (K × X)) (k : K) (v : X) → T (below_all R e.0 es) → find R k es ≡ Some v → find R k (e ∷ es) ≡ Some v
   found_later e es k v h found =
       elim (R k e.0) as (λ r. R k e.0 ≡ r → cond (is_eq r) (Some e.1) (find R k es) ≡ Some v) [
@@ -118,7 +118,7 @@ module _ {K X : Type 0} {R : K → K → Ordering} (o : IsTotalOrder R) where
         told None g = omega (arith, ap (share f k) g, ap (λ (n : map.FinMap R X). sum_by f (map.entries n)) (map.same_map o same (map.remove m k) m (λ q. map.get-remove o m k q ∙ at_key m k q None (eq_by_cmp R q k) refl g)))
         told (Some w) g = omega (arith, ap (share f k) g, ap (λ (n : map.FinMap R X). sum_by f (map.entries n)) (put_back m k w g), total-insert f (map.remove m k) k w, ap (share f k) gone)
 
-    -- the entries whose keys are kept, in the order in which they stood
+    -- the entries whose keys are kept, in the order in which they were
     pub entries-retain : (m : map.FinMap R X) (kept : K → Bool) → map.entries (map.retain_keys m kept) ≡ where_key R kept (map.entries m)
     entries-retain m kept = ap map.entries (map.same_map o same _ _ alike) ∙ map.entries-from_sorted R (where_key R kept (map.entries m)) rises
       where

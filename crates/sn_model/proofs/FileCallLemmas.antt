@@ -1,13 +1,14 @@
--- What the calls on files and descriptors come to, in the words of their pages of POSIX.1-2017.
+-- What the calls on files and descriptors do, in the words of their pages of POSIX.1-2017.
 use Rattle.std.proofs.Common.{◌≡◌, ℕ, zero, suc, ◌≤◌, Bool, true, false, cond, List, [], Option, Some, None, Result, Ok, Err, length, take, drop, refl, sym, ap, ◌∙◌}
 use Rattle.std.specs.FinMap as map
 use Rattle.std.proofs.lemmas.List.{drop_all}
 use Rattle.sn_limits.specs.declared.limits.Limits.{Limits}
 use Rattle.sn_walk.specs.Chains.{◌>>=◌}
+use Rattle.std.specs.Prelude.{ok_or}
 use Rattle.sn_model.specs.declared.reply.Errno.TheVariants.{Ebadf}
 use Rattle.sn_model.specs.declared.reply.Refusal.{Refusal}
 use Rattle.sn_model.specs.declared.reply.Reply.TheVariants.{Number}
-use Rattle.sn_model.specs.Descriptors.{for_reading, found, readable_at, writable_at}
+use Rattle.sn_model.specs.Descriptors.{readable_at, writable_at}
 use Rattle.sn_model.specs.FileCalls.{open_bytes, read_outcome, reads, write_offset, write_outcome}
 use Rattle.sn_model.specs.Outcomes.{Outcome, tells}
 use Rattle.sn_model.specs.Tests.{plain}
@@ -27,7 +28,7 @@ module _ (then : Descriptor → Outcome) (r : Refusal) where
   asked d true e = let never : Ok (then d) ≡ Err r = e in absurd cc
   asked d false e = sym (ap (refusal_of r) e)
 
-  refused : (o : Option Descriptor) → answer (found o >>= for_reading) ≡ Err r → r ≡ plain Ebadf
+  refused : (o : Option Descriptor) → answer (ok_or o (plain Ebadf) >>= (λ d. cond d.readable (Ok d) (Err (plain Ebadf)))) ≡ Err r → r ≡ plain Ebadf
   refused None e = sym (ap (refusal_of r) e)
   refused (Some d) e = asked d d.readable e
 

@@ -1,6 +1,6 @@
--- What the calls on descriptors come to.
+-- The outcomes of the calls on descriptors.
 use Rattle.std.proofs.Common.{◌≡◌, ℕ, zero, suc, ◌+◌, ◌==◌, ◌<◌, ◌≤◌, Bool, true, false, cond, nat_le, nat_lt, List, [], ◌∷◌, Option, Some, None, Ok, Err, length, take, drop, is_some, refl, sym, ap, subst, ◌∙◌, arith, lt-ltb}
-use Rattle.std.specs.Prelude.{IsSomeAnd}
+use Rattle.std.specs.Prelude.{IsSomeAnd, ok_or}
 use Rattle.std.specs.FinMap as map
 use Rattle.std.specs.List.{list_all}
 use Rattle.std.specs.Option.{option_and_then}
@@ -17,10 +17,10 @@ use Rattle.sn_model.specs.declared.change.Change.TheVariants.{SetSize}
 use Rattle.sn_model.specs.declared.reply.Errno.TheVariants.{Ebadf, Efbig, Einval}
 use Rattle.sn_model.specs.declared.reply.Reply.TheVariants as reply
 use Rattle.sn_model.specs.Changes.{cut, is_file, written}
-use Rattle.sn_model.specs.Descriptors.{Descriptors, descriptor_at, for_reading, for_writing, found as found_in, is_offset, readable_at, writable_at}
-use Rattle.sn_model.specs.FileCalls.{bytes_argument, bytes_of, close_outcome, count_argument, cuts, file_charge, ftruncate_outcome, is_size, open_bytes, read_outcome, reads, seek_outcome, write_offset, write_outcome, write_some, writes}
+use Rattle.sn_model.specs.Descriptors.{Descriptors, descriptor_at, is_offset, readable_at, writable_at}
+use Rattle.sn_model.specs.FileCalls.{bytes_argument, bytes_of, close_outcome, count_argument, file_charge, ftruncate_outcome, is_size, open_bytes, read_outcome, reads, seek_outcome, write_offset, write_outcome, write_some, writes}
 use Rattle.sn_model.specs.NameTree.{HasKind, IsTree}
-use Rattle.sn_model.specs.Outcomes.{Closes, LogsOut, Moves, Outcome, tells, asks}
+use Rattle.sn_model.specs.Outcomes.{Closes, LogsOut, Moves, Outcome, tells, asks, does}
 use Rattle.sn_model.specs.Tests.{plain}
 use Rattle.sn_model.specs.Tree.{Node, Tree}
 use Rattle.sn_model.specs.World.{Descriptor, World, tree_in, trees_of}
@@ -36,7 +36,7 @@ use Rattle.sn_model.proofs.PartLemmas.{cut_of, is_file_at, written_of}
 abbrev some_descriptor : Descriptor → Option Descriptor
 some_descriptor d = Some d
 
-found_is : (o : Option Descriptor) (d : Descriptor) → found_in o ≡ Ok d → o ≡ Some d
+found_is : (o : Option Descriptor) (d : Descriptor) → ok_or o (plain Ebadf) ≡ Ok d → o ≡ Some d
 found_is None d e = cc
 found_is (Some x) d e = ap some_descriptor (same_ok x d e)
 
@@ -46,12 +46,12 @@ asked_is false x d e = cc
 
 readable_is : (table : Descriptors) (session fd : ℕ) (d : Descriptor) → readable_at table session fd ≡ Ok d → map.get table (session, fd) ≡ Some d
 readable_is table session fd d e =
-    let p = bind_ok (descriptor_at table session fd) for_reading d e in
+    let p = bind_ok (descriptor_at table session fd) (λ x. cond x.readable (ok x) (Err (plain Ebadf))) d e in
     found_is (map.get table (session, fd)) p.0 p.1 ∙ ap some_descriptor (asked_is p.0.readable p.0 d p.2).1
 
 writable_is : (table : Descriptors) (session fd : ℕ) (d : Descriptor) → writable_at table session fd ≡ Ok d → (map.get table (session, fd) ≡ Some d) × (d.writable ≡ true)
 writable_is table session fd d e =
-    let p = bind_ok (descriptor_at table session fd) for_writing d e in
+    let p = bind_ok (descriptor_at table session fd) (λ x. cond x.writable (ok x) (Err (plain Ebadf))) d e in
     let a = asked_is p.0.writable p.0 d p.2 in
     (found_is (map.get table (session, fd)) p.0 p.1 ∙ ap some_descriptor a.1, ap (λ (x : Descriptor). x.writable) (sym a.1) ∙ a.0)
 
@@ -207,8 +207,8 @@ module _ (limits : Limits) (world : World) (session : ℕ) where
   pub ftruncate_is : (fd size : ℕ) (o : Outcome) → ftruncate_outcome limits world.descriptors session fd size ≡ Ok o → Decides (call.Ftruncate fd size) o
   unfolding ftruncate_outcome
   ftruncate_is fd size o e =
-      let p = bind_ok (writable_at world.descriptors session fd) (λ d. is_size limits size >>= (λ _. ok (cuts limits d.number size))) o e in
-      let q = bind_ok (is_size limits size) (λ _. ok (cuts limits p.0.number size)) o p.2 in
+      let p = bind_ok (writable_at world.descriptors session fd) (λ d. is_size limits size >>= (λ _. ok (does (file_charge limits 1) (SetSize d.number size)))) o e in
+      let q = bind_ok (is_size limits size) (λ _. ok (does (file_charge limits 1) (SetSize p.0.number size))) o p.2 in
       let at = writable_is world.descriptors session fd p.0 p.1 in
       subst (Decides (call.Ftruncate fd size)) (same_ok _ o q.2) (done limits world session (call.Ftruncate fd size) refl (file_charge limits 1) (SetSize p.0.number size) (omega arith) tt tt (λ _. tt) (λ h. omega (arith, h)) (λ w. applies p.0 at.0 at.1 (size_is limits size q.0 q.1) w))
     where

@@ -1,14 +1,17 @@
 -- The calls on descriptors ask for no entry's right: they are refused with other errors.
-use Rattle.std.proofs.Common.{◌≡◌, ℕ, ◌+◌, ◌==◌, Bool, true, false, cond, nat_le, List, Option, None, Some, Err, length, take, drop}
+use Rattle.std.proofs.Common.{◌≡◌, ℕ, ◌+◌, ◌==◌, Bool, true, false, cond, nat_le, List, Option, None, Some, Err, length, take, drop, Ok}
 use Rattle.std.specs.FinMap as map
 use Rattle.sn_limits.specs.declared.limits.Limits.{Limits}
 use Rattle.sn_walk.specs.Chains.{◌>>=◌}
+use Rattle.std.specs.Prelude.{ok_or}
+use Rattle.sn_model.specs.Tests.{plain}
+use Rattle.sn_model.specs.declared.change.Change.TheVariants.{SetSize}
 use Rattle.sn_model.specs.declared.reply.Errno.TheVariants.{Eacces, Ebadf, Efbig, Einval}
 use Rattle.sn_model.specs.declared.reply.Refusal.{Refusal}
 use Rattle.sn_model.specs.declared.reply.Reply.TheVariants as reply
-use Rattle.sn_model.specs.Descriptors.{Descriptors, descriptor_at, for_reading, for_writing, found as found_in, is_offset, readable_at, writable_at}
-use Rattle.sn_model.specs.FileCalls.{close_outcome, cuts, ftruncate_outcome, is_size, open_bytes, read_outcome, reads, seek_outcome, write_offset, write_outcome, write_some, writes}
-use Rattle.sn_model.specs.Outcomes.{Closes, Moves, Outcome, tells, asks}
+use Rattle.sn_model.specs.Descriptors.{Descriptors, descriptor_at, is_offset, readable_at, writable_at}
+use Rattle.sn_model.specs.FileCalls.{close_outcome, ftruncate_outcome, is_size, open_bytes, read_outcome, reads, seek_outcome, write_offset, write_outcome, write_some, writes, file_charge}
+use Rattle.sn_model.specs.Outcomes.{Closes, Moves, Outcome, tells, asks, does}
 use Rattle.sn_model.specs.World.{Descriptor, World}
 use Rattle.sn_model.proofs.DecisionLemmas.{ok}
 use Rattle.sn_model.proofs.OtherLemmas.{chain_other, plain_other, tested_other}
@@ -17,7 +20,7 @@ pub never_refused : (o : Outcome) (r : Refusal) → ok o ≡ Err r → ⊥
 never_refused o r e = cc e
 
 module _ (r : Refusal) (is : r.errno ≡ Eacces) where
-  found_other : (o : Option Descriptor) → found_in o ≡ Err r → ⊥
+  found_other : (o : Option Descriptor) → ok_or o (plain Ebadf) ≡ Err r → ⊥
   found_other None e = plain_other Ebadf r (λ q. cc q) e is
   found_other (Some d) e = cc e
 
@@ -25,10 +28,10 @@ module _ (r : Refusal) (is : r.errno ≡ Eacces) where
   at_other table session fd = found_other (map.get table (session, fd))
 
   readable_other : (table : Descriptors) (session fd : ℕ) → readable_at table session fd ≡ Err r → ⊥
-  readable_other table session fd = chain_other (descriptor_at table session fd) for_reading r (at_other table session fd) (λ d e. tested_other Ebadf (λ q. cc q) d.readable d r e is)
+  readable_other table session fd = chain_other (descriptor_at table session fd) (λ d. cond d.readable (Ok d) (Err (plain Ebadf))) r (at_other table session fd) (λ d e. tested_other Ebadf (λ q. cc q) d.readable d r e is)
 
   writable_other : (table : Descriptors) (session fd : ℕ) → writable_at table session fd ≡ Err r → ⊥
-  writable_other table session fd = chain_other (descriptor_at table session fd) for_writing r (at_other table session fd) (λ d e. tested_other Ebadf (λ q. cc q) d.writable d r e is)
+  writable_other table session fd = chain_other (descriptor_at table session fd) (λ d. cond d.writable (Ok d) (Err (plain Ebadf))) r (at_other table session fd) (λ d e. tested_other Ebadf (λ q. cc q) d.writable d r e is)
 
   size_other : (limits : Limits) (size : ℕ) → is_size limits size ≡ Err r → ⊥
   size_other limits size e = tested_other Efbig (λ q. cc q) (nat_le size limits.largest_file) tt r e is
@@ -65,5 +68,5 @@ write_other limits world session fd bytes r is =
 pub ftruncate_other : (limits : Limits) (table : Descriptors) (session fd size : ℕ) (r : Refusal) → r.errno ≡ Eacces → ftruncate_outcome limits table session fd size ≡ Err r → ⊥
 unfolding ftruncate_outcome
 ftruncate_other limits table session fd size r is =
-    chain_other (writable_at table session fd) (λ d. is_size limits size >>= (λ _. ok (cuts limits d.number size))) r (writable_other r is table session fd)
-    (λ d. chain_other (is_size limits size) (λ _. ok (cuts limits d.number size)) r (size_other r is limits size) (λ u e. never_refused _ r e))
+    chain_other (writable_at table session fd) (λ d. is_size limits size >>= (λ _. ok (does (file_charge limits 1) (SetSize d.number size)))) r (writable_other r is table session fd)
+    (λ d. chain_other (is_size limits size) (λ _. ok (does (file_charge limits 1) (SetSize d.number size))) r (size_other r is limits size) (λ u e. never_refused _ r e))

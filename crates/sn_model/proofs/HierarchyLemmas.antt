@@ -17,7 +17,7 @@ use Rattle.sn_model.proofs.LinkLemmas.{exact_links, links_total}
 use Rattle.sn_model.proofs.MapLemmas.{same_or_apart, get_inserted, get_other}
 use Rattle.sn_model.proofs.SearchLemmas.{is_found}
 
--- what is there is told as such
+-- what is there is found
 no_node : (o : Option Node) → is_some o ≡ false → o ≡ None
 no_node None e = refl
 no_node (Some n) e = absurd (true≢false e)

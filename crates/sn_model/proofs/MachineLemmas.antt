@@ -21,7 +21,7 @@ use Rattle.sn_model.specs.NameTree.{IsTree}
 use Rattle.sn_model.specs.Settling.{settle}
 use Rattle.sn_model.specs.Steps.{decision}
 use Rattle.sn_model.specs.Machine as machine
-use Rattle.sn_model.specs.Machine.{State, Running, Stopped, Mishap, Anything, IsAnswered, IsCutOff, IsRefused, IsStopped, IsUnmounted, CallStep, EventStep, PointFails, PointStep, RestartStep, MountStep, Run, Left, LeftIn, CutRun, Life, refused}
+use Rattle.sn_model.specs.Machine.{State, Running, Stopped, Mishap, Anything, IsCutOff, IsRefused, IsStopped, IsUnmounted, CallStep, EventStep, PointFails, Run, Left, LeftIn, CutRun, Life, refused}
 use Rattle.sn_model.specs.Worlds.{IsCall, IsEvent, IsFound, IsSettled, IsState, IsWorld}
 use Rattle.sn_model.proofs.DropLemmas.{all_named, dropping_tree}
 use Rattle.sn_model.proofs.DecidedLemmas.{decided_is}
@@ -65,15 +65,15 @@ stopped_keeps : (limits : Limits) (before after : World) (reply : Reply) (new : 
 stopped_keeps limits before after reply new b a h = subst (IsState limits) (sym h.left) (b, a)
 
 unmounted_keeps : (limits : Limits) (before after : World) (m : Mishap) (reply : Reply) (new : State) → IsFound limits before → IsFound limits after → IsUnmounted before after m reply new → IsState limits new
-unmounted_keeps limits before after m reply new b a h = subst (IsState limits) (sym h.left) (b, a)
+unmounted_keeps limits before after m reply new b a h = subst (IsState limits) (sym h.3) (b, a)
 
-answered_keeps : (limits : Limits) (old : World) (session : ℕ) (c : Call) (reply : Reply) (new : State) → IsCall c → IsWorld limits old → IsAnswered limits old session c reply new → IsState limits new
+answered_keeps : (limits : Limits) (old : World) (session : ℕ) (c : Call) (reply : Reply) (new : State) → IsCall c → IsWorld limits old → CallStep limits old session c None reply new → IsState limits new
 answered_keeps limits old session c reply new k w h =
-    subst (IsState limits) (sym h.runs) (becomes_world limits old h.next session c (decision limits old session c) reply refl h.becomes k w)
+    subst (IsState limits) (sym h.2) (becomes_world limits old h.0 session c (decision limits old session c) reply refl h.1 k w)
 
 cut_off_keeps : (limits : Limits) (old : World) (session : ℕ) (c : Call) (reply : Reply) (new : State) → IsCall c → IsWorld limits old → IsCutOff limits old session c reply new → IsState limits new
 cut_off_keeps limits old session c reply new k w h =
-    let after = comes_world limits old session c h.outcome (decided_is limits old session c h.outcome h.decided) k w h.next h.comes in
+    let after = comes_world limits old session c h.passes.0 (decided_is limits old session c h.passes.0 h.passes.1) k w h.next h.comes in
     stopped_keeps limits (settle old) (settle h.next) reply new (settle_found limits old w) (settle_found limits h.next after) h.stops
 
 call_keeps : (limits : Limits) (old : World) (session : ℕ) (c : Call) (met : Option Mishap) (reply : Reply) (new : State) → IsCall c → IsWorld limits old → CallStep limits old session c met reply new → IsState limits new
@@ -91,16 +91,16 @@ fails_keeps limits old machine.Memory reply new w h = refused_keeps limits old m
 fails_keeps limits old machine.Read reply new w h = refused_keeps limits old machine.Read reply new w h
 fails_keeps limits old machine.Age reply new w h = refused_keeps limits old machine.Age reply new w h
 
-point_keeps : (limits : Limits) (old : World) (met : Option Mishap) (reply : Reply) (new : State) → IsWorld limits old → PointStep old met reply new → IsState limits new
+point_keeps : (limits : Limits) (old : World) (met : Option Mishap) (reply : Reply) (new : State) → IsWorld limits old → EventStep limits (Running old) event.Step met reply new → IsState limits new
 point_keeps limits old None reply new w h = subst (IsState limits) (sym h.1) w
 point_keeps limits old (Some m) reply new w h = fails_keeps limits old m reply new w h
 
-restart_keeps : (limits : Limits) (old : World) (met : Option Mishap) (reply : Reply) (new : State) → IsWorld limits old → RestartStep old met reply new → IsState limits new
+restart_keeps : (limits : Limits) (old : World) (met : Option Mishap) (reply : Reply) (new : State) → IsWorld limits old → EventStep limits (Running old) event.Restart met reply new → IsState limits new
 restart_keeps limits old None reply new w h = subst (IsState limits) (sym h.1) (settle_world limits old w)
 restart_keeps limits old (Some m) reply new w (inl h) = fails_keeps limits old m reply new w h
 restart_keeps limits old (Some m) reply new w (inr h) = unmounted_keeps limits (settle old) (settle old) m reply new (settle_found limits old w) (settle_found limits old w) h
 
-mount_keeps : (limits : Limits) (before after : World) (met : Option Mishap) (reply : Reply) (new : State) → IsFound limits before → IsFound limits after → MountStep before after met reply new → IsState limits new
+mount_keeps : (limits : Limits) (before after : World) (met : Option Mishap) (reply : Reply) (new : State) → IsFound limits before → IsFound limits after → EventStep limits (Stopped before after) event.Restart met reply new → IsState limits new
 mount_keeps limits before after None reply new b a (told, inl h) = subst (IsState limits) (sym h) b.whole
 mount_keeps limits before after None reply new b a (told, inr h) = subst (IsState limits) (sym h) a.whole
 mount_keeps limits before after (Some m) reply new b a h = unmounted_keeps limits before after m reply new b a h
@@ -134,8 +134,8 @@ left_found limits (Stopped before after) w h (inr e) = subst (IsFound limits) (s
 left_in_found : (limits : Limits) (old : State) (e : Event) (w : World) → IsEvent e → IsState limits old → LeftIn limits old e w → IsFound limits w
 left_in_found limits (Running old) (event.Call session c) w k h (inl l) = left_found limits (Running old) w h l
 left_in_found limits (Running old) (event.Call session c) w k h (inr l) =
-    let after = becomes_world limits old l.next session c (decision limits old session c) l.reply refl l.becomes k h in
-    subst (IsFound limits) (sym l.left) (settle_found limits l.next after)
+    let after = becomes_world limits old l.1 session c (decision limits old session c) l.0 refl l.2 k h in
+    subst (IsFound limits) (sym l.3) (settle_found limits l.1 after)
 left_in_found limits (Running old) event.Step w k h l = left_found limits (Running old) w h l
 left_in_found limits (Running old) event.Restart w k h l = left_found limits (Running old) w h l
 left_in_found limits (Stopped before after) (event.Call session c) w k h l = left_found limits (Stopped before after) w h l
@@ -167,7 +167,7 @@ errno_told refusal errno e = let same : refusal ≡ plain errno = cc in ap (λ (
 
 refused_call : (limits : Limits) (old : World) (session : ℕ) (c : Call) (met : Option Mishap) (refusal : Refusal) (new : State) → refusal.errno ≢ Eio → CallStep limits old session c met (answer.Refused refusal) new → new ≡ Running old
 refused_call limits old session c None refusal new apart h =
-    h.runs ∙ ap (λ (w : World). Running w) (becomes_refused limits old h.next session c (decision limits old session c) refusal refl h.becomes)
+    h.2 ∙ ap (λ (w : World). Running w) (becomes_refused limits old h.0 session c (decision limits old session c) refusal refl h.1)
 refused_call limits old session c (Some machine.Write) refusal new apart h = absurd (apart (errno_told refusal Eio h.stops.told))
 refused_call limits old session c (Some machine.Memory) refusal new apart h = h.1.same
 refused_call limits old session c (Some machine.Read) refusal new apart h = h.1.same
@@ -187,7 +187,7 @@ refused_same limits old event.Step None refusal new apart h = h.1
 refused_same limits old event.Step (Some m) refusal new apart h = refused_point old m refusal new apart h
 refused_same limits old event.Restart None refusal new apart h = let never : answer.Refused refusal ≡ answer.Done = h.0 in cc
 refused_same limits old event.Restart (Some m) refusal new apart (inl h) = refused_point old m refusal new apart h
-refused_same limits old event.Restart (Some m) refusal new apart (inr h) = let never : answer.Refused refusal ≡ answer.Unmounted h.fault = h.told in cc
+refused_same limits old event.Restart (Some m) refusal new apart (inr h) = let never : answer.Refused refusal ≡ answer.Unmounted h.0 = h.2 in cc
 
 -- a restart that mounts
 running_is : (a b : World) → Running a ≡ Running b → a ≡ b
@@ -206,7 +206,7 @@ failed_restart old new machine.Age h = not_refused (machine.errno_of machine.Age
 pub restarts_settle : (limits : Limits) (old : State) (met : Option Mishap) (new : World) → IsState limits old → EventStep limits old event.Restart met answer.Done (Running new) → IsSettled new
 restarts_settle limits (Running old) None new w h = subst IsSettled (sym (running_is new (settle old) h.1)) (settle_settled old)
 restarts_settle limits (Running old) (Some m) new w (inl h) = absurd (failed_restart old new m h)
-restarts_settle limits (Running old) (Some m) new w (inr h) = let never : answer.Done ≡ answer.Unmounted h.fault = h.told in cc
+restarts_settle limits (Running old) (Some m) new w (inr h) = let never : answer.Done ≡ answer.Unmounted h.0 = h.2 in cc
 restarts_settle limits (Stopped before after) None new w (told, inl h) = subst IsSettled (sym (running_is new before h)) w.0.settled
 restarts_settle limits (Stopped before after) None new w (told, inr h) = subst IsSettled (sym (running_is new after h)) w.1.settled
-restarts_settle limits (Stopped before after) (Some m) new w h = let never : answer.Done ≡ answer.Unmounted h.fault = h.told in cc
+restarts_settle limits (Stopped before after) (Some m) new w h = let never : answer.Done ≡ answer.Unmounted h.0 = h.2 in cc

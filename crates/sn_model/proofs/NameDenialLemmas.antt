@@ -1,5 +1,5 @@
 -- Each EACCES of a call on names is of a place of one of its paths where the access rule denies.
-use Rattle.std.proofs.Common.{◌≡◌, ◌⊎◌, inl, inr, ℕ, ◌&&◌, Bool, true, false, cond, nat_le, nat_lt, List, [], ◌∷◌, Option, Some, None, Result, Ok, Err, sym, ap, subst, ◌∙◌, arith}
+use Rattle.std.proofs.Common.{◌≡◌, ◌⊎◌, inl, inr, ℕ, ◌&&◌, Bool, true, false, cond, nat_le, nat_lt, List, [], ◌∷◌, Option, Some, None, Result, Ok, Err, sym, ap, subst, ◌∙◌, arith, not, ◌||◌, ◌==◌, is_some}
 use Rattle.sn_acl.specs.Credential.{Credential}
 use Rattle.sn_limits.specs.declared.kind.Kind.{Kind}
 use Rattle.sn_limits.specs.declared.kind.Kind.TheVariants.{File, Directory}
@@ -22,11 +22,11 @@ use Rattle.sn_model.specs.declared.reply.Rule.TheVariants as rule
 use Rattle.sn_model.specs.declared.session.Session.{Session}
 use Rattle.sn_model.specs.Denials.{at_place}
 use Rattle.sn_model.specs.FileCalls.{no_directory}
-use Rattle.sn_model.specs.NameCalls.{alike, empty, empty_if, gives_way, home_of, is_fixed, is_listable, is_one, may_link, movable, moved_outcome, moving_of, not_below, read, readdir_outcome, rename_outcome, rmdir_outcome, room_to_move, stays_as_full, link_outcome}
+use Rattle.sn_model.specs.NameCalls.{alike, empty, empty_if, gives_way, home_of, is_fixed, is_listable, is_one, may_link, movable, moved_outcome, moving_of, not_below, read, readdir_outcome, rename_outcome, rmdir_outcome, room_to_move, link_outcome}
 use Rattle.sn_model.specs.declared.reply.Reply.TheVariants.{Done}
 use Rattle.sn_model.specs.Outcomes.{tells}
 use Rattle.sn_model.specs.Seen.{Seen, has_room_for_name, parent_of, seen}
-use Rattle.sn_model.specs.Tests.{forbidden, full, granted, live, may_remove, not_present, one_tree, plain, prefix, sticky, there, write, writable_parent}
+use Rattle.sn_model.specs.Tests.{forbidden, full, granted, live, not_present, one_tree, plain, prefix, sticky, there, write, writable_parent}
 use Rattle.sn_model.specs.Tree.{Tree, names_in}
 use Rattle.sn_model.specs.World.{World}
 use Rattle.sn_model.proofs.AccessCallLemmas.{full_has}
@@ -95,7 +95,7 @@ module _ (r : Refusal) (is : r.errno ≡ Eacces) where
   empty_other b = passes_or b tt (plain Enotempty) (λ h. cc h)
 
   sticky_other : (cred : Credential) (path : ℕ) (parent : Attributes) (found : Found) → NotFor (sticky cred path parent found)
-  sticky_other cred path parent found = passes_or (may_remove cred parent found.attributes) tt (forbidden path found.place rule.Sticky) (λ h. cc h)
+  sticky_other cred path parent found = passes_or (not parent.sticky || cred.uid == 0 || cred.uid == found.attributes.owner || cred.uid == parent.owner) tt (forbidden path found.place rule.Sticky) (λ h. cc h)
 
   parent_other : (w : Walked) → NotFor (parent_of Ebusy w)
   parent_other Root e = other (plain Ebusy) (λ h. cc h) e
@@ -137,7 +137,7 @@ module _ (r : Refusal) (is : r.errno ≡ Eacces) where
       chain (alike found.attributes.kind t.attributes.kind) last r (alike_other found.attributes.kind t.attributes.kind) (λ _ _. empty_if_other (is_directory t.attributes.kind) (all.names.is_empty (number_of t.object)))) e
 
   room_to_move_other : (limits : Limits) (world : World) (m : Moving) → NotFor (room_to_move (seen limits world) m)
-  room_to_move_other limits world m = told (stays_as_full m)
+  room_to_move_other limits world m = told (is_some m.target || number_of m.old_directory == number_of m.new_directory)
     where
       told : (b : Bool) → NotFor (cond b (pass tt) (has_room_for_name limits world.live (number_of m.new_directory)))
       told true e = cc e

@@ -1,4 +1,4 @@
--- What the calls on names come to: the names that are listed, and what is left of the tree.
+-- What the calls on names do: the names that are listed, and what is left of the tree.
 use Rattle.std.proofs.Common.{◌≡◌, ℕ, ◌&&◌, ◌||◌, ◌==◌, Bool, true, false, cond, T, List, [], ◌∷◌, filter, map as list_map, Option, Some, None, Ok, refl, sym, ap, ◌∙◌, ◌<◌, ◌⊎◌, inl, inr, eq-eqb, eqb-true}
 use Rattle.std.specs.List.{AllByRecursion, list_any}
 use Rattle.std.specs.declared.cmp.Ordering.{Ordering}

@@ -1,5 +1,5 @@
 -- The calls on files by their names refuse with EACCES only what the access rule denies.
-use Rattle.std.proofs.Common.{◌≡◌, ◌⊎◌, inl, inr, ℕ, Bool, true, false, cond, List, [], ◌∷◌, Option, Some, None, Result, Ok, Err, refl, sym, ap, ◌∙◌, arith}
+use Rattle.std.proofs.Common.{◌≡◌, ◌⊎◌, inl, inr, ℕ, Bool, true, false, cond, List, [], ◌∷◌, Option, Some, None, Result, Ok, Err, refl, sym, ap, ◌∙◌, arith, not, ◌||◌, ◌==◌, ◌+◌, ◌*◌}
 use Rattle.sn_acl.specs.Credential.{Credential}
 use Rattle.sn_acl.specs.declared.modes.Mode.{Mode}
 use Rattle.sn_limits.specs.declared.kind.Kind.TheVariants.{File}
@@ -15,6 +15,9 @@ use Rattle.sn_walk.specs.Chains.{◌>>=◌}
 use Rattle.sn_walk.specs.Objects.{number_of, root}
 use Rattle.sn_walk.specs.Views.{ViewedTrees, is_directory}
 use Rattle.sn_walk.specs.Walks.{found_at, walk_of}
+use Rattle.std.specs.Prelude.{ok_or}
+use Rattle.sn_model.specs.declared.change.Change.TheVariants.{Remove}
+use Rattle.sn_model.specs.Outcomes.{does}
 use Rattle.sn_model.specs.declared.reply.Errno.{Errno}
 use Rattle.sn_model.specs.declared.reply.Errno.TheVariants.{Eacces, Eexist, Eisdir, Emfile, Enoent, Eperm}
 use Rattle.sn_model.specs.declared.reply.Refusal.{Refusal}
@@ -23,10 +26,10 @@ use Rattle.sn_model.specs.declared.session.Session.{Session}
 use Rattle.sn_model.specs.AccessCalls.{live_if}
 use Rattle.sn_model.specs.Calls.{seen}
 use Rattle.sn_model.specs.Denials.{at_place}
-use Rattle.sn_model.specs.Descriptors.{Descriptors, given, next_descriptor}
-use Rattle.sn_model.specs.FileCalls.{OpenFlags, access_of, creating, file, file_of, first_ownership, no_directory, not_exclusive, open_absent, open_found, open_outcome, open_there, opens_new, opens_there, unlink_outcome, unlinks}
+use Rattle.sn_model.specs.Descriptors.{Descriptors, next_descriptor}
+use Rattle.sn_model.specs.FileCalls.{OpenFlags, access_of, creating, file, file_of, first_ownership, no_directory, not_exclusive, open_absent, open_found, open_outcome, open_there, opens_new, opens_there, unlink_outcome}
 use Rattle.sn_model.specs.Seen.{last_name, parent_of}
-use Rattle.sn_model.specs.Tests.{granted, has_room, live, may_remove, plain, prefix, sticky, there, write, writable_parent}
+use Rattle.sn_model.specs.Tests.{granted, has_room, live, plain, prefix, sticky, there, write, writable_parent}
 use Rattle.sn_model.specs.Tree.{viewed}
 use Rattle.sn_model.specs.World.{World, trees_of, viewed_trees}
 use Rattle.sn_model.proofs.AccessCallLemmas.{found_has}
@@ -64,7 +67,7 @@ module _ (r : Refusal) (is : r.errno ≡ Eacces) where
       told false f = cc f
 
   pub sticky_other : (cred : Credential) (parent : Attributes) (found : Found) → sticky cred 1 parent found ≡ Err r → ⊥
-  sticky_other cred parent found e = rule_other (may_remove cred parent found.attributes) found.place rule.Sticky r e is
+  sticky_other cred parent found e = rule_other (not parent.sticky || cred.uid == 0 || cred.uid == found.attributes.owner || cred.uid == parent.owner) found.place rule.Sticky r e is
 
   file_other : (found : Found) (x : Object) → file_of found x ≡ Err r → ⊥
   file_other found object.Snapshots e = plain_other Eisdir r (λ q. cc q) e is
@@ -77,7 +80,7 @@ module _ (r : Refusal) (is : r.errno ≡ Eacces) where
       told true f = plain_other Eisdir r (λ q. cc q) f is
       told false f = cc f
 
-  given_other : (o : Option ℕ) → given o ≡ Err r → ⊥
+  given_other : (o : Option ℕ) → ok_or o (plain Emfile) ≡ Err r → ⊥
   given_other None e = plain_other Emfile r (λ q. cc q) e is
   given_other (Some fd) e = cc e
 
@@ -103,7 +106,7 @@ module _ (r : Refusal) (is : r.errno ≡ Eacces) where
     pub unlink_denied : (limits : Limits) → unlink_outcome limits trees s names ≡ Err r → Denied
     unfolding unlink_outcome
     unlink_denied limits =
-        let last = λ (at : Object × ℕ). ok (unlinks limits (number_of at.0) (last_name names)) in
+        let last = λ (at : Object × ℕ). ok (does (3 * limits.inode_charge + limits.block_charge) (Remove (number_of at.0) (last_name names))) in
         let behind = λ (w : Walked) (f : Found). parent_of Eperm w >>= (λ at. writable_parent trees s.cred 1 at.1 at.0 >>= (λ parent. sticky s.cred 1 parent f >>= (λ _. last at))) in
         then (prefix trees s.cred 1 names) (λ w. there (found_at trees w) >>= (λ f. no_directory f >>= (λ _. live f.object >>= (λ _. behind w f)))) (λ h. prefix_denied trees s.cred 1 names r h is) (λ w walked.
         then (there (found_at trees w)) (λ f. no_directory f >>= (λ _. live f.object >>= (λ _. behind w f))) (λ h. absurd (there_other trees s.cred 1 (found_at trees w) r h is)) (λ f found.

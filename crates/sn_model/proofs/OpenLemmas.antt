@@ -1,6 +1,6 @@
--- What the calls on files by their names come to.
+-- The outcomes of the calls on files by their names.
 use Rattle.std.proofs.Common.{◌≡◌, ℕ, ◌+◌, ◌*◌, ◌&&◌, ◌||◌, ◌<◌, Bool, true, false, cond, not, List, [], ◌∷◌, Option, Some, None, Result, Ok, Err, is_some, refl, sym, ap, subst, ◌∙◌, inr, arith, true≢false}
-use Rattle.std.specs.Prelude.{IsSomeAnd}
+use Rattle.std.specs.Prelude.{IsSomeAnd, ok_or}
 use Rattle.std.specs.FinMap as map
 use Rattle.std.specs.Option.{option_map}
 use Rattle.std.proofs.lemmas.Bool.{le-leb}
@@ -28,7 +28,7 @@ use Rattle.sn_model.specs.declared.call.Call.{Call}
 use Rattle.sn_model.specs.declared.call.Call.TheVariants as call
 use Rattle.sn_model.specs.declared.change.Change.TheVariants.{Remove}
 use Rattle.sn_model.specs.declared.reply.Errno.{Errno}
-use Rattle.sn_model.specs.declared.reply.Errno.TheVariants.{Einval, Eisdir, Enoent, Eperm}
+use Rattle.sn_model.specs.declared.reply.Errno.TheVariants.{Einval, Eisdir, Enoent, Eperm, Emfile}
 use Rattle.sn_model.specs.declared.reply.Refusal.{Refusal}
 use Rattle.sn_model.specs.declared.reply.Reply.TheVariants as reply
 use Rattle.sn_model.specs.declared.session.Session.{Session}
@@ -36,10 +36,10 @@ use Rattle.sn_model.specs.AccessCalls.{live_if}
 use Rattle.sn_model.specs.Calls.{seen}
 use Rattle.sn_model.specs.Changes.{cut, is_file, made, removed, take_link}
 use Rattle.sn_model.specs.Charges.{charge_for}
-use Rattle.sn_model.specs.Descriptors.{given, next_descriptor}
-use Rattle.sn_model.specs.FileCalls.{OpenFlags, access_of, are_flags, creating, file, file_of, first_ownership, flags_argument, no_directory, not_exclusive, open_absent, open_found, open_outcome, open_there, opens_new, opens_there, unlink_outcome, unlinks}
+use Rattle.sn_model.specs.Descriptors.{next_descriptor}
+use Rattle.sn_model.specs.FileCalls.{OpenFlags, access_of, are_flags, creating, file, file_of, first_ownership, flags_argument, no_directory, not_exclusive, open_absent, open_found, open_outcome, open_there, opens_new, opens_there, unlink_outcome}
 use Rattle.sn_model.specs.NameTree.{HasKind}
-use Rattle.sn_model.specs.Outcomes.{Outcome, Opens}
+use Rattle.sn_model.specs.Outcomes.{Outcome, Opens, does}
 use Rattle.sn_model.specs.Seen.{last_name, parent_of}
 use Rattle.sn_model.specs.Steps.{IsNumber}
 use Rattle.sn_model.specs.Tests.{granted, has_room, live, logged_in, plain, prefix, sticky, there, writable_parent}
@@ -87,7 +87,7 @@ object_is place o (Some a) found e = let same : record { object = o; place = pla
 abbrev pub parent_at : Object → ℕ → Result (Object × ℕ) Refusal
 parent_at directory place = Ok (directory, place)
 
--- what a path's last name stands for, where it is a live node
+-- what a path's last name denotes, where it is a live node
 pub named_at : (world : World) (names : List (List ℕ)) (w : Walked) (without : Errno) (at : Object × ℕ) (found : Found) (number : ℕ) → EndsAt (viewed_trees (trees_of world)) names w → parent_of without w ≡ Ok at → found_at (viewed_trees (trees_of world)) w ≡ Some found → found.object ≡ object.Node Live number → IsNamed world.live at.0 (last_name names) number
 named_at world names Root without at found number ends p f is = cc
 named_at world [] (Name directory place o) without at found number ends p f is = cc
@@ -149,7 +149,7 @@ module _ (limits : Limits) (world : World) (session : ℕ) (s : Session) (names 
   pub unlink_is : (path : List ℕ) (o : Outcome) → unlink_outcome limits trees s names ≡ Ok o → Decides (call.Unlink path) o
   unfolding unlink_outcome
   unlink_is path o e =
-      let last = λ (at : Object × ℕ). ok (unlinks limits (number_of at.0) (last_name names)) in
+      let last = λ (at : Object × ℕ). ok (does (3 * limits.inode_charge + limits.block_charge) (Remove (number_of at.0) (last_name names))) in
       let behind = λ (w : Walked) (f : Found). parent_of Eperm w >>= (λ at. writable_parent trees s.cred 1 at.1 at.0 >>= (λ parent. sticky s.cred 1 parent f >>= (λ _. last at))) in
       let w = bind_ok (prefix trees s.cred 1 names) (λ w. there (found_at trees w) >>= (λ f. no_directory f >>= (λ _. live f.object >>= (λ _. behind w f)))) o e in
       let f = bind_ok (there (found_at trees w.0)) (λ f. no_directory f >>= (λ _. live f.object >>= (λ _. behind w.0 f))) o w.2 in
@@ -169,7 +169,7 @@ module _ (limits : Limits) (world : World) (session : ℕ) (s : Session) (names 
   -- ---- open
 
   -- a session that is logged in gets a descriptor
-  given_is : (o : Option ℕ) (fd : ℕ) → given o ≡ Ok fd → o ≡ Some fd
+  given_is : (o : Option ℕ) (fd : ℕ) → ok_or o (plain Emfile) ≡ Ok fd → o ≡ Some fd
   given_is None fd e = cc
   given_is (Some n) fd e = ap (λ (k : ℕ). Some k) (same_ok n fd e)
 

@@ -1,11 +1,11 @@
--- What is so of whatever a call comes to.
+-- What holds of every outcome of a call.
 use Rattle.std.proofs.Common.{◌≡◌, ℕ, ◌<◌, ◌≤◌, Bool, true, false, Ok, length, refl, sym, arith}
 use Rattle.std.specs.FinMap as map
 use Rattle.std.specs.Prelude.{IsSomeAnd, IsTrue, is_none, is_some}
 use Rattle.sn_limits.specs.declared.kind.Kind.TheVariants.{File}
 use Rattle.sn_limits.specs.SnapshotName.{is_snapshot_name}
 use Rattle.sn_limits.specs.declared.limits.Limits.{Limits}
-use Rattle.sn_walk.specs.declared.object.Home.TheVariants.{Live}
+use Rattle.sn_walk.specs.declared.object.Home.TheVariants.{Live, Frozen}
 use Rattle.sn_model.specs.declared.call.Call.{Call}
 use Rattle.sn_model.specs.declared.change.Change.{Change}
 use Rattle.sn_model.specs.declared.change.Change.TheVariants.{Make, AddLink, Remove, Rename, Write, SetSize, SetAttributes}
@@ -18,7 +18,7 @@ use Rattle.sn_model.specs.Descriptors.{next_descriptor}
 use Rattle.sn_model.specs.NameLaws.{changes_names}
 use Rattle.sn_model.specs.NameTree.{HasKind}
 use Rattle.sn_model.specs.Outcomes.{Pending, Nothing, Makes, Does, Caller, Stays, LogsIn, SetsUmask, LogsOut, Opens, OpensNew, Closes, Moves, AskedPoint, Unasked, Plain, Freezes, Thaws, Restores, Outcome, does, is_opening, tells, asks}
-use Rattle.sn_model.specs.SnapshotCalls.{has_open_in, has_open_live}
+use Rattle.sn_model.specs.SnapshotCalls.{has_open}
 use Rattle.sn_model.specs.Steps.{IsNumberFor, TakesMemory, asks_for_point, changed}
 use Rattle.sn_model.specs.Tree.{Tree, least_unused}
 use Rattle.sn_model.specs.World.{World, tree_in, trees_of}
@@ -121,8 +121,8 @@ abbrev pub FitsPoint : Limits → World → AskedPoint → Type 0
 FitsPoint limits world Unasked = Unit {0}
 FitsPoint limits world Plain = Unit {0}
 FitsPoint limits world (Freezes name) = IsTrue (is_snapshot_name name) × (map.contains_key world.frozen name ≡ false) × (map.len world.frozen < limits.snapshots)
-FitsPoint limits world (Thaws name) = has_open_in world.descriptors name ≡ false
-FitsPoint limits world (Restores name) = (map.contains_key world.frozen name ≡ true) × (has_open_live world.descriptors ≡ false)
+FitsPoint limits world (Thaws name) = has_open world.descriptors (Frozen name) ≡ false
+FitsPoint limits world (Restores name) = (map.contains_key world.frozen name ≡ true) × (has_open world.descriptors Live ≡ false)
 
 -- the point that a call asks for
 pub record IsPointing (limits : Limits) (world : World) (c : Call) (o : Outcome) : Type 0 where
@@ -130,7 +130,7 @@ pub record IsPointing (limits : Limits) (world : World) (c : Call) (o : Outcome)
   pub alone : IsAlone o.point o.change o.caller
   pub fits : FitsPoint limits world o.point
 
--- What a call comes to: an answer; a change that can be applied, is charged for and may take memory; what a session can come to; and the point that it asks for.
+-- The outcome of a call: an answer; a change that can be applied, is charged for and may take memory; what a session can become; and the point that it asks for.
 pub record IsDecided (limits : Limits) (world : World) (session : ℕ) (c : Call) (o : Outcome) : Type 0 where
   pub answers : IsAnswer o.told
   pub left : HasLeft limits world.live o.change

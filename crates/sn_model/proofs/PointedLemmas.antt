@@ -15,7 +15,7 @@ use Rattle.sn_walk.specs.declared.object.Home.TheVariants.{Live, Frozen}
 use Rattle.sn_model.specs.Descriptors.{Descriptors}
 use Rattle.sn_model.specs.NameTree.{HasKind, IsTree}
 use Rattle.sn_model.specs.Outcomes.{AskedPoint, Unasked, Plain, Freezes, Thaws, Restores}
-use Rattle.sn_model.specs.SnapshotCalls.{has_open_in}
+use Rattle.sn_model.specs.SnapshotCalls.{has_open}
 use Rattle.sn_model.specs.Steps.{pointed}
 use Rattle.sn_model.specs.Tree.{Tree}
 use Rattle.sn_model.specs.World.{Descriptor, World, tree_in, trees_of}
@@ -90,7 +90,7 @@ module _ (limits : Limits) (w : World) (name : List ℕ) (whole : IsWorld limits
 -- ---- one goes
 
 -- a file that is open in a tree
-pub open_at : (table : Descriptors) (name : List ℕ) (session fd : ℕ) (d : Descriptor) → map.get table (session, fd) ≡ Some d → d.home ≡ Frozen name → has_open_in table name ≡ true
+pub open_at : (table : Descriptors) (name : List ℕ) (session fd : ℕ) (d : Descriptor) → map.get table (session, fd) ≡ Some d → d.home ≡ Frozen name → has_open table (Frozen name) ≡ true
 open_at table name session fd d e home =
     let is_there : (ℕ × ℕ) × Descriptor → Bool = λ e. is_same (Frozen name) e.1.home in
     any_counts is_there (map.entries table) ∙ lt-ltb 0 (count is_there table) (count_some descriptors_total exact_descriptors is_there table (session, fd) d e (ap (is_same (Frozen name)) home ∙ nat_list_eq_equiv.refl name))

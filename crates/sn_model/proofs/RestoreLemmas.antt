@@ -13,7 +13,7 @@ use Rattle.sn_model.specs.NameTree.{HasKind}
 use Rattle.sn_model.specs.Outcomes.{Restores}
 use Rattle.sn_model.specs.RestoreLaws.{StaysBeside}
 use Rattle.sn_model.specs.Settling.{settled}
-use Rattle.sn_model.specs.SnapshotCalls.{has_open_live}
+use Rattle.sn_model.specs.SnapshotCalls.{has_open}
 use Rattle.sn_model.specs.Steps.{pointed, restored, with_live}
 use Rattle.sn_model.specs.Tree.{Tree}
 use Rattle.sn_model.specs.World.{Descriptor, World, tree_in, trees_of}
@@ -23,13 +23,13 @@ use Rattle.sn_model.proofs.DropLemmas.{all_named, dropping_tree}
 use Rattle.sn_model.proofs.HeldLemmas.{any_counts, descriptors_total, exact_descriptors}
 
 -- a file that is open in the live tree
-pub open_live : (table : Descriptors) (session fd : ℕ) (d : Descriptor) → map.get table (session, fd) ≡ Some d → d.home ≡ Live → has_open_live table ≡ true
+pub open_live : (table : Descriptors) (session fd : ℕ) (d : Descriptor) → map.get table (session, fd) ≡ Some d → d.home ≡ Live → has_open table Live ≡ true
 open_live table session fd d e home =
     let is_there : (ℕ × ℕ) × Descriptor → Bool = λ e. is_same Live e.1.home in
     any_counts is_there (map.entries table) ∙ lt-ltb 0 (count is_there table) (count_some descriptors_total exact_descriptors is_there table (session, fd) d e (ap (is_same Live) home))
 
 -- a settled tree in the live one's place
-module _ (limits : Limits) (w : World) (name : List ℕ) (tree : Tree) (whole : IsWorld limits w) (is : map.get w.frozen name ≡ Some tree) (none_open : has_open_live w.descriptors ≡ false) where
+module _ (limits : Limits) (w : World) (name : List ℕ) (tree : Tree) (whole : IsWorld limits w) (is : map.get w.frozen name ≡ Some tree) (none_open : has_open w.descriptors Live ≡ false) where
   abbrev after : World
   after = with_live w (settled tree)
 
@@ -49,7 +49,7 @@ module _ (limits : Limits) (w : World) (name : List ℕ) (tree : Tree) (whole : 
     held = λ number has none. absurd (all_named tree number has none);
   }
 
-pub restored_world : (limits : Limits) (w : World) (name : List ℕ) → IsWorld limits w → has_open_live w.descriptors ≡ false → IsWorld limits (pointed (Restores name) w)
+pub restored_world : (limits : Limits) (w : World) (name : List ℕ) → IsWorld limits w → has_open w.descriptors Live ≡ false → IsWorld limits (pointed (Restores name) w)
 restored_world limits w name whole none_open = told (map.get w.frozen name) refl
   where
     told : (o : Option Tree) → map.get w.frozen name ≡ o → IsWorld limits (restored o w)

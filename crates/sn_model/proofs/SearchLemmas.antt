@@ -37,7 +37,7 @@ is_found used first (suc more) number e = looked (used first) refl (is_found use
 
 -- ---- the least number that no node has
 
--- is the first one behind those that are used
+-- is the first one after those that are used
 pub least_is : (limits : Limits) (tree : Tree) (number : ℕ) → ((k : ℕ) → 2 ≤ k → k < number → is_some (map.get tree.nodes k) ≡ true) → map.get tree.nodes number ≡ None → 2 ≤ number → number ≤ limits.largest_number → least_unused limits tree ≡ Some number
 unfolding least_unused
 least_is limits tree number used unused low high =

@@ -1,4 +1,4 @@
--- What the calls on snapshots come to, and what they are refused with.
+-- The outcomes of the calls on snapshots, and what they are refused with.
 use Rattle.std.proofs.Common.{◌≡◌, ℕ, ◌*◌, ◌<◌, ◌==◌, Bool, true, false, cond, IsTrue, nat_le, List, Ok, Err, refl, sym, ap, ◌∙◌}
 use Rattle.std.specs.FinMap as map
 use Rattle.std.proofs.lemmas.Bool.{leb-false}
@@ -7,12 +7,13 @@ use Rattle.sn_limits.specs.SnapshotName.{is_snapshot_name}
 use Rattle.sn_limits.specs.declared.limits.Limits.{Limits}
 use Rattle.sn_walk.specs.Chains.{◌>>=◌}
 use Rattle.sn_walk.proofs.ChainLemmas.{bind_ok}
+use Rattle.sn_walk.specs.declared.object.Home.TheVariants.{Live, Frozen}
 use Rattle.sn_model.specs.declared.reply.Errno.TheVariants.{Eacces, Ebusy, Eexist, Einval, Elimit, Enoent, Eperm}
 use Rattle.sn_model.specs.declared.reply.Refusal.{Refusal}
 use Rattle.sn_model.specs.declared.reply.Rule.TheVariants as rule
 use Rattle.sn_model.specs.declared.session.Session.{Session}
 use Rattle.sn_model.specs.Outcomes.{Freezes, Outcome, Restores, Thaws, points, points_for}
-use Rattle.sn_model.specs.SnapshotCalls.{closed_live, closed_snapshot, has_open_in, has_open_live, present_snapshot, room_for_snapshot, snap_create_outcome, snap_delete_outcome, snap_restore_outcome, snapshot_argument, user_0, vacant_snapshot}
+use Rattle.sn_model.specs.SnapshotCalls.{closed_tree, has_open, present_snapshot, room_for_snapshot, snap_create_outcome, snap_delete_outcome, snap_restore_outcome, snapshot_argument, user_0, vacant_snapshot}
 use Rattle.sn_model.specs.Settling.{nameless_if}
 use Rattle.sn_model.specs.Tests.{forbidden, plain}
 use Rattle.sn_model.specs.World.{World, trees_of, viewed_trees}
@@ -48,13 +49,13 @@ create_is limits world session name o e =
     vacant r u true f = cc
     vacant r u false f = refl
 
-pub delete_is : (world : World) (session : Session) (name : List ℕ) (o : Outcome) → snap_delete_outcome world session name ≡ Ok o → (points (Thaws name) ≡ o) × (has_open_in world.descriptors name ≡ false)
+pub delete_is : (world : World) (session : Session) (name : List ℕ) (o : Outcome) → snap_delete_outcome world session name ≡ Ok o → (points (Thaws name) ≡ o) × (has_open world.descriptors (Frozen name) ≡ false)
 unfolding snap_delete_outcome
 delete_is world session name o e =
-    let a = bind_ok (user_0 session.cred) (λ _. present_snapshot (viewed_trees (trees_of world)) name >>= (λ _. closed_snapshot world name >>= (λ _. ok (points (Thaws name))))) o e in
-    let b = bind_ok (present_snapshot (viewed_trees (trees_of world)) name) (λ _. closed_snapshot world name >>= (λ _. ok (points (Thaws name)))) o a.2 in
-    let c = bind_ok (closed_snapshot world name) (λ _. ok (points (Thaws name))) o b.2 in
-    (same_ok _ o c.2, closed c.0 (has_open_in world.descriptors name) c.1)
+    let a = bind_ok (user_0 session.cred) (λ _. present_snapshot (viewed_trees (trees_of world)) name >>= (λ _. closed_tree world (Frozen name) >>= (λ _. ok (points (Thaws name))))) o e in
+    let b = bind_ok (present_snapshot (viewed_trees (trees_of world)) name) (λ _. closed_tree world (Frozen name) >>= (λ _. ok (points (Thaws name)))) o a.2 in
+    let c = bind_ok (closed_tree world (Frozen name)) (λ _. ok (points (Thaws name))) o b.2 in
+    (same_ok _ o c.2, closed c.0 (has_open world.descriptors (Frozen name)) c.1)
   where
     closed : (u : Unit {0}) (b : Bool) → cond b (refuses (plain Ebusy)) (Ok (tt {0})) ≡ Ok u → b ≡ false
     closed u true f = cc
@@ -64,13 +65,13 @@ delete_is world session name o e =
 abbrev pub restores_at : Limits → World → List ℕ → Outcome
 restores_at limits world name = points_for (limits.inode_charge * nameless_if (map.get world.frozen name)) (Restores name)
 
-pub restore_is : (limits : Limits) (world : World) (session : Session) (name : List ℕ) (o : Outcome) → snap_restore_outcome limits world session name ≡ Ok o → (restores_at limits world name ≡ o) × (map.contains_key world.frozen name ≡ true) × (has_open_live world.descriptors ≡ false)
+pub restore_is : (limits : Limits) (world : World) (session : Session) (name : List ℕ) (o : Outcome) → snap_restore_outcome limits world session name ≡ Ok o → (restores_at limits world name ≡ o) × (map.contains_key world.frozen name ≡ true) × (has_open world.descriptors Live ≡ false)
 unfolding snap_restore_outcome
 restore_is limits world session name o e =
-    let a = bind_ok (user_0 session.cred) (λ _. present_snapshot (viewed_trees (trees_of world)) name >>= (λ _. closed_live world >>= (λ _. ok (restores_at limits world name)))) o e in
-    let b = bind_ok (present_snapshot (viewed_trees (trees_of world)) name) (λ _. closed_live world >>= (λ _. ok (restores_at limits world name))) o a.2 in
-    let c = bind_ok (closed_live world) (λ _. ok (restores_at limits world name)) o b.2 in
-    (same_ok _ o c.2, present b.0 (map.contains_key world.frozen name) b.1, closed c.0 (has_open_live world.descriptors) c.1)
+    let a = bind_ok (user_0 session.cred) (λ _. present_snapshot (viewed_trees (trees_of world)) name >>= (λ _. closed_tree world Live >>= (λ _. ok (restores_at limits world name)))) o e in
+    let b = bind_ok (present_snapshot (viewed_trees (trees_of world)) name) (λ _. closed_tree world Live >>= (λ _. ok (restores_at limits world name))) o a.2 in
+    let c = bind_ok (closed_tree world Live) (λ _. ok (restores_at limits world name)) o b.2 in
+    (same_ok _ o c.2, present b.0 (map.contains_key world.frozen name) b.1, closed c.0 (has_open world.descriptors Live) c.1)
   where
     present : (u : Unit {0}) (b : Bool) → cond b (Ok (tt {0})) (refuses (plain Enoent)) ≡ Ok u → b ≡ true
     present u true f = refl
@@ -121,13 +122,13 @@ create_other limits world session name r is =
 pub delete_other : (world : World) (session : Session) (name : List ℕ) (r : Refusal) → r.errno ≡ Eacces → snap_delete_outcome world session name ≡ Err r → ⊥
 unfolding snap_delete_outcome
 delete_other world session name r is =
-    chain_other (user_0 session.cred) (λ _. present_snapshot (viewed_trees (trees_of world)) name >>= (λ _. closed_snapshot world name >>= (λ _. ok (points (Thaws name))))) r (user_other r is session.cred)
-    (λ _. chain_other (present_snapshot (viewed_trees (trees_of world)) name) (λ _. closed_snapshot world name >>= (λ _. ok (points (Thaws name)))) r (λ e. tested_other Enoent (λ q. cc q) (map.contains_key world.frozen name) tt r e is)
-    (λ _. chain_other (closed_snapshot world name) (λ _. ok (points (Thaws name))) r (busy_other r is (has_open_in world.descriptors name)) (λ _ e. never_refused _ r e)))
+    chain_other (user_0 session.cred) (λ _. present_snapshot (viewed_trees (trees_of world)) name >>= (λ _. closed_tree world (Frozen name) >>= (λ _. ok (points (Thaws name))))) r (user_other r is session.cred)
+    (λ _. chain_other (present_snapshot (viewed_trees (trees_of world)) name) (λ _. closed_tree world (Frozen name) >>= (λ _. ok (points (Thaws name)))) r (λ e. tested_other Enoent (λ q. cc q) (map.contains_key world.frozen name) tt r e is)
+    (λ _. chain_other (closed_tree world (Frozen name)) (λ _. ok (points (Thaws name))) r (busy_other r is (has_open world.descriptors (Frozen name))) (λ _ e. never_refused _ r e)))
 
 pub restore_other : (limits : Limits) (world : World) (session : Session) (name : List ℕ) (r : Refusal) → r.errno ≡ Eacces → snap_restore_outcome limits world session name ≡ Err r → ⊥
 unfolding snap_restore_outcome
 restore_other limits world session name r is =
-    chain_other (user_0 session.cred) (λ _. present_snapshot (viewed_trees (trees_of world)) name >>= (λ _. closed_live world >>= (λ _. ok (restores_at limits world name)))) r (user_other r is session.cred)
-    (λ _. chain_other (present_snapshot (viewed_trees (trees_of world)) name) (λ _. closed_live world >>= (λ _. ok (restores_at limits world name))) r (λ e. tested_other Enoent (λ q. cc q) (map.contains_key world.frozen name) tt r e is)
-    (λ _. chain_other (closed_live world) (λ _. ok (restores_at limits world name)) r (busy_other r is (has_open_live world.descriptors)) (λ _ e. never_refused _ r e)))
+    chain_other (user_0 session.cred) (λ _. present_snapshot (viewed_trees (trees_of world)) name >>= (λ _. closed_tree world Live >>= (λ _. ok (restores_at limits world name)))) r (user_other r is session.cred)
+    (λ _. chain_other (present_snapshot (viewed_trees (trees_of world)) name) (λ _. closed_tree world Live >>= (λ _. ok (restores_at limits world name))) r (λ e. tested_other Enoent (λ q. cc q) (map.contains_key world.frozen name) tt r e is)
+    (λ _. chain_other (closed_tree world Live) (λ _. ok (restores_at limits world name)) r (busy_other r is (has_open world.descriptors Live)) (λ _ e. never_refused _ r e)))

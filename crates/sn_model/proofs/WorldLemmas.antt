@@ -25,7 +25,7 @@ use Rattle.sn_model.specs.World.{Descriptor, World, descriptor_cmp, new_root, ne
 use Rattle.sn_model.specs.NameTree.{HasKind, IsHierarchy, IsNode, IsTree, Reaches, root}
 use Rattle.sn_model.specs.Changes.{node_with}
 use Rattle.sn_limits.specs.declared.limits.Limits.{Limits}
-use Rattle.sn_model.specs.Descriptors.{Descriptors, at_offset, closed, descriptor_for, moved_if, opened, without_session}
+use Rattle.sn_model.specs.Descriptors.{Descriptors, closed, descriptor_for, moved_if, opened, without_session}
 use Rattle.sn_model.specs.Outcomes.{AskedPoint, Unasked, Plain, Freezes, Thaws, Restores, Pending, Nothing, Makes, Does, Caller, Stays, LogsIn, SetsUmask, LogsOut, Opens, OpensNew, Closes, Moves, Outcome}
 use Rattle.sn_model.specs.Steps.{Becomes, Comes, IsNumberFor, Step, changed, decision, filled, masked, with_caller, with_descriptors, with_live}
 use Rattle.sn_model.specs.Worlds.{IsSession, IsCall, IsOpenFile, IsWorld}
@@ -170,7 +170,7 @@ moved_open limits world session fd offset few w = told (map.get world.descriptor
   where
     told : (o : Option Descriptor) → map.get world.descriptors (session, fd) ≡ o → IsUndropped limits (with_descriptors world (moved_if world.descriptors session fd offset o))
     told None e = w
-    told (Some d) e = let f = w.open_files session fd d e in put_open limits world session fd (at_offset offset d) w (record { caller = f.caller; number = f.number; file = f.file; offset = few; live = f.live })
+    told (Some d) e = let f = w.open_files session fd d e in put_open limits world session fd (record d { offset = offset }) w (record { caller = f.caller; number = f.number; file = f.file; offset = few; live = f.live })
 
 closed_open : (limits : Limits) (world : World) (session fd : ℕ) → IsUndropped limits world → IsUndropped limits (with_caller world session (Closes fd))
 closed_open limits world session fd w = with_table limits world (closed world.descriptors session fd) w (λ i n d e. w.open_files i n d (get_was descriptors_total exact_descriptors world.descriptors (session, fd) (i, n) d e).1)
@@ -232,7 +232,7 @@ module _ (limits : Limits) (tree after : Tree) (number : ℕ) where
       is_kind after number (node_with kind o []) File (ap (λ (t : Tree). map.get t.nodes number) (sym m.gives) ∙ get_inserted nat_cmp_total tree.nodes number (node_with kind o [])) is
   made_file (Does c) is e = absurd is
 
--- a session comes to what it did, where files have stayed
+-- the session becomes what it became before, where files have stayed
 module _ (limits : Limits) (old : World) (session : ℕ) (change : Pending) (tree : Tree) (number : ℕ) (stays : (n : ℕ) → HasKind old.live n File → HasKind tree n File) (made : MakesFile change → HasKind tree number File) where
   still_fits : (caller : Caller) → FitsCaller limits old session change caller → FitsCaller limits (with_live old tree) session change (filled number caller)
   still_fits Stays fits = tt
@@ -248,7 +248,7 @@ module _ (limits : Limits) (old : World) (session : ℕ) (change : Pending) (tre
 abbrev pub called_world : World → ℕ → ℕ → Tree → Caller → World
 called_world old session number tree caller = with_caller (with_live old tree) session (filled number caller)
 
--- behind a call that asks for a point the world is as it was, but for what that makes of the trees
+-- after a call that asks for a point the world is as it was, but for what that makes of the trees
 pub alone_same : (limits : Limits) (old : World) (session : ℕ) → IsWorld limits old → (number : ℕ) (tree : Tree) (change : Pending) (caller : Caller) → change ≡ Nothing → caller ≡ Stays → changed limits number change old.live ≡ Some tree → dropped (called_world old session number tree caller) ≡ old
 alone_same limits old session w number tree change caller none stays e =
     let same = some_same _ _ (sym (ap (λ (p : Pending). changed limits number p old.live) none) ∙ e) in

@@ -1,9 +1,8 @@
--- The calls that ask for rights and set them, each as the list of its tests, in their order, with what it comes to where all pass: POSIX.1-2017, umask(), chmod(), chown() and access(), and acl(5). That ACLs are read and set by calls, and the order of the tests, are rules of this project.
+-- The calls that ask for rights and set them, each as the list of its tests, in their order, with its outcome where all pass: POSIX.1-2017, umask(), chmod(), chown() and access(), and acl(5). That ACLs are read and set by calls, and the order of the tests, are rules of this project.
 use Rattle.std.specs.Prelude.{ℕ, ◌/◌, ◌%◌, ◌^◌, ◌==◌, ◌&&◌, ◌||◌, Bool, true, false, nat_lt, List, Option, None, Some, Result, Ok, Err, codes, unwrap_or, if◌then◌else◌}
 use Rattle.std.specs.Option.{option_map_or}
 use Rattle.std.specs.Str.{bytes_eq}
 use Rattle.sn_acl.specs.declared.entries.Entry.{Entry}
-use Rattle.sn_acl.specs.declared.modes.Mode.{Mode}
 use Rattle.sn_acl.specs.Credential.{Credential, is_member}
 use Rattle.sn_acl.specs.Modes.{with_mode}
 use Rattle.sn_acl.specs.Text.{acl_of}
@@ -22,7 +21,7 @@ use Rattle.sn_model.specs.declared.reply.Refusal.{Refusal}
 use Rattle.sn_model.specs.declared.reply.Reply.TheVariants as reply
 use Rattle.sn_model.specs.declared.reply.Rule.TheVariants as rule
 use Rattle.sn_model.specs.declared.session.Session.{Session}
-use Rattle.sn_model.specs.Outcomes.{Outcome, Nothing, Does, Stays, SetsUmask, Unasked, tells}
+use Rattle.sn_model.specs.Outcomes.{Outcome, does, tells}
 use Rattle.sn_model.specs.Tests.{plain, mode_from_bits, full, live, granted, forbidden}
 pub use Rattle.sn_model.specs.declared.argument.AclKind.{AclKind}
 pub use Rattle.sn_model.specs.declared.argument.AclKind.TheVariants.{Access as OfAccess, Default as OfDefault}
@@ -32,12 +31,10 @@ pub use Rattle.sn_model.specs.declared.argument.NewAcl.TheVariants.{Access as Ne
 
 -- ---- arguments
 
-abbrev pub mode_bits_from : ℕ → ModeBits
-mode_bits_from bits = record { mode = mode_from_bits (bits % 512); set_gid = bits / 1024 == 1; sticky = bits / 512 % 2 == 1 }
-
 -- an argument that is the mode of an object: 03777 at the most
 abbrev pub mode_bits_argument : ℕ → Result ModeBits Refusal
-mode_bits_argument bits = if nat_lt bits 2048 then Ok (mode_bits_from bits) else Err (plain Einval)
+mode_bits_argument bits =
+    if nat_lt bits 2048 then Ok (record { mode = mode_from_bits (bits % 512); set_gid = bits / 1024 == 1; sticky = bits / 512 % 2 == 1 }) else Err (plain Einval)
 
 -- an argument that is the number of a user or a group, or none for the one that is there: a number has 32 bits (POSIX.1-2017, chown(), EINVAL)
 abbrev pub id_argument : Option ℕ → Result (Option ℕ) Refusal
@@ -68,11 +65,11 @@ abbrev pub to_owner : Credential → ℕ → Found → Option ℕ → Result (Un
 to_owner cred path found uid = if cred.uid == 0 || unwrap_or uid found.attributes.owner == found.attributes.owner then Ok tt else Err (forbidden path found.place rule.NotRoot)
 
 -- not-member: only the user 0 gives an object to another group that it isn't in
-abbrev pub may_join : Credential → ℕ → ℕ → Bool
-may_join cred old new = cred.uid == 0 || new == old || is_member cred new
-
 abbrev pub to_group : Credential → ℕ → Found → Option ℕ → Result (Unit {0}) Refusal
-to_group cred path found gid = if may_join cred found.attributes.group (unwrap_or gid found.attributes.group) then Ok tt else Err (forbidden path found.place rule.NotMember)
+to_group cred path found gid =
+    if cred.uid == 0 || unwrap_or gid found.attributes.group == found.attributes.group || is_member cred (unwrap_or gid found.attributes.group)
+    then Ok tt
+    else Err (forbidden path found.place rule.NotMember)
 
 -- a default ACL is that of a directory
 abbrev pub has_acl : AclKind → Attributes → Result (Unit {0}) Refusal
@@ -119,15 +116,7 @@ abbrev pub with_acl : NewAcl → Ownership → Ownership
 with_acl (NewAccess acl) o = record o { acl = acl }
 with_acl (NewDefault acl) o = record o { default_acl = acl }
 
--- owner, group, S bits and ACLs are set at once, at this charge
-abbrev pub sets : ℕ → ℕ → Ownership → Outcome
-sets charge number o = record { charge = charge; change = Does (SetAttributes number o); caller = Stays; told = reply.Done; point = Unasked }
-
 -- ---- the calls
-
--- umask: it is told what it was
-abbrev pub umask_outcome : Session → Mode → Outcome
-umask_outcome session mask = record { charge = 0; change = Nothing; caller = SetsUmask mask; told = reply.Mode session.umask; point = Unasked }
 
 -- chmod: Full; live; not-owner
 unfoldable pub chmod_outcome : Limits → ViewedTrees → Session → List (List ℕ) → ModeBits → Result Outcome Refusal
@@ -135,7 +124,7 @@ chmod_outcome limits trees session names bits = do
   found ← full trees session.cred 1 names
   number ← live found.object
   _ ← by_owner session.cred 1 found
-  Ok (sets limits.inode_charge number (with_mode_bits session.cred found.attributes bits (ownership_at trees found)))
+  Ok (does limits.inode_charge (SetAttributes number (with_mode_bits session.cred found.attributes bits (ownership_at trees found))))
 
 -- chown: Full; live; not-owner; not-root; not-member
 unfoldable pub chown_outcome : Limits → ViewedTrees → Session → List (List ℕ) → Option ℕ → Option ℕ → Result Outcome Refusal
@@ -145,7 +134,7 @@ chown_outcome limits trees session names uid gid = do
   _ ← by_owner session.cred 1 found
   _ ← to_owner session.cred 1 found uid
   _ ← to_group session.cred 1 found gid
-  Ok (sets limits.inode_charge number (given_to session.cred found.attributes uid gid (ownership_at trees found)))
+  Ok (does limits.inode_charge (SetAttributes number (given_to session.cred found.attributes uid gid (ownership_at trees found))))
 
 -- access: Full; live where w is wanted; the access
 unfoldable pub access_outcome : ViewedTrees → Session → List (List ℕ) → Access → Result Outcome Refusal
@@ -173,4 +162,4 @@ setacl_outcome limits trees session names acl = do
   _ ← has_acl (kind_of acl) found.attributes
   number ← live found.object
   _ ← by_owner session.cred 1 found
-  Ok (sets limits.inode_charge number (with_acl acl (ownership_at trees found)))
+  Ok (does limits.inode_charge (SetAttributes number (with_acl acl (ownership_at trees found))))

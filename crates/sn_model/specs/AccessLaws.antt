@@ -1,5 +1,5 @@
--- What the calls that set rights come to, said as a user of a file system would say it.
-use Rattle.std.specs.Prelude.{◌≡◌, ◌≢◌, ◌⊎◌, ℕ, true, false, List, Option, None, Some, Result, Ok, Err, is_some, unwrap_or}
+-- What the calls that set rights do, said as a user of a file system would say it.
+use Rattle.std.specs.Prelude.{◌≡◌, ◌≢◌, ◌⊎◌, ℕ, true, false, List, Option, None, Some, Result, Ok, Err, is_some, unwrap_or, slice_set}
 use Rattle.std.specs.FinMap as map
 use Rattle.sn_acl.specs.Access.{denial_of}
 use Rattle.sn_acl.specs.Credential.{Credential, is_member}
@@ -25,7 +25,7 @@ use Rattle.sn_model.specs.AccessCalls.{AclKind, ModeBits, NewAcl, NewAccess, New
 use Rattle.sn_model.specs.Changes.{apply}
 use Rattle.sn_model.specs.Denials.{IsByRule, led_to}
 use Rattle.sn_model.specs.Outcomes.{Outcome, Does}
-use Rattle.sn_model.specs.Steps.{Step, with_session}
+use Rattle.sn_model.specs.Steps.{Step}
 use Rattle.sn_model.specs.Tests.{logged_in, new_mode_argument, rights_of}
 use Rattle.sn_model.specs.Tree.{Node}
 use Rattle.sn_model.specs.World.{World, trees_of, viewed_trees}
@@ -127,7 +127,7 @@ pub record EachDeniesByRule (limits : Limits) (trees : ViewedTrees) (s : Session
 abbrev pub AccessCallsDenyByRule : Type 0
 AccessCallsDenyByRule = (limits : Limits) (trees : ViewedTrees) (s : Session) (names : List (List ℕ)) → EachDeniesByRule limits trees s names
 
--- umask tells the mask from before, and sets the one that was asked for, and nothing else.
+-- umask answers the mask from before, and sets the one that was asked for, and nothing else.
 abbrev pub UmaskSetsTheMask : Type 0
 UmaskSetsTheMask = (limits : Limits) (old new : World) (session argument : ℕ) (s : Session) (mask : Mode) (reply : Reply) → IsWorld limits old → logged_in old session ≡ Ok s → new_mode_argument argument ≡ Ok mask
-    → Step limits old session (call.Umask argument) reply new → (reply ≡ answer.Mode s.umask) × (new ≡ with_session old session (record s { umask = mask }))
+    → Step limits old session (call.Umask argument) reply new → (reply ≡ answer.Mode s.umask) × (new ≡ record old { sessions = slice_set old.sessions session (Some (record s { umask = mask })) })

@@ -1,4 +1,4 @@
--- Each call as the list of its tests, in their order, with what it comes to where all pass: POSIX.1-2017, mkdir() and stat(); sessions and the order of the tests are rules of this project. The calls that ask for rights and set them are in `AccessCalls`.
+-- Each call as the list of its tests, in their order, with its outcome where all pass: POSIX.1-2017, mkdir() and stat(); sessions and the order of the tests are rules of this project. The calls that ask for rights and set them are in `AccessCalls`.
 use Rattle.std.specs.Prelude.{ℕ, ◌+◌, ◌*◌, List, Result, Ok}
 use Rattle.sn_acl.specs.declared.modes.Mode.{Mode}
 use Rattle.sn_acl.specs.Modes.{mode_of}
@@ -13,8 +13,8 @@ use Rattle.sn_model.specs.declared.reply.Reply.TheVariants as reply
 use Rattle.std.specs.FinMap as map
 use Rattle.sn_model.specs.declared.reply.FileStatus as status
 use Rattle.sn_limits.specs.declared.limits.Limits.{Limits}
-use Rattle.sn_model.specs.Outcomes.{LogsOut, Outcome, Plain, asks, tells, opens, makes, points}
-use Rattle.sn_model.specs.AccessCalls.{access_outcome, acl_argument, chmod_outcome, chown_outcome, getacl_outcome, id_argument, mode_bits_argument, setacl_outcome, umask_outcome}
+use Rattle.sn_model.specs.Outcomes.{LogsIn, LogsOut, Outcome, Plain, SetsUmask, asks, tells, makes, points}
+use Rattle.sn_model.specs.AccessCalls.{access_outcome, acl_argument, chmod_outcome, chown_outcome, getacl_outcome, id_argument, mode_bits_argument, setacl_outcome}
 use Rattle.sn_model.specs.Tree.{link_to}
 use Rattle.sn_model.specs.declared.session.Session.{Session}
 use Rattle.sn_model.specs.World.{World, trees_of, viewed_trees}
@@ -69,8 +69,8 @@ with_path world session path more = logged_in world session >>= (λ s. path_argu
 
 -- the tests of the session, and of the arguments in the order in which they are written, and what decides the call where they pass
 abbrev pub ready : World → ℕ → Call → Result Ready Refusal
-ready world session (call.Login uid gid groups) = logged_out world session >>= (λ _. Ok (λ limits w. Ok (opens (new_session uid gid groups))))
-ready world session (call.Umask mask) = logged_in world session >>= (λ s. new_mode_argument mask >>= (λ bits. Ok (λ limits w. Ok (umask_outcome s bits))))
+ready world session (call.Login uid gid groups) = logged_out world session >>= (λ _. Ok (λ limits w. Ok (asks (LogsIn (new_session uid gid groups)) reply.Done)))
+ready world session (call.Umask mask) = logged_in world session >>= (λ s. new_mode_argument mask >>= (λ bits. Ok (λ limits w. Ok (asks (SetsUmask bits) (reply.Mode s.umask)))))
 ready world session (call.Mkdir path mode) = with_path world session path (λ s names. new_mode_argument mode >>= (λ bits. Ok (λ limits w. mkdir_outcome limits (seen limits w) s names bits)))
 ready world session (call.Chmod path mode) = with_path world session path (λ s names. mode_bits_argument mode >>= (λ bits. Ok (λ limits w. chmod_outcome limits (viewed_trees (trees_of w)) s names bits)))
 ready world session (call.Chown path uid gid) = with_path world session path (λ s names. id_argument uid >>= (λ owner. id_argument gid >>= (λ group. Ok (λ limits w. chown_outcome limits (viewed_trees (trees_of w)) s names owner group))))

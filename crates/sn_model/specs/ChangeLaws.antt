@@ -1,4 +1,4 @@
--- What the definitions of changes come to.
+-- What follows from the definitions of changes.
 use Rattle.std.specs.Prelude.{◌≡◌, ◌↔◌, ℕ, Bool, true, List, [], ◌++◌, length, take, drop, Option, None, Some, IsSomeAnd}
 use Rattle.std.specs.FinMap as map
 use Rattle.sn_limits.specs.declared.kind.Kind.TheVariants.{File, Directory}
@@ -78,7 +78,7 @@ CoversItself = (tree : Tree) → Covers tree tree
 abbrev pub CoversJoin : Type 0
 CoversJoin = (a b c : Tree) → Covers a b → Covers b c → Covers a c
 
--- A list of changes and one behind it are applied as one list.
+-- A list of changes and one after it are applied as one list.
 abbrev pub ListsJoin : Type 0
 ListsJoin = (limits : Limits) (older newer : List Change) (tree : Tree) → apply_all limits (older ++ newer) tree ≡ (apply_all limits older tree >>= apply_all limits newer)
 

@@ -113,7 +113,7 @@ chain_up tree (suc more) directory = directory ∷ flat_map (λ e. chain_up tree
 abbrev pub is_at_or_below : Tree → ℕ → ℕ → Bool
 is_at_or_below tree top directory = list_any (λ d. d == top) (chain_up tree (map.len tree.links) directory)
 
--- a name that what is moved can get: no directory comes to lie in itself
+-- a name that what is moved can get: no directory gets into itself
 abbrev pub is_new_name : Tree → Link → ℕ → Node → Bool
 is_new_name tree new number node = is_name new.name && not (is_hidden_name new.directory new.name) && not (is_directory node.kind && is_at_or_below tree number new.directory)
 
@@ -134,7 +134,7 @@ renamed limits tree old new = do
   node ← map.get tree.nodes number
   if same_number number (map.get tree.links new) then Some tree else moved limits tree old new number node
 
--- bytes behind the end are zeros
+-- bytes past the end are zeros
 abbrev pub resized : List ℕ → ℕ → List ℕ
 resized bytes size = take size (bytes ++ replicate (size - length bytes) 0)
 

@@ -5,7 +5,7 @@ use Rattle.sn_limits.specs.declared.kind.Kind.TheVariants.{File}
 use Rattle.sn_model.specs.declared.link.Link.{Link}
 use Rattle.sn_model.specs.Tree.{Node, Tree}
 
--- no name stands for the number
+-- no name has the number
 abbrev pub IsUnnamed : Tree → ℕ → Type 0
 IsUnnamed tree number = (link : Link) → map.get tree.links link ≢ Some number
 

@@ -1,4 +1,4 @@
--- What a refusal for lack of an entry's right tells: at that place of that path the access rule of acl(5) denies what was wanted, by that entry.
+-- What a refusal for lack of an entry's right says: at that place of that path the access rule of acl(5) denies what was wanted, by that entry.
 use Rattle.std.specs.Prelude.{◌≡◌, ℕ, ◌==◌, List, [], ◌∷◌, take, Option, None, Some, Ok, Err, if◌then◌else◌}
 use Rattle.std.specs.Option.{option_and_then}
 use Rattle.sn_acl.specs.declared.entries.Entry.{Entry}
@@ -21,12 +21,12 @@ use Rattle.sn_model.specs.Steps.{decision}
 use Rattle.sn_model.specs.Tests.{logged_in, rights_of}
 use Rattle.sn_model.specs.World.{World, trees_of, viewed_trees}
 
--- what names stand for, one after the other, whoever asks
+-- what names denote, one after the other, whoever asks
 unfoldable pub led_to : ViewedTrees → Object → List (List ℕ) → Option Object
 led_to trees object [] = Some object
 led_to trees object (name ∷ names) = option_and_then (λ child. led_to trees child names) (child_of trees object name)
 
--- at place i of a path is what its first i names stand for; place 0 is the root
+-- at place i of a path is what its first i names denote; place 0 is the root
 abbrev pub at_place : ViewedTrees → List (List ℕ) → ℕ → Option Object
 at_place trees names place = led_to trees root (take place names)
 

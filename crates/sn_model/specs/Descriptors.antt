@@ -23,32 +23,20 @@ Descriptors = map.FinMap descriptor_cmp Descriptor
 abbrev pub descriptor_for : OpenFlags → Home → ℕ → Descriptor
 descriptor_for flags home number = record { home = home; number = number; readable = flags.read; writable = flags.write; appends = flags.append; offset = 0 }
 
-abbrev pub given : Option ℕ → Result ℕ Refusal
-given number = ok_or number (plain Emfile)
-
 -- the descriptor that a session gets next: the least of 64 that it doesn't have
 abbrev pub next_descriptor : Descriptors → ℕ → Result ℕ Refusal
-next_descriptor table session = given (first_without (λ fd. is_some (map.get table (session, fd))) 0 64)
-
-abbrev pub found : Option Descriptor → Result Descriptor Refusal
-found entry = ok_or entry (plain Ebadf)
+next_descriptor table session = ok_or (first_without (λ fd. is_some (map.get table (session, fd))) 0 64) (plain Emfile)
 
 -- a descriptor that a session has
 abbrev pub descriptor_at : Descriptors → ℕ → ℕ → Result Descriptor Refusal
-descriptor_at table session fd = found (map.get table (session, fd))
+descriptor_at table session fd = ok_or (map.get table (session, fd)) (plain Ebadf)
 
 -- rights are those of open(), and are asked of the descriptor alone
-abbrev pub for_reading : Descriptor → Result Descriptor Refusal
-for_reading d = if d.readable then Ok d else Err (plain Ebadf)
-
-abbrev pub for_writing : Descriptor → Result Descriptor Refusal
-for_writing d = if d.writable then Ok d else Err (plain Ebadf)
-
 abbrev pub readable_at : Descriptors → ℕ → ℕ → Result Descriptor Refusal
-readable_at table session fd = descriptor_at table session fd >>= for_reading
+readable_at table session fd = descriptor_at table session fd >>= (λ d. if d.readable then Ok d else Err (plain Ebadf))
 
 abbrev pub writable_at : Descriptors → ℕ → ℕ → Result Descriptor Refusal
-writable_at table session fd = descriptor_at table session fd >>= for_writing
+writable_at table session fd = descriptor_at table session fd >>= (λ d. if d.writable then Ok d else Err (plain Ebadf))
 
 -- an offset that a file can have: EINVAL over the largest size
 abbrev pub is_offset : Limits → ℕ → Result ℕ Refusal
@@ -60,12 +48,9 @@ opened table session fd d = map.insert table (session, fd) d
 abbrev pub closed : Descriptors → ℕ → ℕ → Descriptors
 closed table session fd = map.remove table (session, fd)
 
-abbrev pub at_offset : ℕ → Descriptor → Descriptor
-at_offset offset d = record d { offset = offset }
-
 -- a descriptor that is there gets another offset
 abbrev pub moved_if : Descriptors → ℕ → ℕ → ℕ → Option Descriptor → Descriptors
-moved_if table session fd offset entry = option_map_or (λ d. opened table session fd (at_offset offset d)) entry table
+moved_if table session fd offset entry = option_map_or (λ d. opened table session fd (record d { offset = offset })) entry table
 
 abbrev pub moved_to : Descriptors → ℕ → ℕ → ℕ → Descriptors
 moved_to table session fd offset = moved_if table session fd offset (map.get table (session, fd))

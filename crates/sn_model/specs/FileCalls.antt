@@ -1,4 +1,4 @@
--- The calls on files and descriptors, each as the list of its tests, in their order, with what it comes to where all pass: POSIX.1-2017, open(), close(), read(), write(), lseek(), ftruncate() and unlink(). The order of the tests is a rule of this project, and so is that a write is whole or not at all.
+-- The calls on files and descriptors, each as the list of its tests, in their order, with its outcome where all pass: POSIX.1-2017, open(), close(), read(), write(), lseek(), ftruncate() and unlink(). The order of the tests is a rule of this project, and so is that a write is whole or not at all.
 use Rattle.std.specs.Prelude.{ℕ, ◌+◌, ◌-◌, ◌*◌, ◌/◌, ◌==◌, ◌&&◌, ◌||◌, not, Bool, false, nat_le, nat_lt, List, [], Option, None, Some, Result, Ok, Err, length, take, drop, if◌then◌else◌}
 use Rattle.std.specs.List.{list_all}
 use Rattle.std.specs.FinMap as map
@@ -135,13 +135,6 @@ writes limits fd number offset bytes = record (asks (Moves fd (offset + length b
   change = Does (Write number offset bytes);
 }
 
-abbrev pub cuts : Limits → ℕ → ℕ → Outcome
-cuts limits number size = does (file_charge limits 1) (SetSize number size)
-
--- the charge counts a file that may stay held
-abbrev pub unlinks : Limits → ℕ → List ℕ → Outcome
-unlinks limits directory name = does (3 * limits.inode_charge + limits.block_charge) (Remove directory name)
-
 -- ---- the calls
 
 -- open of what is there: not exclusive; a file; live where it is to be written; the access, in one
@@ -220,9 +213,9 @@ unfoldable pub ftruncate_outcome : Limits → Descriptors → ℕ → ℕ → �
 ftruncate_outcome limits table session fd size = do
   d ← writable_at table session fd
   _ ← is_size limits size
-  Ok (cuts limits d.number size)
+  Ok (does (file_charge limits 1) (SetSize d.number size))
 
--- unlink: Full; no directory; live; w(p); sticky
+-- unlink: Full; no directory; live; w(p); sticky; the charge counts a file that may stay held
 unfoldable pub unlink_outcome : Limits → ViewedTrees → Session → List (List ℕ) → Result Outcome Refusal
 unlink_outcome limits trees session names = do
   walked ← prefix trees session.cred 1 names
@@ -232,4 +225,4 @@ unlink_outcome limits trees session names = do
   at ← parent_of Eperm walked
   parent ← writable_parent trees session.cred 1 at.1 at.0
   _ ← sticky session.cred 1 parent found
-  Ok (unlinks limits (number_of at.0) (last_name names))
+  Ok (does (3 * limits.inode_charge + limits.block_charge) (Remove (number_of at.0) (last_name names)))

@@ -1,4 +1,4 @@
--- What the definitions of the calls on descriptors come to, in the words of their pages of POSIX.1-2017.
+-- What follows from the definitions of the calls on descriptors, in the words of their pages of POSIX.1-2017.
 use Rattle.std.specs.Prelude.{◌≡◌, ℕ, ◌≤◌, true, [], List, Ok, Err, length}
 use Rattle.sn_limits.specs.declared.limits.Limits.{Limits}
 use Rattle.sn_model.specs.declared.reply.Errno.TheVariants.{Ebadf}

@@ -1,4 +1,4 @@
--- What the definitions of calls come to, said as a user of a file system would say it.
+-- What follows from the definitions of calls, said as a user of a file system would say it.
 use Rattle.std.specs.Prelude.{◌≡◌, ◌≢◌, ℕ, ◌<◌, true, Some, Ok, is_some}
 use Rattle.std.specs.FinMap as map
 use Rattle.sn_model.specs.Charges.{IsPaidFor}
@@ -27,7 +27,7 @@ pub record OneMore (old new : Tree) (number : ℕ) (link : Link) (node : Node) :
 abbrev pub MakesOneMore : Type 0
 MakesOneMore = (tree : Tree) (number : ℕ) (link : Link) (node : Node) → OneMore tree (with_node tree number link node) number link node
 
--- What a call comes to is charged for its change, and for its point.
+-- An outcome of a call is charged for its change, and for its point.
 abbrev pub DecidedChangesPay : Type 0
 DecidedChangesPay = (limits : Limits) (world : World) (session : ℕ) (c : Call) (o : Outcome) → decision limits world session c ≡ Ok o → IsPaidFor limits world o
 

@@ -25,7 +25,7 @@ pub data State : Type 0 where
   Running : World → State
   Stopped : World → World → State
 
--- What an event may meet with that no world tells: memory is refused, a read of the device fails, or a write or a sync does; what a call comes to doesn't fit; a point would be too old. Whether it did is given from outside.
+-- What may happen in an event that doesn't follow from the world: memory is refused, a read of the device fails, or a write or a sync does; the outcome of a call doesn't fit; a point would be too old. Whether it happens is given from outside.
 pub data Mishap : Type 0 where
   Memory : Mishap
   Read : Mishap
@@ -61,48 +61,34 @@ pub record IsStopped (before after : World) (reply : Reply) (new : State) : Type
   pub left : new ≡ Stopped before after
 
 -- it is unmounted, and isn't mounted again
-pub record IsUnmounted (before after : World) (m : Mishap) (reply : Reply) (new : State) : Type 0 where
-  pub fault : MountFault
-  pub is : mount_fault_of m ≡ Some fault
-  pub told : reply ≡ answer.Unmounted fault
-  pub left : new ≡ Stopped before after
+abbrev pub IsUnmounted : World → World → Mishap → Reply → State → Type 0
+IsUnmounted before after m reply new = (fault : MountFault) × (mount_fault_of m ≡ Some fault) × (reply ≡ answer.Unmounted fault) × (new ≡ Stopped before after)
 
--- what a call whose tests pass is charged for
-abbrev pub IsCharged : Limits → World → ℕ → Call → Type 0
-IsCharged limits old session c = (o : Outcome) × (decision limits old session c ≡ Ok o) × (0 < o.charge)
+-- the tests of a call pass, with an outcome of which this holds
+abbrev pub Passes : (Outcome → Type 0) → Limits → World → ℕ → Call → Type 0
+Passes Has limits old session c = (o : Outcome) × (decision limits old session c ≡ Ok o) × Has o
 
 -- what may write: a call that is charged for something, or that asks for a point
 abbrev pub MayWrite : Call → Outcome → Type 0
 MayWrite c o = (0 < o.charge) ⊎ AsksForPoint c
 
--- a call whose tests pass, and that may write
-abbrev pub IsWriting : Limits → World → ℕ → Call → Type 0
-IsWriting limits old session c = (o : Outcome) × (decision limits old session c ≡ Ok o) × MayWrite c o
-
 -- what a call may be refused for: memory and reads once its session and arguments have passed, room where it is charged for something, and age where it may write
 abbrev pub MayRefuse : Limits → World → ℕ → Call → Mishap → Type 0
 MayRefuse limits old session c Write = ⊥
-MayRefuse limits old session c Space = IsCharged limits old session c
-MayRefuse limits old session c Age = IsWriting limits old session c
+MayRefuse limits old session c Space = Passes (λ o. 0 < o.charge) limits old session c
+MayRefuse limits old session c Age = Passes (MayWrite c) limits old session c
 MayRefuse limits old session c m = TakesMemory c × IsOk (ready old session c)
-
--- a call is answered as its decision says
-pub record IsAnswered (limits : Limits) (old : World) (session : ℕ) (c : Call) (reply : Reply) (new : State) : Type 0 where
-  pub next : World
-  pub becomes : Becomes limits old session (decision limits old session c) reply next
-  pub runs : new ≡ Running next
 
 -- a write or a sync fails while a call that may write is made so
 pub record IsCutOff (limits : Limits) (old : World) (session : ℕ) (c : Call) (reply : Reply) (new : State) : Type 0 where
-  pub outcome : Outcome
-  pub decided : decision limits old session c ≡ Ok outcome
-  pub writes : MayWrite c outcome
+  pub passes : Passes (MayWrite c) limits old session c
   pub next : World
-  pub comes : Comes limits old session outcome next
+  pub comes : Comes limits old session passes.0 next
   pub stops : IsStopped (settle old) (settle next) reply new
 
+-- a call is answered as its decision says, or is cut off or refused
 abbrev pub CallStep : Limits → World → ℕ → Call → Option Mishap → Reply → State → Type 0
-CallStep limits old session c None reply new = IsAnswered limits old session c reply new
+CallStep limits old session c None reply new = (next : World) × Becomes limits old session (decision limits old session c) reply next × (new ≡ Running next)
 CallStep limits old session c (Some Write) reply new = IsCutOff limits old session c reply new
 CallStep limits old session c (Some m) reply new = MayRefuse limits old session c m × IsRefused old m reply new
 
@@ -112,33 +98,19 @@ PointFails old Write reply new = IsStopped (settle old) (settle old) reply new
 PointFails old Space reply new = ⊥
 PointFails old m reply new = IsRefused old m reply new
 
--- a step of a point changes no world
-abbrev pub PointStep : World → Option Mishap → Reply → State → Type 0
-PointStep old None reply new = ((reply ≡ answer.Progress progress.More) ⊎ (reply ≡ answer.Progress progress.Done)) × (new ≡ Running old)
-PointStep old (Some m) reply new = PointFails old m reply new
-
--- an unmount, which is a point, and a mount
-abbrev pub RestartStep : World → Option Mishap → Reply → State → Type 0
-RestartStep old None reply new = (reply ≡ answer.Done) × (new ≡ Running (settle old))
-RestartStep old (Some m) reply new = PointFails old m reply new ⊎ IsUnmounted (settle old) (settle old) m reply new
-
--- a mount alone
-abbrev pub MountStep : World → World → Option Mishap → Reply → State → Type 0
-MountStep before after None reply new = (reply ≡ answer.Done) × ((new ≡ Running before) ⊎ (new ≡ Running after))
-MountStep before after (Some m) reply new = IsUnmounted before after m reply new
-
--- no call and no step is served any more
-abbrev pub StoppedStep : World → World → Option Mishap → Reply → State → Type 0
-StoppedStep before after None reply new = (reply ≡ refused Estopped) × (new ≡ Stopped before after)
-StoppedStep before after (Some m) reply new = ⊥
-
--- From a state, where an event meets with a mishap or with none, the machine may give this reply and go on to a state.
+-- From a state, where an event has a mishap or none, the machine may give this reply and continue from a state. A step of a point changes
+-- no world. A restart of a running machine is an unmount, which is a point, and a mount; that of a stopped one is a mount alone. A stopped
+-- machine serves no call and no step.
 abbrev pub EventStep : Limits → State → Event → Option Mishap → Reply → State → Type 0
 EventStep limits (Running old) (event.Call session c) met reply new = CallStep limits old session c met reply new
-EventStep limits (Running old) event.Step met reply new = PointStep old met reply new
-EventStep limits (Running old) event.Restart met reply new = RestartStep old met reply new
-EventStep limits (Stopped before after) event.Restart met reply new = MountStep before after met reply new
-EventStep limits (Stopped before after) e met reply new = StoppedStep before after met reply new
+EventStep limits (Running old) event.Step None reply new = ((reply ≡ answer.Progress progress.More) ⊎ (reply ≡ answer.Progress progress.Done)) × (new ≡ Running old)
+EventStep limits (Running old) event.Step (Some m) reply new = PointFails old m reply new
+EventStep limits (Running old) event.Restart None reply new = (reply ≡ answer.Done) × (new ≡ Running (settle old))
+EventStep limits (Running old) event.Restart (Some m) reply new = PointFails old m reply new ⊎ IsUnmounted (settle old) (settle old) m reply new
+EventStep limits (Stopped before after) event.Restart None reply new = (reply ≡ answer.Done) × ((new ≡ Running before) ⊎ (new ≡ Running after))
+EventStep limits (Stopped before after) event.Restart (Some m) reply new = IsUnmounted before after m reply new
+EventStep limits (Stopped before after) e None reply new = (reply ≡ refused Estopped) × (new ≡ Stopped before after)
+EventStep limits (Stopped before after) e (Some m) reply new = ⊥
 
 -- Steps of a kind give these replies to these events, one after the other.
 abbrev pub RunBy : {S : Type 0} → (S → Event → Reply → S → Type 0) → S → List Event → List Reply → S → Type 0
@@ -146,7 +118,7 @@ RunBy By old [] [] new = new ≡ old
 RunBy {S} By old (e ∷ events) (reply ∷ replies) new = (mid : S) × By old e reply mid × RunBy By mid events replies new
 RunBy By old events replies new = ⊥
 
--- steps in which only such mishaps are met with
+-- steps with only such mishaps
 abbrev pub StepOf : (Option Mishap → Type 0) → Limits → State → Event → Reply → State → Type 0
 StepOf May limits old e reply new = (met : Option Mishap) × May met × EventStep limits old e met reply new
 
@@ -157,11 +129,9 @@ Run May limits = RunBy (StepOf May limits)
 abbrev pub Anything : Option Mishap → Type 0
 Anything met = Unit {0}
 
--- no device is there that could fail or be full
+-- none, or memory is refused: there is no device that could fail or be full
 abbrev pub OfMemory : Option Mishap → Type 0
-OfMemory None = Unit {0}
-OfMemory (Some Memory) = Unit {0}
-OfMemory (Some m) = ⊥
+OfMemory met = (met ≡ None) ⊎ (met ≡ Some Memory)
 
 -- What an unmount answers. It is a point, which never lacks room; a stopped machine has nothing to unmount.
 abbrev pub UnmountStep : State → Option Mishap → Reply → Type 0
@@ -179,48 +149,34 @@ EndsBy reply ending.Stopped = (reply ≢ answer.Done) × (reply ≢ refused Enom
 EndsBy reply (ending.Mount fault) = ⊥
 
 -- the last unmount, what it answers, and the end of the run
-pub record Ends (last : State) (met : Option Mishap) (end : End) : Type 0 where
-  pub reply : Reply
-  pub unmounts : UnmountStep last met reply
-  pub ends : EndsBy reply end
+abbrev pub Ends : State → Option Mishap → End → Type 0
+Ends last met end = (reply : Reply) × UnmountStep last met reply × EndsBy reply end
+
+-- no event is answered, and this is the end
+abbrev pub EndsUnrun : End → List Reply → End → Type 0
+EndsUnrun is replies end = (replies ≡ []) × (end ≡ is)
 
 -- the list of replies finds no memory
-pub record HasNoList (May : Option Mishap → Type 0) (replies : List Reply) (end : End) : Type 0 where
-  pub may : May (Some Memory)
-  pub none : replies ≡ []
-  pub ends : end ≡ ending.Memory
+abbrev pub HasNoList : (Option Mishap → Type 0) → List Reply → End → Type 0
+HasNoList May replies end = May (Some Memory) × EndsUnrun ending.Memory replies end
 
 -- there is no first mount
-pub record HasNoMount (May : Option Mishap → Type 0) (replies : List Reply) (end : End) : Type 0 where
-  pub met : Mishap
-  pub may : May (Some met)
-  pub fault : MountFault
-  pub is : mount_fault_of met ≡ Some fault
-  pub none : replies ≡ []
-  pub ends : end ≡ ending.Mount fault
+abbrev pub HasNoMount : (Option Mishap → Type 0) → List Reply → End → Type 0
+HasNoMount May replies end = (met : Mishap) × (fault : MountFault) × May (Some met) × (mount_fault_of met ≡ Some fault) × EndsUnrun (ending.Mount fault) replies end
 
 -- every event is answered
-pub record HasRun (May : Option Mishap → Type 0) (limits : Limits) (first : World) (events : List Event) (replies : List Reply) (end : End) : Type 0 where
-  pub last : State
-  pub run : Run May limits (Running first) events replies last
-  pub met : Option Mishap
-  pub may : May met
-  pub ends : Ends last met end
+abbrev pub HasRun : (Option Mishap → Type 0) → Limits → World → List Event → List Reply → End → Type 0
+HasRun May limits first events replies end = (last : State) × Run May limits (Running first) events replies last × (met : Option Mishap) × May met × Ends last met end
 
 -- What a first mount finds on a device: a world, or what keeps it from being mounted.
 pub data Image : Type 0 where
   Holds : World → Image
   Lacks : MountFault → Image
 
--- the first mount is refused for what it finds
-pub record IsUnfit (fault : MountFault) (replies : List Reply) (end : End) : Type 0 where
-  pub none : replies ≡ []
-  pub ends : end ≡ ending.Mount fault
-
--- every event is answered, if there is a world
+-- every event is answered if there is a world, and else the first mount is refused for what it finds
 abbrev pub Serves : (Option Mishap → Type 0) → Limits → Image → List Event → List Reply → End → Type 0
 Serves May limits (Holds first) events replies end = HasRun May limits first events replies end
-Serves May limits (Lacks fault) events replies end = IsUnfit fault replies end
+Serves May limits (Lacks fault) events replies end = EndsUnrun (ending.Mount fault) replies end
 
 -- A whole run: from what the device holds, a mount, the events, and an unmount.
 abbrev pub WholeRun : (Option Mishap → Type 0) → Limits → Image → List Event → List Reply → End → Type 0
@@ -231,19 +187,16 @@ abbrev pub Left : State → World → Type 0
 Left (Running old) w = w ≡ settle old
 Left (Stopped before after) w = (w ≡ before) ⊎ (w ≡ after)
 
--- what a call would leave that no mishap met with
-pub record LeftAfter (limits : Limits) (old : World) (session : ℕ) (c : Call) (w : World) : Type 0 where
-  pub reply : Reply
-  pub next : World
-  pub becomes : Becomes limits old session (decision limits old session c) reply next
-  pub left : w ≡ settle next
+-- what a call would leave that has no mishap
+abbrev pub LeftAfter : Limits → World → ℕ → Call → World → Type 0
+LeftAfter limits old session c w = (reply : Reply) × (next : World) × Becomes limits old session (decision limits old session c) reply next × (w ≡ settle next)
 
 -- after a crash in an event
 abbrev pub LeftIn : Limits → State → Event → World → Type 0
 LeftIn limits (Running old) (event.Call session c) w = Left (Running old) w ⊎ LeftAfter limits old session c w
 LeftIn limits old e w = Left old w
 
--- A run that a crash cuts short, after these replies, in the event that has none yet or behind the last: the world that the next mount finds.
+-- A run that a crash cuts short, after these replies, in the event that has none yet or after the last: the world that the next mount finds.
 abbrev pub CutRun : (Option Mishap → Type 0) → Limits → State → List Event → List Reply → World → Type 0
 CutRun May limits old [] [] w = Left old w
 CutRun May limits old (e ∷ events) [] w = LeftIn limits old e w

@@ -1,4 +1,4 @@
--- What the machine comes to over events, runs and lives, said as a user would say it.
+-- What the machine does over events, runs and lives, said as a user would say it.
 use Rattle.std.specs.Prelude.{◌≡◌, ◌≢◌, List, Option}
 use Rattle.std.specs.List.{AllByRecursion}
 use Rattle.sn_limits.specs.Versions.{limits_written}
@@ -27,7 +27,7 @@ RefusedEventsChangeNothing = (limits : Limits) (old : World) (e : Event) (met : 
 abbrev pub RestartsSettle : Type 0
 RestartsSettle = (limits : Limits) (old : State) (met : Option Mishap) (new : World) → IsState limits old → EventStep limits old event.Restart met answer.Done (Running new) → IsSettled new
 
--- Whatever happens to a machine, and whatever it meets with, its worlds are worlds.
+-- Whatever happens to a machine, with whatever mishaps, its worlds are worlds.
 abbrev pub EventsKeepTheState : Type 0
 EventsKeepTheState = (limits : Limits) (old new : State) (e : Event) (met : Option Mishap) (reply : Reply) → IsEvent e → IsState limits old → EventStep limits old e met reply new → IsState limits new
 

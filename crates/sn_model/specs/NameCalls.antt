@@ -1,4 +1,4 @@
--- The calls on names and listings, each as the list of its tests, in their order, with what it comes to where all pass: POSIX.1-2017, rmdir(), link(), rename() and readdir(). The order of the tests is a rule of this project.
+-- The calls on names and listings, each as the list of its tests, in their order, with its outcome where all pass: POSIX.1-2017, rmdir(), link(), rename() and readdir(). The order of the tests is a rule of this project.
 use Rattle.std.specs.Prelude.{ℕ, ◌+◌, ◌*◌, ◌==◌, ◌&&◌, ◌||◌, Bool, true, false, nat_lt, is_some, List, [], ◌∷◌, Option, None, Some, Result, Ok, Err, if◌then◌else◌}
 use Rattle.std.specs.Option.{option_map_or}
 use Rattle.sn_acl.specs.Credential.{Credential}
@@ -79,11 +79,8 @@ gives_way seen cred parent found (Some target) =
     sticky cred 2 parent target >>= (λ _. alike found.attributes.kind target.attributes.kind >>= (λ _. empty_if (is_directory target.attributes.kind) (seen.names.is_empty (number_of target.object))))
 
 -- where another name goes from the directory, it may get this one
-abbrev pub stays_as_full : Moving → Bool
-stays_as_full m = is_some m.target || number_of m.old_directory == number_of m.new_directory
-
 abbrev pub room_to_move : Seen → Moving → Result (Unit {0}) Refusal
-room_to_move seen m = if stays_as_full m then Ok tt else seen.names.room (number_of m.new_directory)
+room_to_move seen m = if is_some m.target || number_of m.old_directory == number_of m.new_directory then Ok tt else seen.names.room (number_of m.new_directory)
 
 abbrev pub read : Access
 read = record { read = true; write = false; execute = false }

@@ -1,4 +1,4 @@
--- What the calls on names come to, said as a user of a file system would say it.
+-- What the calls on names do, said as a user of a file system would say it.
 use Rattle.std.specs.Prelude.{◌≡◌, ◌≢◌, ◌⊎◌, ℕ, ◌<◌, List, [], ◌∷◌, Option, None, Some, Ok, Bool, true, false, is_some}
 use Rattle.std.specs.List.{AllByRecursion, list_any}
 use Rattle.std.specs.Ordering.{nat_cmp, eq_by_cmp}
@@ -50,7 +50,7 @@ abbrev pub has_name : Trees → Object → List ℕ → Bool
 has_name trees (object.Node home number) name = has_name_if (tree_in trees home) number name
 has_name trees object.Snapshots name = map.contains_key trees.frozen name
 
--- The path leads to a directory, and what is told are the names that it has, in their order, and no others.
+-- The path leads to a directory, and the reply has the names that it has, in their order, and no others.
 pub record Lists (world : World) (names : List (List ℕ)) (o : Outcome) : Type 0 where
   pub directory : Object
   pub led : led_to (viewed_trees (trees_of world)) root names ≡ Some directory
@@ -138,6 +138,6 @@ changes_names (call.Open path flags mode) = true
 changes_names (call.SnapRestore name) = true
 changes_names c = false
 
--- Whatever another call answers, each name stands for what it stood for, and there is no other.
+-- Whatever another call answers, each name denotes what it denoted, and there is no other.
 abbrev pub FewCallsChangeNames : Type 0
 FewCallsChangeNames = (limits : Limits) (old new : World) (session : ℕ) (c : Call) (answer : Reply) → changes_names c ≡ false → Step limits old session c answer new → new.live.links ≡ old.live.links

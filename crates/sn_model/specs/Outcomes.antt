@@ -1,4 +1,4 @@
--- What a call comes to.
+-- The outcomes of calls.
 use Rattle.std.specs.Prelude.{ℕ, Bool, true, false}
 use Rattle.sn_limits.specs.declared.kind.Kind.{Kind}
 use Rattle.sn_model.specs.declared.change.Change.{Change}
@@ -6,7 +6,6 @@ use Rattle.sn_model.specs.declared.change.Ownership.{Ownership}
 use Rattle.sn_model.specs.declared.link.Link.{Link}
 use Rattle.sn_model.specs.declared.reply.Reply.{Reply}
 use Rattle.sn_model.specs.declared.reply.Reply.TheVariants as reply
-use Rattle.sn_model.specs.declared.session.Session.{Session}
 pub use Rattle.sn_model.specs.declared.outcome.Pending.{Pending}
 pub use Rattle.sn_model.specs.declared.outcome.Pending.TheVariants.{Nothing, Makes, Does}
 pub use Rattle.sn_model.specs.declared.outcome.Caller.{Caller}
@@ -32,10 +31,6 @@ asks caller answer = record { charge = 0; change = Nothing; caller = caller; tol
 -- the live tree changes, at this charge, and nothing else
 abbrev pub does : ℕ → Change → Outcome
 does charge c = record { charge = charge; change = Does c; caller = Stays; told = reply.Done; point = Unasked }
-
--- the session is opened
-abbrev pub opens : Session → Outcome
-opens session = record { charge = 0; change = Nothing; caller = LogsIn session; told = reply.Done; point = Unasked }
 
 -- a new node, at this charge
 abbrev pub makes : ℕ → Link → Kind → Ownership → Outcome

@@ -1,14 +1,15 @@
--- What bringing a snapshot back comes to, said as a user of a file system would say it.
+-- What bringing a snapshot back does, said as a user of a file system would say it.
 use Rattle.std.specs.Prelude.{◌≡◌, ℕ, ◌<◌, false, List, Some}
 use Rattle.std.specs.FinMap as map
 use Rattle.sn_limits.specs.declared.kind.Kind.TheVariants.{File}
 use Rattle.sn_limits.specs.declared.limits.Limits.{Limits}
+use Rattle.sn_walk.specs.declared.object.Home.TheVariants.{Live}
 use Rattle.sn_model.specs.declared.call.Call.TheVariants.{SnapRestore}
 use Rattle.sn_model.specs.declared.reply.Reply.TheVariants.{Done}
 use Rattle.sn_model.specs.NameTree.{HasKind}
 use Rattle.sn_model.specs.Outcomes.{Restores}
 use Rattle.sn_model.specs.Settling.{settled}
-use Rattle.sn_model.specs.SnapshotCalls.{has_open_live}
+use Rattle.sn_model.specs.SnapshotCalls.{has_open}
 use Rattle.sn_model.specs.Steps.{Step, pointed}
 use Rattle.sn_model.specs.Tree.{Tree, names_for}
 use Rattle.sn_model.specs.World.{World}
@@ -16,7 +17,7 @@ use Rattle.sn_model.specs.Worlds.{IsWorld}
 
 -- What a restore leaves is a world: no descriptor is of the live tree, and no live file is without a name.
 abbrev pub RestoresLeaveAWorld : Type 0
-RestoresLeaveAWorld = (limits : Limits) (world : World) (name : List ℕ) → IsWorld limits world → has_open_live world.descriptors ≡ false → IsWorld limits (pointed (Restores name) world)
+RestoresLeaveAWorld = (limits : Limits) (world : World) (name : List ℕ) → IsWorld limits world → has_open world.descriptors Live ≡ false → IsWorld limits (pointed (Restores name) world)
 
 -- The frozen trees, the sessions and the descriptors stay.
 pub record StaysBeside (old new : World) : Type 0 where

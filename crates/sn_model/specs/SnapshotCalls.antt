@@ -1,4 +1,4 @@
--- The calls on snapshots, each as the list of its tests, in their order, with what it comes to where all pass. They are this project's own; snapshots are those of Hitz, Lau and Malcolm 1994.
+-- The calls on snapshots, each as the list of its tests, in their order, with its outcome where all pass. They are this project's own; snapshots are those of Hitz, Lau and Malcolm 1994.
 use Rattle.std.specs.Prelude.{ℕ, ◌*◌, ◌==◌, Bool, nat_le, List, Result, Ok, Err, if◌then◌else◌}
 use Rattle.std.specs.FinMap as map
 use Rattle.std.specs.List.{list_any}
@@ -8,6 +8,7 @@ use Rattle.sn_limits.specs.declared.limits.Limits.{Limits}
 use Rattle.sn_walk.specs.Chains.{◌>>=◌}
 use Rattle.sn_walk.specs.Objects.{is_same}
 use Rattle.sn_walk.specs.Views.{ViewedTrees}
+use Rattle.sn_walk.specs.declared.object.Home.{Home}
 use Rattle.sn_walk.specs.declared.object.Home.TheVariants.{Live, Frozen}
 use Rattle.sn_model.specs.declared.reply.Errno.TheVariants.{Ebusy, Eexist, Einval, Elimit, Enoent}
 use Rattle.sn_model.specs.declared.reply.Refusal.{Refusal}
@@ -39,21 +40,13 @@ room_for_snapshot limits count = if nat_le limits.snapshots count then Err (plai
 abbrev pub present_snapshot : ViewedTrees → List ℕ → Result (Unit {0}) Refusal
 present_snapshot trees name = if trees.has_snapshot name then Ok tt else Err (plain Enoent)
 
--- whether any descriptor has a file of the snapshot's tree
-abbrev pub has_open_in : Descriptors → List ℕ → Bool
-has_open_in table name = list_any (λ e. is_same (Frozen name) e.1.home) (map.entries table)
+-- whether any descriptor, of whatever session, has a file of a tree
+abbrev pub has_open : Descriptors → Home → Bool
+has_open table home = list_any (λ e. is_same home e.1.home) (map.entries table)
 
--- nobody has a file of it open
-abbrev pub closed_snapshot : World → List ℕ → Result (Unit {0}) Refusal
-closed_snapshot world name = if has_open_in world.descriptors name then Err (plain Ebusy) else Ok tt
-
--- whether any descriptor, of whatever session, has a file of the live tree
-abbrev pub has_open_live : Descriptors → Bool
-has_open_live table = list_any (λ e. is_same Live e.1.home) (map.entries table)
-
--- nobody has a file of the live tree open
-abbrev pub closed_live : World → Result (Unit {0}) Refusal
-closed_live world = if has_open_live world.descriptors then Err (plain Ebusy) else Ok tt
+-- nobody has a file of the tree open
+abbrev pub closed_tree : World → Home → Result (Unit {0}) Refusal
+closed_tree world home = if has_open world.descriptors home then Err (plain Ebusy) else Ok tt
 
 -- ---- the calls
 
@@ -70,7 +63,7 @@ unfoldable pub snap_delete_outcome : World → Session → List ℕ → Result O
 snap_delete_outcome world session name = do
   _ ← user_0 session.cred
   _ ← present_snapshot (viewed_trees (trees_of world)) name
-  _ ← closed_snapshot world name
+  _ ← closed_tree world (Frozen name)
   Ok (points (Thaws name))
 
 -- snap-restore: user 0; present; nothing of the live tree open; a charge for each file without names of the snapshot's tree
@@ -78,5 +71,5 @@ unfoldable pub snap_restore_outcome : Limits → World → Session → List ℕ 
 snap_restore_outcome limits world session name = do
   _ ← user_0 session.cred
   _ ← present_snapshot (viewed_trees (trees_of world)) name
-  _ ← closed_live world
+  _ ← closed_tree world Live
   Ok (points_for (limits.inode_charge * nameless_if (map.get world.frozen name)) (Restores name))

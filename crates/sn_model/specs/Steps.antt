@@ -23,26 +23,20 @@ use Rattle.sn_walk.specs.Chains.{◌>>=◌}
 use Rattle.sn_model.specs.Tests.{plain}
 use Rattle.sn_model.specs.Calls.{ready, outcome_of}
 
--- the first refusal of a call, or what it comes to
+-- the first refusal of a call, or its outcome
 abbrev pub decision : Limits → World → ℕ → Call → Result Outcome Refusal
 decision limits world session c = ready world session c >>= outcome_of limits world
-
-abbrev pub with_session : World → ℕ → Session → World
-with_session world session s = record world { sessions = slice_set world.sessions session (Some s) }
 
 -- whoever is logged in there, with another umask
 abbrev pub masked : Mode → Option (Option Session) → Option Session
 masked mask found = option_map (λ (s : Session). record s { umask = mask }) (option_flatten found)
 
-abbrev pub with_umask : World → ℕ → Mode → World
-with_umask world session mask = record world { sessions = slice_set world.sessions session (masked mask (slice_get world.sessions session)) }
-
 abbrev pub with_descriptors : World → Descriptors → World
 with_descriptors world table = record world { descriptors = table }
 
 abbrev pub with_caller : World → ℕ → Caller → World
-with_caller world session (LogsIn s) = with_session world session s
-with_caller world session (SetsUmask mask) = with_umask world session mask
+with_caller world session (LogsIn s) = record world { sessions = slice_set world.sessions session (Some s) }
+with_caller world session (SetsUmask mask) = record world { sessions = slice_set world.sessions session (masked mask (slice_get world.sessions session)) }
 with_caller world session LogsOut = record world { sessions = slice_set world.sessions session None; descriptors = without_session world.descriptors session }
 with_caller world session (Opens fd home number flags) = with_descriptors world (opened world.descriptors session fd (descriptor_for flags home number))
 with_caller world session (Closes fd) = with_descriptors world (closed world.descriptors session fd)
@@ -84,7 +78,7 @@ pointed (Thaws name) world = record world { frozen = map.remove world.frozen nam
 pointed (Restores name) world = restored (map.get world.frozen name) world
 pointed asked world = world
 
--- an outcome becomes a world; the machine chooses a new node's number, and a file that no name stands for and nobody has open goes
+-- an outcome becomes a world; the machine chooses a new node's number, and a file that has no name and that nobody has open goes
 pub record Comes (limits : Limits) (old : World) (session : ℕ) (o : Outcome) (new : World) : Type 0 where
   pub number : ℕ
   pub free : IsNumberFor limits old.live number o.change

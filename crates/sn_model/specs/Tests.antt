@@ -1,5 +1,5 @@
 -- The tests that calls are made of, in the words of the table of calls: POSIX.1-2017, 4.13 Pathname Resolution and 4.5 File Access Permissions, and acl(5) for the entry that denies. A test refuses, or hands on what it found.
-use Rattle.std.specs.Prelude.{ℕ, ◌+◌, ◌/◌, ◌%◌, ◌==◌, ◌||◌, not, Bool, true, false, nat_lt, nat_le, List, Option, None, Some, Result, Ok, Err, slice_get, is_none, if◌then◌else◌, ok_or}
+use Rattle.std.specs.Prelude.{ℕ, ◌+◌, ◌/◌, ◌%◌, ◌==◌, ◌||◌, not, true, false, nat_lt, nat_le, List, Option, None, Some, Result, Ok, Err, slice_get, is_none, if◌then◌else◌, ok_or}
 use Rattle.std.specs.Option.{option_map_or, option_flatten}
 use Rattle.sn_acl.specs.declared.entries.Tag.{Tag}
 use Rattle.sn_acl.specs.declared.entries.Entry.{Entry}
@@ -54,26 +54,17 @@ denied path place want tag = record { errno = Eacces; denial = Some (record { pa
 abbrev pub session_at : World → ℕ → Result (Option Session) Refusal
 session_at world session = if nat_lt session 64 then Ok (option_flatten (slice_get world.sessions session)) else Err (plain Einval)
 
-abbrev pub is_open : Option Session → Result Session Refusal
-is_open found = ok_or found (plain Ebadf)
-
-abbrev pub is_free : Option Session → Result (Unit {0}) Refusal
-is_free found = option_map_or (λ session. Err (plain Ebusy)) found (Ok tt)
-
 abbrev pub logged_in : World → ℕ → Result Session Refusal
-logged_in world session = session_at world session >>= is_open
+logged_in world session = session_at world session >>= (λ found. ok_or found (plain Ebadf))
 
 abbrev pub logged_out : World → ℕ → Result (Unit {0}) Refusal
-logged_out world session = session_at world session >>= is_free
+logged_out world session = session_at world session >>= (λ found. option_map_or (λ _. Err (plain Ebusy)) found (Ok tt))
 
 -- an argument that is a path
-abbrev pub path_errno : PathFault → Errno
-path_errno Misspelt = Einval
-path_errno TooLong = Enametoolong
-
 abbrev pub read_path : Result (List (List ℕ)) PathFault → Result (List (List ℕ)) Refusal
 read_path (Ok names) = Ok names
-read_path (Err fault) = Err (plain (path_errno fault))
+read_path (Err Misspelt) = Err (plain Einval)
+read_path (Err TooLong) = Err (plain Enametoolong)
 
 abbrev pub path_argument : List ℕ → Result (List (List ℕ)) Refusal
 path_argument word = read_path (parsed word)
@@ -139,11 +130,9 @@ abbrev pub forbidden : ℕ → ℕ → Rule → Refusal
 forbidden path place r = record { errno = Eperm; denial = Some (record { path = path; place = place; want = record { read = false; write = false; execute = false }; rule = r }) }
 
 -- sticky: from a directory with S_ISVTX a caller removes only what it owns, or any object where it owns the directory; the user 0 is held by no rule
-abbrev pub may_remove : Credential → Attributes → Attributes → Bool
-may_remove cred parent object = not parent.sticky || cred.uid == 0 || cred.uid == object.owner || cred.uid == parent.owner
-
 abbrev pub sticky : Credential → ℕ → Attributes → Found → Result (Unit {0}) Refusal
-sticky cred path parent found = if may_remove cred parent found.attributes then Ok tt else Err (forbidden path found.place rule.Sticky)
+sticky cred path parent found =
+    if not parent.sticky || cred.uid == 0 || cred.uid == found.attributes.owner || cred.uid == parent.owner then Ok tt else Err (forbidden path found.place rule.Sticky)
 
 -- a directory may get one more name, of a new node
 abbrev pub has_room : Limits → Tree → ℕ → Result (Unit {0}) Refusal

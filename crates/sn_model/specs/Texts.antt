@@ -61,7 +61,7 @@ abbrev pub progress_text : Progress → List ℕ
 progress_text progress.More = codes "more"
 progress_text progress.Done = codes "done"
 
--- the kinds of damage, as a check tells them
+-- the kinds of damage, as a check reports them
 abbrev pub damage_text : Damage → List ℕ
 damage_text damage.Root = codes "C1"
 damage_text damage.Pointer = codes "C2"

@@ -1,4 +1,4 @@
--- The name tree. A tree is two finite maps: from a number to its node, and from a directory and a name to the number that the name stands for.
+-- The name tree. A tree is two finite maps: from a number to its node, and from a directory and a name to the number that the name denotes.
 use Rattle.std.specs.Prelude.{ℕ, zero, suc, ◌+◌, ◌-◌, Bool, ◌==◌, List, length, Option, None, Some, count_by, if◌then◌else◌}
 use Rattle.std.specs.declared.cmp.Ordering.{Ordering}
 use Rattle.std.specs.Ordering.{nat_cmp, ordering_then}

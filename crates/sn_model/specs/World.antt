@@ -29,7 +29,7 @@ viewed_if found = option_map_or viewed found nothing
 abbrev pub viewed_trees : Trees → ViewedTrees
 viewed_trees trees = record { tree = λ home. viewed_if (tree_in trees home); has_snapshot = λ name. map.contains_key trees.frozen name }
 
--- an open file: its tree and number, what it was opened for, and where it stands
+-- an open file: its tree and number, what it was opened for, and its offset
 pub record Descriptor : Type 0 where
   pub home : Home
   pub number : ℕ

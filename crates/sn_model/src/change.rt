@@ -105,7 +105,7 @@ pub enum Change<'a> {
         offset: u64,
         bytes: Bytes<'a>,
     },
-    /// A file is cut off, or zeros are put behind its end.
+    /// A file is cut off, or zeros are put after its end.
     SetSize {
         number: u16,
         size: u64,

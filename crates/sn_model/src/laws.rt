@@ -58,7 +58,7 @@ pub fn restarts_settle()
     ensures { RestartsSettle }
 {}
 
-/// Whatever happens to a machine, and whatever it meets with, a world follows, or two settled ones that
+/// Whatever happens to a machine, with whatever mishaps, a world follows, or two settled ones that
 /// the next mount may find.
 ///
 /// Proved: The live tree is a name tree over restarts and refusals too, whatever memory and device do.
@@ -145,7 +145,7 @@ pub fn lists_keep_covers()
     ensures { ListsKeepCovers }
 {}
 
-/// A list of changes and one behind it are applied as one list.
+/// A list of changes and one after it are applied as one list.
 pub fn lists_join()
     ensures { ListsJoin }
 {}
@@ -167,7 +167,7 @@ pub fn example_holds()
 {}
 
 /// A call that is refused with EACCES carries a denial of one of its paths: what the path's names up
-/// to that place stand for has an ACL that, by the access check algorithm of acl(5), denies the caller
+/// to that place denote has an ACL that, by the access check algorithm of acl(5), denies the caller
 /// what was wanted, by the entry that the denial names.
 ///
 /// Proved, also of `access_calls_deny_by_rule`: A call that is refused with EACCES carries a denial of one of its paths, and
@@ -176,7 +176,7 @@ pub fn access_is_denied_by_rule()
     ensures { AccessIsDeniedByRule }
 {}
 
-/// umask tells the mask from before, and sets the one that was asked for, and nothing else.
+/// umask answers the mask from before, and sets the one that was asked for, and nothing else.
 ///
 /// Proved: `umask` answers the old mask and sets the new one alone.
 pub fn umask_sets_the_mask()
@@ -239,7 +239,7 @@ pub fn writes_of_nothing_do_nothing()
     ensures { WritesOfNothingDoNothing }
 {}
 
-/// What is written to a file that is open for appending goes to its end, wherever the descriptor stands.
+/// What is written to a file that is open for appending goes to its end, whatever offset the descriptor has.
 ///
 /// Proved, also of `writes_of_nothing_do_nothing`: A write for appending goes to the file's end, and one of no bytes changes
 /// nothing.
@@ -247,7 +247,7 @@ pub fn appends_go_to_the_end()
     ensures { AppendsGoToTheEnd }
 {}
 
-/// readdir tells the names of the directory that the path leads to, each once and in the order of their
+/// readdir answers the names of the directory that the path leads to, each once and in the order of their
 /// bytes, and no others.
 pub fn readdir_lists_the_names()
     ensures { ReaddirListsTheNames }

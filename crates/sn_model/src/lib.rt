@@ -11,13 +11,13 @@
 //! 5. `Settling`: files without names, and what a restart leaves of a world.
 //! 6. `Covers`: what replay makes, against the live tree.
 //! 7. `Tests`: the tests that calls are made of, each of which refuses or hands on what it found.
-//! 8. `Outcomes` and `Calls`: each call as the list of its tests, and what it comes to where all of
-//!    them pass: a charge, a change, what becomes of the session, and what is told. `AccessCalls` has
+//! 8. `Outcomes` and `Calls`: each call as the list of its tests, and its outcome where all of
+//!    them pass: a charge, a change, what becomes of the session, and the reply. `AccessCalls` has
 //!    those that ask for rights and set them, `NameCalls` those on names and listings, `FileCalls` those on
 //!    files and `Descriptors`, `SnapshotCalls` those on snapshots.
 //! 9. `Steps`: what a call may answer and the world that it leaves, while nothing fails.
 //! 10. `Machine`: a mount that runs, or one that a failure has stopped; what it answers to an event and
-//!     the mishap that the event met with; runs, their ends, and lives of many crashes.
+//!     the mishap of the event; runs, their ends, and lives of many crashes.
 //! 11. `Worlds`, `Laws`, `AccessLaws`, `NameLaws`, `FileLaws`, `RestoreLaws`, `ChangeLaws` and `MachineLaws`: what follows from these in
 //!     the subject's own words, each named by the contract of a function of `laws`.
 //! 12. `Example`: the machine on one small world.

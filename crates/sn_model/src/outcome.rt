@@ -62,7 +62,7 @@ pub enum AskedPoint {
     Restores(SnapshotName),
 }
 
-/// What a call comes to once its tests have passed: fields that don't depend on one another.
+/// The outcome of a call once its tests have passed: fields that don't depend on one another.
 #[derive(Drop)]
 pub struct Outcome<'a> {
     /// In blocks.

@@ -92,7 +92,7 @@ impl PathNumber {
 
     pub const SECOND: PathNumber = PathNumber { number: 2 };
 
-    /// 1 or 2, as a denial tells it; 0 where the call has no path.
+    /// 1 or 2, as a denial says it; 0 where the call has no path.
     pub fn get(self) -> u8
         ensures { result ≡ self }
     {
@@ -104,7 +104,7 @@ impl PathNumber {
 #[derive(Clone, Copy, PartialEq, Eq, Hash)]
 pub struct Denial {
     pub path: PathNumber,
-    /// 0 is the root, and i what the first i names of the path stand for.
+    /// 0 is the root, and i what the first i names of the path denote.
     pub place: u16,
     /// The access that was asked, none where the rule is no entry.
     pub want: Access,
@@ -153,7 +153,7 @@ pub struct FileStatus {
 /// How far a step of a consistency point came.
 #[derive(Clone, Copy, PartialEq, Eq, Hash)]
 pub enum Progress {
-    /// The point goes on.
+    /// The point continues.
     More,
     /// What the point froze is durable.
     Done,
@@ -162,7 +162,7 @@ pub enum Progress {
 /// The answer to an event.
 #[derive(Drop)]
 pub enum Reply {
-    /// It is done, and there is nothing to tell.
+    /// It is done, and there is nothing to report.
     Done,
     /// umask(): the mask that was.
     Mode(Mode),

@@ -1,5 +1,5 @@
 -- The outcome of a call over the tree in memory, and in a run of it.
-use Rattle.std.proofs.Common.{◌≡◌, ℕ, Bool, false, List, [], ◌∷◌, Option, Some, None, Result, Ok, Err, refl, sym, ap, subst, ◌∙◌}
+use Rattle.std.proofs.Common.{◌≡◌, ℕ, Bool, false, List, [], ◌∷◌, Option, Some, None, Result, Ok, Err, refl, sym, ap, subst, ◌∙◌, inl, inr}
 use Rattle.std.specs.Prelude.{IsOk}
 use Rattle.sn_limits.specs.Versions.{limits_written}
 use Rattle.sn_model.specs.declared.call.Call.{Call}
@@ -81,22 +81,22 @@ machine_run old new (e ∷ events) (r ∷ replies) run = (Running run.0.world, r
 
 -- what the machine says of a call that was answered, or refused, or found no memory
 pub answered_step : (old new : Numbered) (session : ℕ) (c : Call) (reply : Reply) → IsServed old.world old.kept session c reply new.world new.kept → PlainStep old (event.Call session c) reply new
-answered_step old new session c reply h = record { step = (None, tt, record { next = new.world; becomes = h.0; runs = refl }); numbers = h.1 }
+answered_step old new session c reply h = record { step = (None, inl refl, new.world, h.0, refl); numbers = h.1 }
 
 pub refused_step : (old new : Numbered) (session : ℕ) (c : Call) (refusal : Refusal) → decision limits_written old.world session c ≡ Err refusal → new.world ≡ old.world → new.kept ≡ old.kept → PlainStep old (event.Call session c) (Refused refusal) new
 refused_step old new session c refusal e same none = record {
-  step = (None, tt, record { next = new.world; becomes = subst (λ (d : Result Outcome Refusal). Becomes limits_written old.world session d (Refused refusal) new.world) (sym e) (refl, same); runs = refl });
+  step = (None, inl refl, new.world, subst (λ (d : Result Outcome Refusal). Becomes limits_written old.world session d (Refused refusal) new.world) (sym e) (refl, same), refl);
   numbers = same_numbers session c old.world new.world old.kept new.kept same none;
 }
 
 pub memory_step : (old new : Numbered) (session : ℕ) (c : Call) → TakesMemory c → IsOk (ready old.world session c) → new.world ≡ old.world → new.kept ≡ old.kept → PlainStep old (event.Call session c) (Refused (plain Enomem)) new
 memory_step old new session c takes passed same none = record {
-  step = (Some Memory, tt, ((takes, passed), record { told = refl; same = ap (λ (w : World). Running w) same }));
+  step = (Some Memory, inr refl, ((takes, passed), record { told = refl; same = ap (λ (w : World). Running w) same }));
   numbers = same_numbers session c old.world new.world old.kept new.kept same none;
 }
 
 pub restart_step : (old new : Numbered) → new.world ≡ settle old.world → ((n : ℕ) → new.kept n ≡ false) → PlainStep old event.Restart Done new
-restart_step old new settled none = record { step = (None, tt, (refl, ap (λ (w : World). Running w) settled)); numbers = restart_numbers old.world new.world old.kept new.kept settled none }
+restart_step old new settled none = record { step = (None, inl refl, (refl, ap (λ (w : World). Running w) settled)); numbers = restart_numbers old.world new.world old.kept new.kept settled none }
 
 -- a change that was tried leaves a name tree
 pub applied_tree : (result : Result (Unit {0}) ApplyError) (change : Change) (old new : Tree) → IsTree limits_written old → Applies result (apply limits_written change old) old new → IsTree limits_written new

@@ -67,15 +67,15 @@ never_stops : (world : World) (new : State) → new ≡ Running world → HasSto
 never_stops world new runs stopped = subst HasStopped runs stopped
 
 unmounted_for : (s : State) (before after : World) (m : Mishap) (reply : Reply) (new : State) → IsUnmounted before after m reply new → Stops s (Some m) reply
-unmounted_for s before after Memory reply new h = let is : mount.Memory ≡ h.fault = cc h.is in inr (inl (h.told ∙ ap answer.Unmounted (sym is)))
+unmounted_for s before after Memory reply new h = let is : mount.Memory ≡ h.0 = cc h.1 in inr (inl (h.2 ∙ ap answer.Unmounted (sym is)))
 unmounted_for s before after Read reply new h = inl tt
 unmounted_for s before after Write reply new h = inl tt
-unmounted_for s before after Space reply new h = absurd (cc h.is)
-unmounted_for s before after Age reply new h = absurd (cc h.is)
+unmounted_for s before after Space reply new h = absurd (cc h.1)
+unmounted_for s before after Age reply new h = absurd (cc h.1)
 
 stops_for : (s : State) (e : Event) (met : Option Mishap) (reply : Reply) (new : State) → EventStep limits_written s e met reply new → HasStopped new → Stops s met reply
 stops_for (Stopped before after) e met reply new step stopped = inr (inr tt)
-stops_for (Running old) (event.Call session c) None reply new step stopped = absurd (never_stops step.next new step.runs stopped)
+stops_for (Running old) (event.Call session c) None reply new step stopped = absurd (never_stops step.0 new step.2 stopped)
 stops_for (Running old) (event.Call session c) (Some Memory) reply new step stopped = absurd (never_stops old new step.1.same stopped)
 stops_for (Running old) (event.Call session c) (Some Read) reply new step stopped = inl tt
 stops_for (Running old) (event.Call session c) (Some Write) reply new step stopped = inl tt
@@ -162,11 +162,11 @@ module _ (events : List Event) (replies : List Reply) (disk last_disk : Disk) (s
       from (inl ended) = inl (later-ended h.status last_status later ended)
       from (inr (inl never)) = absurd never
       from (inr (inr none)) = inr (inl none)
-  cause_of (Running w) h fin mid None ends may failed later stops = absurd (ends.ends.0 ends.unmounts)
-  cause_of (Running w) h fin mid (Some Memory) ends may failed later stops = absurd (ends.ends.1 ends.unmounts)
+  cause_of (Running w) h fin mid None ends may failed later stops = absurd (ends.2.0 ends.1)
+  cause_of (Running w) h fin mid (Some Memory) ends may failed later stops = absurd (ends.2.1 ends.1)
   cause_of (Running w) h fin mid (Some Read) ends may failed later stops = inl (uncounted_end fin.status last_status failed may)
   cause_of (Running w) h fin mid (Some Write) ends may failed later stops = inl (uncounted_end fin.status last_status failed may)
-  cause_of (Running w) h fin mid (Some Space) ends may failed later stops = absurd ends.unmounts
+  cause_of (Running w) h fin mid (Some Space) ends may failed later stops = absurd ends.1
   cause_of (Running w) h fin mid (Some Age) ends may failed later stops = inr (inr refl)
 
   served_cause : (s : Served events replies ending.Stopped disk status last_disk last_status) (world : World) (image : IsImage (reads disk) world) → IsTrue (has_ended last_status) ⊎ HasNoMemory replies ⊎ ((s.served world image).ended.met ≡ Some Age)

@@ -13,7 +13,7 @@ use Rattle.sn_model.specs.declared.outcome.Outcome.{Outcome}
 use Rattle.sn_model.specs.declared.reply.Refusal.{Refusal}
 use Rattle.sn_model.specs.declared.reply.Reply.{Reply}
 use Rattle.sn_model.specs.Machine as machine
-use Rattle.sn_model.specs.Machine.{State, Running, Stopped, Mishap, Anything, CallStep, CutRun, EventStep, IsAnswered, IsCutOff, IsRefused, IsStopped, Left, LeftIn, MountStep, PointFails, RestartStep, Run, RunBy, StepOf}
+use Rattle.sn_model.specs.Machine.{State, Running, Stopped, Mishap, Anything, CallStep, CutRun, EventStep, IsCutOff, IsRefused, IsStopped, Left, LeftIn, PointFails, Run, RunBy, StepOf}
 use Rattle.sn_model.specs.Settling.{settle, settled}
 use Rattle.sn_model.specs.Steps.{Becomes}
 use Rattle.sn_model.specs.Tree.{Tree}
@@ -38,7 +38,7 @@ refused_settled : (old : World) (m : Mishap) (reply : Reply) (next : State) → 
 refused_settled old m reply next h = subst AreSettled (sym h.same) tt
 
 call_settled : (old : World) (session : ℕ) (c : Call) (met : Option Mishap) (reply : Reply) (next : State) → CallStep limits_written old session c met reply next → AreSettled next
-call_settled old session c None reply next h = subst AreSettled (sym h.runs) tt
+call_settled old session c None reply next h = subst AreSettled (sym h.2) tt
 call_settled old session c (Some machine.Write) reply next h = stopped_settled old h.next reply next h.stops
 call_settled old session c (Some machine.Memory) reply next h = refused_settled old machine.Memory reply next h.1
 call_settled old session c (Some machine.Read) reply next h = refused_settled old machine.Read reply next h.1
@@ -58,14 +58,14 @@ step_settled (Running old) event.Step None reply next here h = subst AreSettled 
 step_settled (Running old) event.Step (Some m) reply next here h = fails_settled old m reply next h
 step_settled (Running old) event.Restart None reply next here h = subst AreSettled (sym h.1) tt
 step_settled (Running old) event.Restart (Some m) reply next here (inl h) = fails_settled old m reply next h
-step_settled (Running old) event.Restart (Some m) reply next here (inr h) = subst AreSettled (sym h.left) (settles_twice old, settles_twice old)
+step_settled (Running old) event.Restart (Some m) reply next here (inr h) = subst AreSettled (sym h.3) (settles_twice old, settles_twice old)
 step_settled (Stopped before after) (event.Call session c) None reply next here h = subst AreSettled (sym h.1) here
 step_settled (Stopped before after) (event.Call session c) (Some m) reply next here h = absurd h
 step_settled (Stopped before after) event.Step None reply next here h = subst AreSettled (sym h.1) here
 step_settled (Stopped before after) event.Step (Some m) reply next here h = absurd h
 step_settled (Stopped before after) event.Restart None reply next here (told, inl h) = subst AreSettled (sym h) tt
 step_settled (Stopped before after) event.Restart None reply next here (told, inr h) = subst AreSettled (sym h) tt
-step_settled (Stopped before after) event.Restart (Some m) reply next here h = subst AreSettled (sym h.left) here
+step_settled (Stopped before after) event.Restart (Some m) reply next here h = subst AreSettled (sym h.3) here
 
 -- ---- one event
 
@@ -104,9 +104,9 @@ shown_stopped old next e c same h = told (subst (λ (x : State). ShowsState x c)
     told (inr k) = left_now (Running old) e c (settle old, k, refl)
 
 -- after a call that was answered
-after_answer : (old : World) (session : ℕ) (x : Call) (reply : Reply) (next : State) (c : Contents) → IsAnswered limits_written old session x reply next → ShowsState next c → ShowsLeft (Running old) (event.Call session x) c
+after_answer : (old : World) (session : ℕ) (x : Call) (reply : Reply) (next : State) (c : Contents) → CallStep limits_written old session x None reply next → ShowsState next c → ShowsLeft (Running old) (event.Call session x) c
 after_answer old session x reply next c h shows =
-    (settle h.next, subst (λ (s : State). ShowsState s c) h.runs shows, inr (record { reply = reply; next = h.next; becomes = h.becomes; left = refl }))
+    (settle h.0, subst (λ (s : State). ShowsState s c) h.2 shows, inr (reply, h.0, h.1, refl))
 
 -- and one that was cut off
 after_cut : (old : World) (session : ℕ) (x : Call) (reply : Reply) (next : State) (c : Contents) → IsCutOff limits_written old session x reply next → ShowsState next c → ShowsLeft (Running old) (event.Call session x) c
@@ -117,12 +117,12 @@ after_cut old session x reply next c h shows = told (subst (λ (s : State). Show
     told (inr k) = (
       settle h.next,
       k,
-      inr (record {
-        reply = h.outcome.told;
-        next = h.next;
-        becomes = subst (λ (d : Result Outcome Refusal). Becomes limits_written old session d h.outcome.told h.next) (sym h.decided) (refl, h.comes);
-        left = refl;
-      }),
+      inr (
+        h.passes.0.told,
+        h.next,
+        subst (λ (d : Result Outcome Refusal). Becomes limits_written old session d h.passes.0.told h.next) (sym h.passes.1) (refl, h.comes),
+        refl,
+      ),
     )
 
 after_call : (old : World) (session : ℕ) (x : Call) (met : Option Mishap) (reply : Reply) (next : State) (c : Contents) → CallStep limits_written old session x met reply next → ShowsState next c → ShowsLeft (Running old) (event.Call session x) c
@@ -140,16 +140,16 @@ after_failing old e machine.Memory reply next c h shows = shown_same (Running ol
 after_failing old e machine.Read reply next c h shows = shown_same (Running old) next e c h.same shows
 after_failing old e machine.Age reply next c h shows = shown_same (Running old) next e c h.same shows
 
-after_restart : (old : World) (met : Option Mishap) (reply : Reply) (next : State) (c : Contents) → RestartStep old met reply next → ShowsState next c → ShowsLeft (Running old) event.Restart c
+after_restart : (old : World) (met : Option Mishap) (reply : Reply) (next : State) (c : Contents) → EventStep limits_written (Running old) event.Restart met reply next → ShowsState next c → ShowsLeft (Running old) event.Restart c
 after_restart old None reply next c h shows =
     (settle old, subst (IsImage c) (settles_twice old) (subst (λ (s : State). ShowsState s c) h.1 shows), refl)
 after_restart old (Some m) reply next c (inl h) shows = after_failing old event.Restart m reply next c h shows
-after_restart old (Some m) reply next c (inr h) shows = shown_stopped old next event.Restart c h.left shows
+after_restart old (Some m) reply next c (inr h) shows = shown_stopped old next event.Restart c h.3 shows
 
-after_mount : (before after : World) (met : Option Mishap) (reply : Reply) (next : State) (c : Contents) → AreSettled (Stopped before after) → MountStep before after met reply next → ShowsState next c → ShowsLeft (Stopped before after) event.Restart c
+after_mount : (before after : World) (met : Option Mishap) (reply : Reply) (next : State) (c : Contents) → AreSettled (Stopped before after) → EventStep limits_written (Stopped before after) event.Restart met reply next → ShowsState next c → ShowsLeft (Stopped before after) event.Restart c
 after_mount before after None reply next c here (told, inl h) shows = (before, subst (IsImage c) here.0 (subst (λ (s : State). ShowsState s c) h shows), inl refl)
 after_mount before after None reply next c here (told, inr h) shows = (after, subst (IsImage c) here.1 (subst (λ (s : State). ShowsState s c) h shows), inr refl)
-after_mount before after (Some m) reply next c here h shows = shown_same (Stopped before after) next event.Restart c h.left shows
+after_mount before after (Some m) reply next c here h shows = shown_same (Stopped before after) next event.Restart c h.3 shows
 
 after_event : (s : State) (e : Event) (met : Option Mishap) (reply : Reply) (next : State) (c : Contents) → AreSettled s → EventStep limits_written s e met reply next → ShowsState next c → ShowsLeft s e c
 after_event (Running old) (event.Call session x) met reply next c here h shows = after_call old session x met reply next c h shows

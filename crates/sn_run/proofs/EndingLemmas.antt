@@ -78,7 +78,7 @@ pub ends_stopped : (last : Held) → EndsSo ending.Stopped last true last.disk l
 ends_stopped last (Running w) m = absurd (true≢false m.0)
 ends_stopped last (Stopped before after) m = record {
   met = None;
-  ends = record { reply = refused Estopped; unmounts = refl; ends = (done_is_refused Estopped, is_memory Estopped (λ e. cc e)) };
+  ends = (refused Estopped, refl, (done_is_refused Estopped, is_memory Estopped (λ e. cc e)));
   fin = last;
   finish = inl refl;
   mid = last;
@@ -106,7 +106,7 @@ ends_clean last disk status unmounts = in_its_world last ending.Clean disk statu
         let made : HasMadeLast u.fin u.mid = made_point (settle u.fin.world) (BuildsLast u.fin) u.fin u.mid p in
         let over : IsEnded (Running u.fin.world) u.fin ending.Clean u.mid.disk u.mid.status = record {
           met = None;
-          ends = record { reply = answer.Done; unmounts = refl; ends = refl };
+          ends = (answer.Done, refl, refl);
           fin = u.fin;
           finish = inl refl;
           mid = u.mid;
@@ -128,7 +128,7 @@ ends_cut_off : (last new : Held) → MayMeet last last event.Restart (Some Write
     → IsLater last.status new.status → IsCutLast last new.disk new.status → IsEnded (Running last.world) last ending.Stopped new.disk new.status
 ends_cut_off last new may moments later costs = record {
   met = Some Write;
-  ends = record { reply = refused Eio; unmounts = refl; ends = (done_is_refused Eio, is_memory Eio (λ e. cc e)) };
+  ends = (refused Eio, refl, (done_is_refused Eio, is_memory Eio (λ e. cc e)));
   fin = last;
   finish = inl refl;
   mid = last;
@@ -151,7 +151,7 @@ module _ (last : Held) (r : RunsReady last last.world last.base) where
   ends_refused : (fault : PointFault) (new : Held) → IsUnpointedLast fault last new → IsEnded (Running last.world) last (end_for (errno_of_point fault)) new.disk new.status
   ends_refused point.Memory new is = subst (λ (h : Held). IsEnded (Running last.world) last ending.Memory h.disk h.status) (sym is) (record {
     met = Some Memory;
-    ends = record { reply = refused Enomem; unmounts = refl; ends = refl };
+    ends = (refused Enomem, refl, refl);
     fin = last;
     finish = inl refl;
     mid = last;
@@ -166,7 +166,7 @@ module _ (last : Held) (r : RunsReady last last.world last.base) where
   })
   ends_refused point.Age new is = subst (λ (h : Held). IsEnded (Running last.world) last ending.Stopped h.disk h.status) (sym is.0) (record {
     met = Some Age;
-    ends = record { reply = refused Elimit; unmounts = refl; ends = (done_is_refused Elimit, is_memory Elimit (λ e. cc e)) };
+    ends = (refused Elimit, refl, (done_is_refused Elimit, is_memory Elimit (λ e. cc e)));
     fin = last;
     finish = inl refl;
     mid = last;
@@ -183,7 +183,7 @@ module _ (last : Held) (r : RunsReady last last.world last.base) where
       let told = fails_read last.status new.status is.1 in
       subst (λ (d : Disk). IsEnded (Running last.world) last ending.Stopped d new.status) (sym (ap (λ (h : Held). h.disk) is.0)) (record {
         met = Some Read;
-        ends = record { reply = refused Eio; unmounts = refl; ends = (done_is_refused Eio, is_memory Eio (λ e. cc e)) };
+        ends = (refused Eio, refl, (done_is_refused Eio, is_memory Eio (λ e. cc e)));
         fin = last;
         finish = inl refl;
         mid = last;

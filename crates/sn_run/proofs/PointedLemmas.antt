@@ -57,7 +57,7 @@ module _ (old new : Held) (had has : Bool) (session : ℕ) (c : Call) (asks : As
   leaves_all (Running w) None state fin mid f p step m n l = told l
     where
       d : (o : Outcome) × (decision limits_written w session c ≡ Ok o)
-      d = done_so w session (decision limits_written w session c) step.next step.becomes
+      d = done_so w session (decision limits_written w session c) step.0 step.1
 
       asked : AsksFirst mid session c
       asked = record { asks = asks; outcome = d.0; decided = subst (λ (x : World). decision limits_written x session c ≡ Ok d.0) (sym (world_behind w fin mid p ∙ world_there w fin f m.1)) d.1 }
@@ -65,9 +65,9 @@ module _ (old new : Held) (had has : Bool) (session : ℕ) (c : Call) (asks : As
       told : HasPointed session c mid new ⊎ HasServed session c mid new → Always new.disk (IsInItsRoot new.world.live (settle new.world))
       told (inl pointed) =
           let fresh = pointed.made.fresh in
-          let runs : Means new has (Running step.next) = subst (Means new has) step.runs n in
-          let ready : RunsReady new step.next new.base = subst (λ (p : Option Going). RunsWith p new step.next) fresh.between runs.1 in
-          subst (λ (x : World). Always new.disk (IsInItsRoot x.live (settle x))) (sym ready.runs.is) (in_its_root new step.next ready fresh)
+          let runs : Means new has (Running step.0) = subst (Means new has) step.2 n in
+          let ready : RunsReady new step.0 new.base = subst (λ (p : Option Going). RunsWith p new step.0) fresh.between runs.1 in
+          subst (λ (x : World). Always new.disk (IsInItsRoot x.live (settle x))) (sym ready.runs.is) (in_its_root new step.0 ready fresh)
       told (inr served) = absurd (served.alone asked)
   leaves_all (Running w) (Some Memory) state fin mid f p step m n l = absurd (done_is_refused Enomem step.1.told)
   leaves_all (Running w) (Some Read) state fin mid f p step m n l = absurd (done_is_refused Eio step.1.told)

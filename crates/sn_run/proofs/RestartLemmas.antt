@@ -215,7 +215,7 @@ module _ (old new : Held) (f : MountFault) (disk : IsWholeDisk old.status old.di
             point = inl refl;
             may = met.2;
             next = Stopped before after;
-            step = record { fault = f; is = met.1; told = refl; left = refl };
+            step = (f, met.1, refl, refl);
             means = (refl, LeavesOnly-now old.disk new.disk (λ c. ShowsState (Stopped before after) c) all);
             lasts = record {
               moments = LeavesOnly-weaker old.disk new.disk (λ c. ShowsState (Stopped before after) c) (λ c. ShowsState (Stopped before after) c ⊎ ShowsState (Stopped before after) c) (λ c h. inr h) all;
@@ -250,7 +250,7 @@ module _ (old mid new : Held) (disk : IsWholeDisk mid.status mid.disk) (p : IsPo
         point = inr made;
         may = met.2;
         next = next;
-        step = inr (record { fault = f; is = met.1; told = refl; left = refl });
+        step = inr (f, met.1, refl, refl);
         means = (refl, LeavesOnly-now mid.disk new.disk (λ c. ShowsState next c) all);
         lasts = record {
           moments = LeavesOnly-join old.disk mid.disk new.disk P

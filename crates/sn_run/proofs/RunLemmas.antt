@@ -103,13 +103,7 @@ module _ (events : List Event) (replies : List Reply) (disk last_disk : Disk) (s
   served_run end s =
       let it = s.served world image in
       record {
-        run = inr (inr (record {
-          last = it.last.state;
-          run = machine_run (start world s.mounted) it.last events replies it.run;
-          met = it.ended.met;
-          may = tt;
-          ends = it.ended.ends;
-        }));
+        run = inr (inr (it.last.state, machine_run (start world s.mounted) it.last events replies it.run, it.ended.met, tt, it.ended.ends));
         crash = inr (served_leaves end s.mounted it);
       }
 
@@ -131,7 +125,7 @@ module _ (events : List Event) (replies : List Reply) (disk last_disk : Disk) (s
   unserved_run f n =
       let met = met_with f (reads disk) world status.sectors (device_alone disk status) (device_alone last_disk last_status) image device n.left.cause n.failed in
       record {
-        run = inr (inl (record { met = met.0; may = tt; fault = f; is = met.1; none = n.none; ends = refl }));
+        run = inr (inl (met.0, f, tt, met.1, n.none, refl));
         crash = left_so n.none (n.left.keeps world image);
       }
 
@@ -140,7 +134,7 @@ module _ (events : List Event) (replies : List Reply) (disk last_disk : Disk) (s
   is_run ending.Stopped h = served_run ending.Stopped h
   is_run ending.Memory (inr s) = served_run ending.Memory s
   is_run ending.Memory (inl h) = record {
-    run = inl (record { may = tt; none = h.none; ends = refl });
+    run = inl (tt, h.none, refl);
     crash = inl (record { none = h.none; touches = subst (λ (d : Disk). Touches Nowhere disk d) (sym h.left) (Touches-start Nowhere disk) });
   }
   is_run (ending.Mount f) h = unserved_run f h
@@ -156,7 +150,7 @@ module _ (events : List Event) (replies : List Reply) (disk last_disk : Disk) (s
   is_unfit ending.Clean h = absurd (never_served ending.Clean h)
   is_unfit ending.Stopped h = absurd (never_served ending.Stopped h)
   is_unfit ending.Memory (inr s) = absurd (never_served ending.Memory s)
-  is_unfit ending.Memory (inl h) = inl (record { may = tt; none = h.none; ends = refl })
+  is_unfit ending.Memory (inl h) = inl (tt, h.none, refl)
   is_unfit (ending.Mount g) h = inr (unfit_fault f g status.sectors (reads disk) events replies h.none lacks h.left.cause)
 
 -- ---- lives

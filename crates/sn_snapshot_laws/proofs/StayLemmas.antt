@@ -17,7 +17,7 @@ use Rattle.sn_model.specs.declared.reply.Reply.{Reply}
 use Rattle.sn_model.specs.Calls as calls
 use Rattle.sn_model.proofs.Deciding as deciding
 use Rattle.sn_model.specs.Calls.{outcome_of, ready}
-use Rattle.sn_model.specs.Machine.{State, Running, Stopped, Mishap, Memory, Read, Write, Space, Age, Anything, CallStep, CutRun, EventStep, Left, LeftIn, Life, MountStep, PointFails, PointStep, RestartStep, Run}
+use Rattle.sn_model.specs.Machine.{State, Running, Stopped, Mishap, Memory, Read, Write, Space, Age, Anything, CallStep, CutRun, EventStep, Left, LeftIn, Life, PointFails, Run}
 use Rattle.sn_model.specs.declared.outcome.AskedPoint.{AskedPoint}
 use Rattle.sn_model.specs.declared.outcome.AskedPoint.TheVariants.{Unasked, Plain, Freezes, Thaws, Restores}
 use Rattle.sn_model.specs.declared.outcome.Caller.{Caller}
@@ -166,10 +166,10 @@ module _ (name : List ℕ) (tree : Tree) where
   to_stopped s before after is first last = subst (HasFrozen name tree) (sym is) (first, last)
 
   call_keeps : (limits : Limits) (old : World) (session : ℕ) (c : Call) (met : Option Mishap) (reply : Reply) (next : State) → Spares name (event.Call session c) → HasTree name tree old → CallStep limits old session c met reply next → HasFrozen name tree next
-  call_keeps limits old session c None reply next spares has step = to_running next step.next step.runs (becomes_keep limits old session c (decision limits old session c) reply step.next spares has refl step.becomes)
+  call_keeps limits old session c None reply next spares has step = to_running next step.0 step.2 (becomes_keep limits old session c (decision limits old session c) reply step.0 spares has refl step.1)
   call_keeps limits old session c (Some Memory) reply next spares has step = to_running next old step.1.same has
   call_keeps limits old session c (Some Read) reply next spares has step = to_running next old step.1.same has
-  call_keeps limits old session c (Some Write) reply next spares has step = to_stopped next (settle old) (settle step.next) step.stops.left has (comes_keep limits old session c step.outcome step.next spares has step.decided step.comes)
+  call_keeps limits old session c (Some Write) reply next spares has step = to_stopped next (settle old) (settle step.next) step.stops.left has (comes_keep limits old session c step.passes.0 step.next spares has step.passes.1 step.comes)
   call_keeps limits old session c (Some Space) reply next spares has step = to_running next old step.1.same has
   call_keeps limits old session c (Some Age) reply next spares has step = to_running next old step.1.same has
 
@@ -180,29 +180,29 @@ module _ (name : List ℕ) (tree : Tree) where
   fails_keep old Space reply next has step = absurd step
   fails_keep old Age reply next has step = to_running next old step.same has
 
-  point_step_keeps : (old : World) (met : Option Mishap) (reply : Reply) (next : State) → HasTree name tree old → PointStep old met reply next → HasFrozen name tree next
-  point_step_keeps old None reply next has step = to_running next old step.1 has
-  point_step_keeps old (Some m) reply next has step = fails_keep old m reply next has step
+  point_step_keeps : (limits : Limits) (old : World) (met : Option Mishap) (reply : Reply) (next : State) → HasTree name tree old → EventStep limits (Running old) event.Step met reply next → HasFrozen name tree next
+  point_step_keeps limits old None reply next has step = to_running next old step.1 has
+  point_step_keeps limits old (Some m) reply next has step = fails_keep old m reply next has step
 
-  restart_keeps : (old : World) (met : Option Mishap) (reply : Reply) (next : State) → HasTree name tree old → RestartStep old met reply next → HasFrozen name tree next
-  restart_keeps old None reply next has step = to_running next (settle old) step.1 has
-  restart_keeps old (Some m) reply next has (inl step) = fails_keep old m reply next has step
-  restart_keeps old (Some m) reply next has (inr step) = to_stopped next (settle old) (settle old) step.left has has
+  restart_keeps : (limits : Limits) (old : World) (met : Option Mishap) (reply : Reply) (next : State) → HasTree name tree old → EventStep limits (Running old) event.Restart met reply next → HasFrozen name tree next
+  restart_keeps limits old None reply next has step = to_running next (settle old) step.1 has
+  restart_keeps limits old (Some m) reply next has (inl step) = fails_keep old m reply next has step
+  restart_keeps limits old (Some m) reply next has (inr step) = to_stopped next (settle old) (settle old) step.3 has has
 
-  mount_keeps : (before after : World) (met : Option Mishap) (reply : Reply) (next : State) → HasTree name tree before → HasTree name tree after → MountStep before after met reply next → HasFrozen name tree next
-  mount_keeps before after None reply next first last (told, inl is) = to_running next before is first
-  mount_keeps before after None reply next first last (told, inr is) = to_running next after is last
-  mount_keeps before after (Some m) reply next first last step = to_stopped next before after step.left first last
+  mount_keeps : (limits : Limits) (before after : World) (met : Option Mishap) (reply : Reply) (next : State) → HasTree name tree before → HasTree name tree after → EventStep limits (Stopped before after) event.Restart met reply next → HasFrozen name tree next
+  mount_keeps limits before after None reply next first last (told, inl is) = to_running next before is first
+  mount_keeps limits before after None reply next first last (told, inr is) = to_running next after is last
+  mount_keeps limits before after (Some m) reply next first last step = to_stopped next before after step.3 first last
 
   event_keeps : (limits : Limits) (s : State) (e : Event) (met : Option Mishap) (reply : Reply) (next : State) → Spares name e → HasFrozen name tree s → EventStep limits s e met reply next → HasFrozen name tree next
   event_keeps limits (Running old) (event.Call session c) met reply next spares has step = call_keeps limits old session c met reply next spares has step
-  event_keeps limits (Running old) event.Step met reply next spares has step = point_step_keeps old met reply next has step
-  event_keeps limits (Running old) event.Restart met reply next spares has step = restart_keeps old met reply next has step
+  event_keeps limits (Running old) event.Step met reply next spares has step = point_step_keeps limits old met reply next has step
+  event_keeps limits (Running old) event.Restart met reply next spares has step = restart_keeps limits old met reply next has step
   event_keeps limits (Stopped before after) (event.Call session c) None reply next spares has step = to_stopped next before after step.1 has.0 has.1
   event_keeps limits (Stopped before after) (event.Call session c) (Some m) reply next spares has step = absurd step
   event_keeps limits (Stopped before after) event.Step None reply next spares has step = to_stopped next before after step.1 has.0 has.1
   event_keeps limits (Stopped before after) event.Step (Some m) reply next spares has step = absurd step
-  event_keeps limits (Stopped before after) event.Restart met reply next spares has step = mount_keeps before after met reply next has.0 has.1 step
+  event_keeps limits (Stopped before after) event.Restart met reply next spares has step = mount_keeps limits before after met reply next has.0 has.1 step
 
   -- ---- runs
 
@@ -221,7 +221,7 @@ module _ (name : List ℕ) (tree : Tree) where
   left_in_keeps : (limits : Limits) (s : State) (e : Event) (w : World) → Spares name e → HasFrozen name tree s → LeftIn limits s e w → HasTree name tree w
   left_in_keeps limits (Running old) (event.Call session c) w spares has (inl left) = left_keeps (Running old) w has left
   left_in_keeps limits (Running old) (event.Call session c) w spares has (inr after) =
-      subst (HasTree name tree) (sym after.left) (becomes_keep limits old session c (decision limits old session c) after.reply after.next spares has refl after.becomes)
+      subst (HasTree name tree) (sym after.3) (becomes_keep limits old session c (decision limits old session c) after.0 after.1 spares has refl after.2)
   left_in_keeps limits (Running old) event.Step w spares has left = left_keeps (Running old) w has left
   left_in_keeps limits (Running old) event.Restart w spares has left = left_keeps (Running old) w has left
   left_in_keeps limits (Stopped before after) e w spares has left = left_keeps (Stopped before after) w has left

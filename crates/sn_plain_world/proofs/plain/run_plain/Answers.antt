@@ -1,4 +1,4 @@
-use Rattle.std.proofs.Common.{◌≡◌, ℕ, false, List, None, refl, inr, subst}
+use Rattle.std.proofs.Common.{◌≡◌, ℕ, false, List, None, refl, inl, inr, subst}
 use Rattle.sn_model.specs.declared.call.Event.{Event}
 use Rattle.sn_model.specs.declared.reply.Reply.{Reply}
 use Rattle.sn_model.specs.declared.reply.Reply.TheVariants.{Done}
@@ -15,7 +15,7 @@ from_new first last events replies world kept run = subst (λ (w : Numbered). Pl
 pub returns-clause-run : goal.returns-clause-run
 returns-clause-run c =
     let run = from_new _ (numbered_of c.answer.new.world) c.args.events.now c.answer.new.replies.items c.in-Ok-new.ensures.world c.in-Ok-new.ensures.kept c.answer.ensures in
-    inr (inr (record { last = Running (world_of c.answer.new.world); run = machine_run _ _ _ _ run; met = None; may = tt; ends = record { reply = Done; unmounts = refl; ends = refl } }))
+    inr (inr (Running (world_of c.answer.new.world), machine_run _ _ _ _ run, None, inl refl, Done, refl, refl))
 
 pub returns-clause-numbers : goal.returns-clause-numbers
 returns-clause-numbers c = λ _.
