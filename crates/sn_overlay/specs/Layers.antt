@@ -29,15 +29,18 @@ hides_names None = false
 hides_names (Some (Gone by_close)) = true
 hides_names (Some (Changed state)) = state.fresh
 
--- and the blocks, as a cut does with those behind it
+-- a file made anew hides the blocks that its number had, as a cut does with those after it
+abbrev pub is_hidden : NodeState → ℕ → Bool
+is_hidden state index = state.fresh || nat_le state.cut (index * 4096)
+
 abbrev pub hides_block : Option NodeChange → ℕ → Bool
 hides_block None index = false
 hides_block (Some (Gone by_close)) index = true
-hides_block (Some (Changed state)) index = state.fresh || nat_le state.cut (index * 4096)
+hides_block (Some (Changed state)) index = is_hidden state index
 
 -- the block of a changed file: the layer's, or zeros where what is below is hidden, or what is below
 abbrev pub block_seen : Layer → ℕ → NodeState → List ℕ → ℕ → List ℕ
-block_seen layer number state below index = unwrap_or (map.get layer.blocks (file_block_at number index)) (if hides_block (Some (Changed state)) index then zeros 4096 else piece 4096 below index)
+block_seen layer number state below index = unwrap_or (map.get layer.blocks (file_block_at number index)) (if is_hidden state index then zeros 4096 else piece 4096 below index)
 
 abbrev pub node_seen : Layer → ℕ → Option NodeChange → Option Node → Option Node
 node_seen layer number None below = below
