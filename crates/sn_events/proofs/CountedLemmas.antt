@@ -203,7 +203,7 @@ module _ (old new : Held) where
   left_costs w None reply state step l = stepped_costs reply l
   left_costs w (Some Memory) reply state step l = idle l
   left_costs w (Some Read) reply state step l = read_idle old.status new.status l.1
-  left_costs w (Some Write) reply state step l = l.costs
+  left_costs w (Some Write) reply state step l = l.1
   left_costs w (Some Space) reply state step l = absurd step
   left_costs w (Some Age) reply state step l = idle l
 

@@ -154,7 +154,7 @@ cut_step old new cut =
         answered = now;
       };
       later = cut.later;
-      leaves = record { touched = cut.touched; costs = cut.costs };
+      leaves = (cut.touched, cut.costs);
     }
 
 unmade_step : (old new : Held) (fault : PointFault) → RunsWith old.point old old.world → IsUnbegun fault old new → AnswersFrom (Running old.world) event.Step (refused (errno_of_point fault)) old new (stops_for fault)

@@ -357,14 +357,10 @@ pub record HasStepped (reply : Reply) (old new : Held) : Type 0 where
   pub touched : Touches (IsBesideRoot old) old.disk new.disk
   pub told : ((reply ≡ answer.Progress progress.More) × (HasBegun old new ⊎ HasGoneOn old new)) ⊎ ((reply ≡ answer.Progress progress.Done) × HasEnded old new)
 
--- one that was cut off, of at most eight writes and a sync
-pub record IsStepCut (old : Held) (disk : Disk) (status : Status) : Type 0 where
-  pub touched : Touches (IsBesideRoot old) old.disk disk
-  pub costs : CostsAtMost 8 1 old.status status
-
+-- one that was cut off wrote there too, with at most eight writes and a sync
 abbrev pub LeavesStep : Held → Option Mishap → Reply → Held → Type 0
 LeavesStep old None reply new = HasStepped reply old new
-LeavesStep old (Some Write) reply new = IsStepCut old new.disk new.status
+LeavesStep old (Some Write) reply new = Touches (IsBesideRoot old) old.disk new.disk × CostsAtMost 8 1 old.status new.status
 LeavesStep old (Some m) reply new = IsUnchanged m old new
 
 -- how many steps a point in progress has left
