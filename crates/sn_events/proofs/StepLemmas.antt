@@ -92,7 +92,7 @@ ended_step old new f last =
       means = (refl, runs);
       lasts = goes_on_lasting old new f.moments runs;
       later = later-is _ _ old.status new.status f.finished.costs;
-      leaves = record { touched = f.finished.touched; told = inr (refl, record { finished = f.finished; last = last }) };
+      leaves = record { touched = f.finished.touched; told = inr (refl, (f.finished, last)) };
     }
 
 -- it was refused, and nothing has changed

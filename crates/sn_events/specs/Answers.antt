@@ -346,16 +346,12 @@ pub record HasGoneOn (old new : Held) : Type 0 where
   pub held : new ≡ record old { point = Some (record going { stage = next_stage going.work going.stage }); disk = new.disk; status = new.status }
   pub costs : new.status ≡ called (writes_in_step going.work going.stage) (syncs_of going.work going.stage) old.status
 
--- The last one has finished it.
-pub record HasEnded (old new : Held) : Type 0 where
-  pub finished : HasFinished old new
-  pub last : finished.going.stage ≡ Bodied
-
--- A step says that there is more where it has begun a point or gone on with one, and that it is done where the tree that was frozen became
--- durable: it writes outside the root that counts.
+-- A step says that there is more where it has begun a point or gone on with one, and that it is done where it has finished the point at its
+-- last stage, so that the tree that was frozen became durable: it writes outside the root that counts.
 pub record HasStepped (reply : Reply) (old new : Held) : Type 0 where
   pub touched : Touches (IsBesideRoot old) old.disk new.disk
-  pub told : ((reply ≡ answer.Progress progress.More) × (HasBegun old new ⊎ HasGoneOn old new)) ⊎ ((reply ≡ answer.Progress progress.Done) × HasEnded old new)
+  pub told : ((reply ≡ answer.Progress progress.More) × (HasBegun old new ⊎ HasGoneOn old new))
+      ⊎ ((reply ≡ answer.Progress progress.Done) × ((finished : HasFinished old new) × (finished.going.stage ≡ Bodied)))
 
 -- one that was cut off wrote there too, with at most eight writes and a sync
 abbrev pub LeavesStep : Held → Option Mishap → Reply → Held → Type 0
