@@ -94,7 +94,7 @@ module _ (old new : Held) (going next : Going) (is : old.point ≡ Some going) (
       → left_of new.point + counts_down e reply ≡ left_of old.point
   counted (Stopped before after) e met reply state fin mid f p step m n l = absurd (true≢false (sym m.0))
   counted (Running w) (event.Call session c) None reply state fin mid f p step m n (inl l) = never l.made.fresh.between
-  counted (Running w) (event.Call session c) None reply state fin mid f p step m n (inr l) = stays (event.Call session c) reply refl (keeps (Running w) (event.Call session c) fin mid f p (same_told session c mid new l.leaves))
+  counted (Running w) (event.Call session c) None reply state fin mid f p step m n (inr l) = stays (event.Call session c) reply refl (keeps (Running w) (event.Call session c) fin mid f p (same_told session c mid new l.1))
   counted (Running w) (event.Call session c) (Some Memory) reply state fin mid f p step m n l = stays (event.Call session c) reply refl (keeps (Running w) (event.Call session c) fin mid f p (same_point Memory mid new l))
   counted (Running w) (event.Call session c) (Some Read) reply state fin mid f p step m n l = stays (event.Call session c) reply refl (keeps (Running w) (event.Call session c) fin mid f p (same_point Read mid new l))
   counted (Running w) (event.Call session c) (Some Write) reply state fin mid f p step m n l = not_stopped new _ _ state step.stops.left n
@@ -281,7 +281,7 @@ module _ (fit : PayloadsFit) (old new : Held) (session : ℕ) (c : Call) (whole 
 
   call_costs : (w : World) (met : Option Mishap) (reply : Reply) (state : State) → EventStep limits_written (Running w) (event.Call session c) met reply state → LeavesCall old old session c met new → CostsAtMost 131 2 old.status new.status
   call_costs w None reply state step (inl l) = absurd (alone (inr l.asked))
-  call_costs w None reply state step (inr l) = told_costs l.leaves
+  call_costs w None reply state step (inr l) = told_costs l.1
   call_costs w (Some Memory) reply state step l = more_costs old.status new.status (idle old new l)
   call_costs w (Some Read) reply state step l = more_costs old.status new.status (read_idle old.status new.status l.1)
   call_costs w (Some Write) reply state step l = cut_costs l

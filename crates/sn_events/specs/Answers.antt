@@ -300,11 +300,6 @@ pub record IsCutAsked (session : ℕ) (c : Call) (old : Held) (disk : Disk) (sta
   pub fits : DoesNotFit old session c → ⊥
   pub cut : IsCutPoint (BuildsFor asked.outcome.point old) old disk status
 
--- any other call
-pub record HasServed (session : ℕ) (c : Call) (old new : Held) : Type 0 where
-  pub alone : AsksFirst old session c → ⊥
-  pub leaves : HasTold session c old new ⊎ HasLogged session c old new
-
 -- a call was cut off: its record, its own point, the one that made room for it, or the one in progress
 abbrev pub IsCutCall : Held → Held → ℕ → Call → Disk → Status → Type 0
 IsCutCall old mid session c disk status = IsTried mid session c disk status ⊎ IsCutAsked session c mid disk status
@@ -313,7 +308,7 @@ IsCutCall old mid session c disk status = IsTried mid session c disk status ⊎ 
 -- After the point that a call makes first, where it needs one: one that asks for a point makes it, a call that results in a change is
 -- recorded, also where the change alters nothing, and any other writes nothing; nor does one that is refused.
 abbrev pub LeavesCall : Held → Held → ℕ → Call → Option Mishap → Held → Type 0
-LeavesCall old mid session c None new = HasPointed session c mid new ⊎ HasServed session c mid new
+LeavesCall old mid session c None new = HasPointed session c mid new ⊎ ((AsksFirst mid session c → ⊥) × (HasTold session c mid new ⊎ HasLogged session c mid new))
 LeavesCall old mid session c (Some Write) new = IsCutCall old mid session c new.disk new.status
 LeavesCall old mid session c (Some m) new = IsUnchanged m mid new
 
