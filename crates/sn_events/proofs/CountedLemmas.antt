@@ -275,7 +275,7 @@ module _ (fit : PayloadsFit) (old new : Held) (session : ℕ) (c : Call) (whole 
       let w = tried.costs.writes in
       let y = tried.costs.syncs in
       record { writes = omega (arith, w, few); syncs = omega (arith, y) }
-  cut_costs (inr (inl cut)) = absurd (alone (inr cut.asked))
+  cut_costs (inr (inl cut)) = absurd (alone (inr cut.0))
   cut_costs (inr (inr (inl cut))) = absurd (alone (needs_room old session c cut.0))
   cut_costs (inr (inr (inr cut))) = absurd (alone cut.needed)
 

@@ -98,16 +98,10 @@ abbrev pub NeedsPoint : Held → Event → Type 0
 NeedsPoint h (event.Call session c) = LacksFirst h session c ⊎ AsksFirst h session c
 NeedsPoint h e = Unit {0}
 
--- The layer drops the files without names of a snapshot's tree, and nothing else.
-pub record DropsUnnamed (name : List ℕ) (old : Held) (built : Layer) : Type 0 where
-  pub tree : Tree
-  pub frozen : map.get old.world.frozen name ≡ Some tree
-  pub changed : HasChanged limits_written built tree (settled tree) 0
-
 -- What the point of a call is built from: what changed since the root, and where it brings a snapshot back, what
--- drops the files without names of that one's tree.
+-- drops the files without names of that one's tree, and nothing else.
 abbrev pub BuildsFor : AskedPoint → Held → Layer → Type 0
-BuildsFor (Restores name) old built = DropsUnnamed name old built
+BuildsFor (Restores name) old built = (tree : Tree) × (map.get old.world.frozen name ≡ Some tree) × HasChanged limits_written built tree (settled tree) 0
 BuildsFor asked old built = built ≡ old.base.changed
 
 -- and that of an unmount: of that without the files that have no name
@@ -295,10 +289,8 @@ pub record HasPointed (session : ℕ) (c : Call) (old new : Held) : Type 0 where
   pub made : HasMadePoint (pointed asked.outcome.point old.world) (BuildsFor asked.outcome.point old) old new
 
 -- or it was cut off
-pub record IsCutAsked (session : ℕ) (c : Call) (old : Held) (disk : Disk) (status : Status) : Type 0 where
-  pub asked : AsksFirst old session c
-  pub fits : DoesNotFit old session c → ⊥
-  pub cut : IsCutPoint (BuildsFor asked.outcome.point old) old disk status
+abbrev pub IsCutAsked : ℕ → Call → Held → Disk → Status → Type 0
+IsCutAsked session c old disk status = (asked : AsksFirst old session c) × (DoesNotFit old session c → ⊥) × IsCutPoint (BuildsFor asked.outcome.point old) old disk status
 
 -- a call was cut off: its record, its own point, the one that made room for it, or the one in progress
 abbrev pub IsCutCall : Held → Held → ℕ → Call → Disk → Status → Type 0
