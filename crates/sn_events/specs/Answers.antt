@@ -136,10 +136,6 @@ HasMadeRoom old new = HasMadePoint old.world (BuildsFor Plain old) old new
 abbrev pub HasMadeLast : Held → Held → Type 0
 HasMadeLast old new = HasMadePoint (settle old.world) (BuildsLast old) old new
 
--- what is kept once a point in progress is done
-abbrev pub base_of : Going → Kept → Kept
-base_of going k = record { slot = going.work.slot; root = going.work.plan.next; words = going.work.plan.words; changed = k.changed }
-
 -- The point in progress was finished, with the writes and syncs that were left of it, outside the root that counted: its own root counts,
 -- with what was logged, was charged and has changed since it began. The numbers that were kept back before no longer are.
 pub record HasFinished (old new : Held) : Type 0 where
@@ -151,7 +147,7 @@ pub record HasFinished (old new : Held) : Type 0 where
   pub since : (number : ℕ) → new.kept_since number ≡ old.kept_since number
   pub log : new.at ≡ old.at
   pub room : new.room ≡ done going.free old.room
-  pub base : new.base ≡ base_of going old.base
+  pub base : new.base ≡ record { slot = going.work.slot; root = going.work.plan.next; words = going.work.plan.words; changed = old.base.changed }
   pub touched : Touches (IsBesideRoot old) old.disk new.disk
   pub costs : new.status ≡ called (writes_left going.work going.stage) (syncs_left going.work going.stage) old.status
 
@@ -206,10 +202,6 @@ MayMeet old mid e met new = HasNotFailed old.status new
 abbrev pub writes_of : Change → ℕ
 writes_of change = body_sectors (payload_bytes change) + 2
 
--- the call results in no change of the tree
-abbrev pub HasNoChange : World → (ℕ → Bool) → ℕ → Call → Type 0
-HasNoChange world kept session c = (change : Change) → IsChangeOf world kept session c change → ⊥
-
 -- it lacks nothing: its record has room, its charge fits, its number isn't kept back, and a mount could make a point of it
 pub record HasAll (h : Held) (change : Change) (o : Outcome) : Type 0 where
   pub room : HasRoom h.at change
@@ -242,7 +234,7 @@ CarriesCharge charge old new = (figure : ℕ) → CarriesOn old.base old.world.l
 
 -- A call that results in no change of the tree writes nothing. Files without names may be dropped with it.
 pub record HasTold (session : ℕ) (c : Call) (old new : Held) : Type 0 where
-  pub none : HasNoChange old.world old.kept session c
+  pub none : (change : Change) → IsChangeOf old.world old.kept session c change → ⊥
   pub drops : HasDropped (nameless_in old.world.live) old new
   pub carries : CarriesCharge 0 old new
 
