@@ -92,10 +92,9 @@ pub record NothingDone (replies : List Reply) (disk : Disk) (status : Status) (l
 
 -- a run, by its end
 abbrev pub RunsTo : End → List Event → List Reply → Disk → Status → Disk → Status → Type 0
-RunsTo ending.Clean events replies disk status last_disk last_status = Served events replies ending.Clean disk status last_disk last_status
-RunsTo ending.Stopped events replies disk status last_disk last_status = Served events replies ending.Stopped disk status last_disk last_status
 RunsTo ending.Memory events replies disk status last_disk last_status = NothingDone replies disk status last_disk last_status ⊎ Served events replies ending.Memory disk status last_disk last_status
 RunsTo (ending.Mount fault) events replies disk status last_disk last_status = NotMounted fault replies disk status last_disk last_status
+RunsTo end events replies disk status last_disk last_status = Served events replies end disk status last_disk last_status
 
 -- the contents are an image of a world that the machine's run, cut short after these replies, leaves
 abbrev pub ShowsCut : State → List Event → List Reply → Contents → Type 0
