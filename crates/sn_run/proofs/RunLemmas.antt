@@ -29,7 +29,7 @@ use Rattle.sn_events.specs.Mounting.{Mounts}
 use Rattle.sn_run.specs.Ending.{EndsSo, IsLastEnd}
 use Rattle.sn_run.specs.Servers.{no_base}
 use Rattle.sn_run.specs.Laws.{LivesOn}
-use Rattle.sn_run.specs.Runs.{AnswersAll, Goes, IsRunOf, IsServed, LacksRoot, LeavesAll, LeavesFrom, LeavesItsRun, NotMounted, RunsTo, Served, ShowsCut, start}
+use Rattle.sn_run.specs.Runs.{AnswersAll, Goes, IsRunOf, IsServed, LacksRoot, LeavesFrom, LeavesItsRun, NotMounted, RunsTo, Served, ShowsCut, start}
 use Rattle.sn_run.proofs.CutLemmas.{cut_now, found_settled, machine_run, run_leaves}
 use Rattle.sn_run.proofs.RestartLemmas.{met_with}
 use Rattle.sn_run.proofs.UnfitLemmas.{lacks_none, unfit_fault}
@@ -117,8 +117,8 @@ module _ (events : List Event) (replies : List Reply) (disk last_disk : Disk) (s
   shows_cut : (c : Contents) → IsImage c world → ShowsCut (Running world) events [] c
   shows_cut c h = (world, h, cut_now world events (found_settled (reads disk) world image))
 
-  left_so : replies ≡ [] → Touches Nowhere disk last_disk ⊎ LeavesTheWorld disk last_disk world → LeavesAll replies disk last_disk ⊎ LeavesItsRun world events replies disk last_disk
-  left_so none (inl touches) = inl (record { none = none; touches = touches })
+  left_so : replies ≡ [] → Touches Nowhere disk last_disk ⊎ LeavesTheWorld disk last_disk world → ((replies ≡ []) × Touches Nowhere disk last_disk) ⊎ LeavesItsRun world events replies disk last_disk
+  left_so none (inl touches) = inl (none, touches)
   left_so none (inr leaves) = inr (record {
     mounted = last_disk;
     mounts = leaves;
@@ -141,7 +141,7 @@ module _ (events : List Event) (replies : List Reply) (disk last_disk : Disk) (s
   is_run ending.Memory (inr s) = served_run ending.Memory s
   is_run ending.Memory (inl h) = record {
     run = inl (record { may = tt; none = h.none; ends = refl });
-    crash = inl (record { none = h.none; touches = subst (λ (d : Disk). Touches Nowhere disk d) (sym h.left) (Touches-start Nowhere disk) });
+    crash = inl (h.none, subst (λ (d : Disk). Touches Nowhere disk d) (sym h.left) (Touches-start Nowhere disk));
   }
   is_run (ending.Mount f) h = unserved_run f h
 

@@ -112,15 +112,11 @@ pub record LeavesItsRun (world : World) (events : List Event) (replies : List Re
   pub mounts : LeavesTheWorld old mounted world
   pub moments : LeavesFrom (Running world) events [] replies mounted new
 
--- no event was answered, and nothing was written
-pub record LeavesAll (replies : List Reply) (old new : Disk) : Type 0 where
-  pub none : replies ≡ []
-  pub touches : Touches Nowhere old new
-
--- Where the disk is an image of a world, this is a run of the machine from that world, and it is all that a crash leaves.
+-- Where the disk is an image of a world, this is a run of the machine from that world, and it is all that a crash leaves. Only where no event
+-- was answered may nothing have been written.
 pub record IsRunOf (world : World) (events : List Event) (replies : List Reply) (end : End) (old new : Disk) : Type 0 where
   pub run : WholeRun Anything limits_written (Holds world) events replies end
-  pub crash : LeavesAll replies old new ⊎ LeavesItsRun world events replies old new
+  pub crash : ((replies ≡ []) × Touches Nowhere old new) ⊎ LeavesItsRun world events replies old new
 
 -- There is no root that a mount could begin from: the disk isn't formatted, or neither slot is open, or a root is of a version that isn't known.
 abbrev pub LacksRoot : ℕ → Contents → MountFault → Type 0
