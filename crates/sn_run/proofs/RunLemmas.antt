@@ -61,9 +61,7 @@ module _ (events : List Event) (replies : List Reply) (disk last_disk : Disk) (s
     fresh = m.fresh;
     clean = m.clean;
     touched = m.touched;
-    blocks = n;
-    within = within;
-    costs = costs;
+    costs = (n, within, costs);
     served = λ world image.
         let it = m.runs world image in
         let a = subst (λ (b : Bool). AnswersAll events replies h b new has) m.running all (Running world) (subst (λ (b : Bool). Means h b (Running world)) m.running it.means) in

@@ -1,5 +1,5 @@
 -- Runs over a device, and what a crash leaves of them.
-use Rattle.std.specs.Prelude.{◌≡◌, ◌⊎◌, ℕ, ◌≤◌, ◌*◌, Bool, false, List, [], ◌∷◌, ◌++◌}
+use Rattle.std.specs.Prelude.{◌≡◌, ◌⊎◌, ℕ, Bool, false, List, [], ◌∷◌, ◌++◌}
 use Rattle.sn_device.specs.Sectors.{Contents}
 use Rattle.sn_device.specs.Disk.{Disk, reads}
 use Rattle.sn_device.specs.Crash.{LeavesOnly, Touches}
@@ -22,9 +22,9 @@ use Rattle.sn_held.specs.Images.{IsImage}
 use Rattle.sn_held.specs.Room.{HasRoomOf}
 use Rattle.sn_examine.specs.Failing.{IsSoOf}
 use Rattle.sn_examine.specs.Laws.{IsSomeClean}
-use Rattle.sn_mount.specs.Costs.{CostsFew, CostsMount}
+use Rattle.sn_mount.specs.Costs.{CostsFew}
 use Rattle.sn_mount.specs.Recovering.{KeepsTheRoot, LeavesTheWorld, OfImage}
-use Rattle.sn_events.specs.Answers.{AnswersFrom}
+use Rattle.sn_events.specs.Answers.{AnswersFrom, CostsMountOf}
 use Rattle.sn_events.specs.Mounting.{IsLeft, IsFresh}
 use Rattle.sn_run.specs.Ending.{IsEnded}
 use Rattle.sn_mount.specs.Rooting.{MountsRoot}
@@ -71,9 +71,7 @@ pub record Served (events : List Event) (replies : List Reply) (end : End) (disk
   pub fresh : IsFresh mounted
   pub clean : IsSomeClean status.sectors (reads disk)
   pub touched : KeepsTheRoot status.sectors disk mounted.disk
-  pub blocks : ℕ
-  pub within : 8 * blocks ≤ status.sectors
-  pub costs : CostsMount blocks status mounted.status
+  pub costs : CostsMountOf status mounted.status
   pub served : OfImage disk (λ world. IsServed world events replies end disk status mounted last_disk last_status)
 
 -- There was no mount, for a cause, and the world that the disk is an image of, if any, is still there.
