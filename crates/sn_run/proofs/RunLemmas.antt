@@ -138,8 +138,8 @@ module _ (events : List Event) (replies : List Reply) (disk last_disk : Disk) (s
   is_run ending.Stopped h = served_run ending.Stopped h
   is_run ending.Memory (inr s) = served_run ending.Memory s
   is_run ending.Memory (inl h) = record {
-    run = inl (record { may = tt; none = h.none; ends = refl });
-    crash = inl (h.none, subst (λ (d : Disk). Touches Nowhere disk d) (sym h.left) (Touches-start Nowhere disk));
+    run = inl (record { may = tt; none = h.0; ends = refl });
+    crash = inl (h.0, subst (λ (d : Disk). Touches Nowhere disk d) (sym h.1) (Touches-start Nowhere disk));
   }
   is_run (ending.Mount f) h = unserved_run f h
 
@@ -154,7 +154,7 @@ module _ (events : List Event) (replies : List Reply) (disk last_disk : Disk) (s
   is_unfit ending.Clean h = absurd (never_served ending.Clean h)
   is_unfit ending.Stopped h = absurd (never_served ending.Stopped h)
   is_unfit ending.Memory (inr s) = absurd (never_served ending.Memory s)
-  is_unfit ending.Memory (inl h) = inl (record { may = tt; none = h.none; ends = refl })
+  is_unfit ending.Memory (inl h) = inl (record { may = tt; none = h.0; ends = refl })
   is_unfit (ending.Mount g) h = inr (unfit_fault f g status.sectors (reads disk) events replies h.none lacks h.left.cause)
 
 -- ---- lives

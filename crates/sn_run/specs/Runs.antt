@@ -82,15 +82,10 @@ pub record NotMounted (fault : MountFault) (replies : List Reply) (disk : Disk) 
   pub later : IsLater status last_status
   pub costs : CostsFew status last_status
 
--- nothing was done, not even a mount
-pub record NothingDone (replies : List Reply) (disk : Disk) (status : Status) (last_disk : Disk) (last_status : Status) : Type 0 where
-  pub none : replies ≡ []
-  pub left : last_disk ≡ disk
-  pub counted : last_status ≡ status
-
--- a run, by its end
+-- a run, by its end: where memory was refused, nothing may have been done, not even a mount
 abbrev pub RunsTo : End → List Event → List Reply → Disk → Status → Disk → Status → Type 0
-RunsTo ending.Memory events replies disk status last_disk last_status = NothingDone replies disk status last_disk last_status ⊎ Served events replies ending.Memory disk status last_disk last_status
+RunsTo ending.Memory events replies disk status last_disk last_status = ((replies ≡ []) × (last_disk ≡ disk) × (last_status ≡ status))
+    ⊎ Served events replies ending.Memory disk status last_disk last_status
 RunsTo (ending.Mount fault) events replies disk status last_disk last_status = NotMounted fault replies disk status last_disk last_status
 RunsTo end events replies disk status last_disk last_status = Served events replies end disk status last_disk last_status
 
