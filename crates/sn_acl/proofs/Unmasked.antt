@@ -1,12 +1,14 @@
 -- What is granted with a MASK is granted without it.
 use Rattle.std.proofs.Common.{◌≡◌, ℕ, Bool, true, false, cond, List, [], ◌∷◌, refl, ap, ◌∙◌, Option, Some, None}
 use Rattle.std.specs.Prelude.{◌==◌, not, find, if◌then◌else◌}
+use Rattle.std.specs.List.{list_any}
 use Rattle.sn_acl.specs.declared.entries.Tag.{Tag}
 use Rattle.sn_acl.specs.declared.entries.Tag.TheVariants.{UserObj, User, GroupObj, Group, Mask, Other}
 use Rattle.sn_acl.specs.declared.entries.Entry.{Entry}
 use Rattle.sn_acl.specs.Entries.{is_user_obj, is_user, is_other, is_mask}
 use Rattle.sn_acl.specs.Credential.{Credential}
-use Rattle.sn_acl.specs.Access.{Class, class_of, entries_of, is_held_group, limit_of, is_contained, first_of, denial_in}
+use Rattle.sn_acl.specs.Rights.{contains}
+use Rattle.sn_acl.specs.Access.{Class, class_of, entries_of, is_held_group, limit_of, first_of, denial_in}
 use Rattle.sn_acl.specs.Laws.{unmasked, IsNarrowedByMask}
 
 -- a test that no MASK passes
@@ -87,7 +89,7 @@ freed false x e = λ h. h
 
 granted-in : (class : Class) (es : List Entry) (want : ℕ) → denial_in class es want ≡ None → denial_in class (unmasked es) want ≡ None
 granted-in class es want granted =
-    rw (no-limit class es) (freed (is_contained want class) _ (first_of class.members) granted)
+    rw (no-limit class es) (freed (list_any (λ e. contains e.permissions want) class.members) _ (first_of class.members) granted)
 
 pub granted-unmasked : (cred : Credential) (owner group : ℕ) (es : List Entry) (want : ℕ) → IsNarrowedByMask cred owner group es want
 granted-unmasked cred owner group es want granted =

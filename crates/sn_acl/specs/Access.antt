@@ -46,20 +46,16 @@ limit_of class entries = if class.masked then find (λ e. is_mask e.tag) entries
 abbrev pub is_within : ℕ → Option Entry → Bool
 is_within want limit = option_map_or (λ mask. contains mask.permissions want) limit true
 
--- whether one entry of the class contains all that is wanted
-abbrev pub is_contained : ℕ → Class → Bool
-is_contained want class = list_any (λ e. contains e.permissions want) class.members
-
 -- the first entry of a class, which is never empty in a valid ACL
 abbrev pub first_of : List Entry → Entry
 first_of [] = record { tag = Other; permissions = 0 }
 first_of (e ∷ es) = e
 
--- The entry that denies: the MASK, if an entry of the class contains what is wanted, else the first entry of
+-- The entry that denies: the MASK, if an entry of the class contains all that is wanted, else the first entry of
 -- the class. None where one entry of the class, and the MASK if it limits the class, contain what is wanted.
 abbrev pub denial_in : Class → List Entry → ℕ → Option Entry
 denial_in class entries want =
-    if is_contained want class
+    if list_any (λ e. contains e.permissions want) class.members
     then (if is_within want (limit_of class entries) then None else limit_of class entries)
     else Some (first_of class.members)
 

@@ -16,11 +16,7 @@ IsRight sectors c (Fault damage block) = IsFaulty sectors c damage block
 -- Why a disk isn't clean: it has the fault, and none of an earlier group; or there is no verdict.
 abbrev pub IsCause : ℕ → Contents → MountFault → Type 0
 IsCause sectors c (Damaged damage block) = IsFaulty sectors c damage block
-IsCause sectors c NotFormatted = HasNoVerdict sectors c NotFormatted
-IsCause sectors c Version = HasNoVerdict sectors c Version
-IsCause sectors c NoRoot = HasNoVerdict sectors c NoRoot
-IsCause sectors c Memory = HasNoVerdict sectors c Memory
-IsCause sectors c Device = HasNoVerdict sectors c Device
+IsCause sectors c cause = HasNoVerdict sectors c cause
 
 -- what a check answers for that
 abbrev pub verdict_of : MountFault → Result Verdict MountFault

@@ -28,7 +28,7 @@ use Rattle.sn_limits.specs.declared.limits.Limits.{Limits}
 use Rattle.sn_model.specs.Tree.{Node}
 use Rattle.sn_ondisk.specs.TreeLaws.{SameIn}
 use Rattle.sn_ondisk.specs.Trees.{Store}
-use Rattle.sn_overlay.specs.Layers.{Layer, kind_of}
+use Rattle.sn_overlay.specs.Layers.{Layer}
 use Rattle.sn_overlay.specs.Layers as layers
 use Rattle.sn_overlay.specs.declared.node.NodeChange.TheVariants.{Changed}
 use Rattle.sn_overlay.specs.declared.node.NodeState.{NodeState}
@@ -99,6 +99,6 @@ module _ (limits : Limits) (n : ℕ) (s : Store) (file : BlockTree) (layer : Lay
   pub old_of : (state : NodeState) → fin.get layer.nodes number ≡ Some (Changed state) → state.fresh ≡ false → (inode : Inode) × (inode_at s file number ≡ Some inode) × (inode.kind ≡ state.kind)
   old_of state node stale = from_kind s file number state.kind (told (fin.get (image s file).nodes number) (ground.lies.fits.kinds number state node stale))
     where
-      told : (o : Option Node) → option_map kind_of o ≡ Some state.kind → IsSomeAnd o (λ node. node.kind ≡ state.kind)
+      told : (o : Option Node) → option_map (λ (node : Node). node.kind) o ≡ Some state.kind → IsSomeAnd o (λ node. node.kind ≡ state.kind)
       told None e = absurd cc
       told (Some x) e = cc

@@ -47,13 +47,9 @@ MakesRecovery (Err Read) n world old new = new ≡ old
 MakesRecovery (Err Damaged) n world old new = ⊥
 MakesRecovery (Err Device) n world old new = LeavesOnly old new (λ c. IsImage c world)
 
--- the sectors of the superblock, and of a slot's root and map
-abbrev pub InRootOf : ℕ → Slot → ℕ → Type 0
-InRootOf n slot = Union (InBlock 0) (Union (InMap n slot) (Union (InBlock (body_block slot)) (Single (gate_sector slot))))
-
--- all others: a point into the other slot writes there alone
+-- all sectors but those of the superblock, and of a slot's root and map: a point into the other slot writes there alone
 abbrev pub IsApart : ℕ → Slot → ℕ → Type 0
-IsApart n slot sector = InRootOf n slot sector → ⊥
+IsApart n slot sector = Union (InBlock 0) (Union (InMap n slot) (Union (InBlock (body_block slot)) (Single (gate_sector slot)))) sector → ⊥
 
 -- ---- what it costs
 

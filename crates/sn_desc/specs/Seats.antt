@@ -1,6 +1,6 @@
 -- Open files in a slab, and the keys of the seats that have one.
-use Rattle.std.specs.Prelude.{◌≡◌, ℕ, ◌-◌, true, List, map, Option, None, Some, is_some, slice_index_or}
-use Rattle.slab.specs.Slab.{Slab, get, slab_len}
+use Rattle.std.specs.Prelude.{◌≡◌, ℕ, true, List, map, Option, None, Some, is_some, slice_index_or}
+use Rattle.slab.specs.Slab.{Slab, get}
 use Rattle.sn_desc.specs.declared.open_file.OpenFile.{OpenFile}
 
 abbrev pub file_under : Slab OpenFile → Option ℕ → Option OpenFile
@@ -9,10 +9,6 @@ file_under files (Some key) = get files key
 
 abbrev pub files_under : Slab OpenFile → List (Option ℕ) → List (Option OpenFile)
 files_under files keys = map (file_under files) keys
-
--- how many more files fit
-abbrev pub room_in : Slab OpenFile → ℕ
-room_in files = files.capacity - slab_len files
 
 -- each key of a seat has a file, and no two seats have one key
 pub record IsSeatd (files : Slab OpenFile) (keys : List (Option ℕ)) : Type 0 where

@@ -29,12 +29,8 @@ random_of seed at = stream_of (steps_u32 pcg32) (generator_of seed at)
 -- one of six ways: as it was at the last sync, as it is, zeros, ones, junk, or these bytes
 abbrev pub one_of_six : ℕ → List ℕ → List ℕ → List ℕ → List ℕ
 one_of_six way bytes before after =
-    if way == 0 then before
-    else (if way == 1 then after
-    else (if way == 2 then replicate 512 0
-    else (if way == 3 then replicate 512 1
-    else (if way == 4 then replicate 512 165
-    else bytes))))
+    if way == 0 then before else if way == 1 then after else
+    if way == 2 then replicate 512 0 else if way == 3 then replicate 512 1 else if way == 4 then replicate 512 165 else bytes
 
 -- what a seed leaves in a sector: first the way is drawn, and then the bytes
 unfoldable pub drawn : ℕ → ℕ → List ℕ → List ℕ → List ℕ

@@ -211,7 +211,7 @@ module _ (old : Held) (session : ℕ) (c : Call) (whole : IsWorld limits_written
 
   -- its own
   own_point : (DoesNotFit old session c → ⊥) → PointEvent (event.Call session c) (BuildsFor asked.outcome.point old) old old.world
-  own_point fits = asked_point (BuildsFor asked.outcome.point old) (λ new cut. inr (inl (record { asked = asked; fits = fits; cut = cut })))
+  own_point fits = asked_point (BuildsFor asked.outcome.point old) (λ new cut. inr (inl (asked, fits, cut)))
 
   -- the one before it that makes room
   room_point : DoesNotFit old session c → PointEvent (event.Call session c) (BuildsFor Plain old) old old.world
@@ -221,7 +221,7 @@ module _ (old : Held) (session : ℕ) (c : Call) (whole : IsWorld limits_written
   cuts_own new fits None cut = tt
   cuts_own new fits (Some Memory) cut = tt
   cuts_own new fits (Some Read) cut = tt
-  cuts_own new fits (Some Write) cut = inr (record { asked = asked; fits = fits; cut = cut refl })
+  cuts_own new fits (Some Write) cut = inr (asked, fits, cut refl)
   cuts_own new fits (Some Space) cut = tt
   cuts_own new fits (Some Age) cut = tt
 

@@ -207,7 +207,7 @@ undecided_serves h new session c e none = in_world h new false session c (reply_
   where
     told : RunsWith h.point h h.world → (e : CallFault) → IsUndecided e h session c new → ServesFrom (Running h.world) session c (reply_to e) h new false
     told r (lack.Refused refusal) (none, same) = subst (λ (x : Held). ServesFrom (Running h.world) session c (answer.Refused refusal) h x false) (sym same)
-        (kept h false (Running h.world) session c None (answer.Refused refusal) tt (refl, r) refl (inr (record { alone = λ asks. cannot_ask h session c refusal asks none; leaves = inl (record { none = refused_none h.world h.kept session c refusal none; drops = drops_none h; carries = carries_none h }) }))
+        (kept h false (Running h.world) session c None (answer.Refused refusal) tt (refl, r) refl (inr ((λ asks. cannot_ask h session c refusal asks none), inl (record { none = refused_none h.world h.kept session c refusal none; drops = drops_none h; carries = carries_none h })))
         (h.world, subst (λ (d : Result Outcome Refusal). Becomes limits_written h.world session d (answer.Refused refusal) h.world) (sym none) (refl, refl), refl))
     told r lack.Memory (takes, same) = subst (λ (x : Held). ServesFrom (Running h.world) session c (refused Enomem) h x false) (sym same)
         (kept h false (Running h.world) session c (Some Memory) (refused Enomem) tt (refl, r) refl refl (takes, record { told = refl; same = refl }))
@@ -434,10 +434,10 @@ module _ (old : Held) (session : ℕ) (c : Call) (o : Outcome) (picked : Chosen)
                 means = (refl, on);
                 lasts = runs_lasts old new old.world next change tree runs can.spelled logged.made.applied of whole.live.hierarchy (has_room all.fits) aged touched moments (runs_with new next new.point on);
                 later = later-is (writes_of change) 2 old.status new.status (status_is ∙ logged.costs);
-                leaves = inr (record {
-                  alone = asks_nothing old session c alone;
-                  leaves = inr (record { change = change; is = is_change; all = all; tree = tree; applied = logged.made.applied; world = world_is; touched = touched; drops = has_dropped; carries = carries });
-                });
+                leaves = inr (
+                  asks_nothing old session c alone,
+                  inr (record { change = change; is = is_change; all = all; tree = tree; applied = logged.made.applied; world = world_is; touched = touched; drops = has_dropped; carries = carries }),
+                );
               };
               at_once = (refl, refl);
               met = tt;

@@ -26,7 +26,7 @@ use Rattle.sn_cp.proofs.CountLemmas.{steps_counted, steps_few}
 use Rattle.sn_cp_progress.specs.Meaning.{Means, RunsWith}
 use Rattle.sn_examine.specs.Failing.{CostsAtMost}
 use Rattle.sn_held.specs.Held.{Going, Held}
-use Rattle.sn_events.specs.Answers.{AnswersFrom, HasBegun, HasEnded, HasGoneOn, HasLogged, HasStepped, HasTold, IsBehindFinish, IsBehindPoint, IsUnchanged, Leaves, LeavesRestart, LeavesStep, counts_down, left_of, IsChangeOf, IsCutCall, LeavesCall, MakesFirst, NeedsPoint}
+use Rattle.sn_events.specs.Answers.{AnswersFrom, HasBegun, HasFinished, HasGoneOn, HasLogged, HasStepped, HasTold, IsBehindFinish, IsBehindPoint, IsUnchanged, Leaves, LeavesRestart, LeavesStep, counts_down, left_of, IsChangeOf, IsCutCall, LeavesCall, MakesFirst, NeedsPoint}
 use Rattle.sn_device.specs.Status.{has_ended, one_failure}
 use Rattle.sn_cp.specs.Counting.{syncs_left, writes_left}
 use Rattle.sn_model.specs.declared.reply.Errno.{Errno}
@@ -85,16 +85,16 @@ module _ (old new : Held) (going next : Going) (is : old.point ≡ Some going) (
   stepped : (w : World) (reply : Reply) → RunsWith old.point old w → HasStepped reply old new → left_of new.point + counts_down event.Step reply ≡ left_of old.point
   stepped w reply runs s = told s.told
     where
-      told : ((reply ≡ answer.Progress progress.More) × (HasBegun old new ⊎ HasGoneOn old new)) ⊎ ((reply ≡ answer.Progress progress.Done) × HasEnded old new) → left_of new.point + counts_down event.Step reply ≡ left_of old.point
+      told : ((reply ≡ answer.Progress progress.More) × (HasBegun old new ⊎ HasGoneOn old new)) ⊎ ((reply ≡ answer.Progress progress.Done) × ((finished : HasFinished old new) × (finished.going.stage ≡ Bodied))) → left_of new.point + counts_down event.Step reply ≡ left_of old.point
       told (inl (more, inl begun)) = let absent : Some going ≡ None = sym is ∙ begun.between in absurd cc
       told (inl (more, inr gone)) = gone_on w reply more runs gone
-      told (inr (done, ended)) = never ended.finished.point
+      told (inr (done, ended)) = never ended.0.point
 
   counted : (s : State) (e : Event) (met : Option Mishap) (reply : Reply) (state : State) (fin mid : Held) → IsBehindFinish s e old fin → IsBehindPoint s e fin mid → EventStep limits_written s e met reply state → Means old false s → Means new false state → Leaves s e met reply state fin mid new
       → left_of new.point + counts_down e reply ≡ left_of old.point
   counted (Stopped before after) e met reply state fin mid f p step m n l = absurd (true≢false (sym m.0))
   counted (Running w) (event.Call session c) None reply state fin mid f p step m n (inl l) = never l.made.fresh.between
-  counted (Running w) (event.Call session c) None reply state fin mid f p step m n (inr l) = stays (event.Call session c) reply refl (keeps (Running w) (event.Call session c) fin mid f p (same_told session c mid new l.leaves))
+  counted (Running w) (event.Call session c) None reply state fin mid f p step m n (inr l) = stays (event.Call session c) reply refl (keeps (Running w) (event.Call session c) fin mid f p (same_told session c mid new l.1))
   counted (Running w) (event.Call session c) (Some Memory) reply state fin mid f p step m n l = stays (event.Call session c) reply refl (keeps (Running w) (event.Call session c) fin mid f p (same_point Memory mid new l))
   counted (Running w) (event.Call session c) (Some Read) reply state fin mid f p step m n l = stays (event.Call session c) reply refl (keeps (Running w) (event.Call session c) fin mid f p (same_point Read mid new l))
   counted (Running w) (event.Call session c) (Some Write) reply state fin mid f p step m n l = not_stopped new _ _ state step.stops.left n
@@ -181,12 +181,12 @@ module _ (old new : Held) where
   idle : new ≡ old → CostsAtMost 8 1 old.status new.status
   idle same = costs_same old.status new.status (ap (λ (h : Held). h.status.writes) same) (ap (λ (h : Held). h.status.syncs) same)
 
-  ended_costs : HasEnded old new → CostsAtMost 8 1 old.status new.status
-  ended_costs ended =
-      let going = ended.finished.going in
-      let writes : writes_left going.work going.stage ≡ 1 = ap (writes_left going.work) ended.last in
-      let syncs : syncs_left going.work going.stage ≡ 1 = ap (syncs_left going.work) ended.last in
-      costs_called (writes_left going.work going.stage) (syncs_left going.work going.stage) old.status new.status ended.finished.costs (omega (arith, writes)) (omega (arith, syncs))
+  ended_costs : (finished : HasFinished old new) → finished.going.stage ≡ Bodied → CostsAtMost 8 1 old.status new.status
+  ended_costs finished last =
+      let going = finished.going in
+      let writes : writes_left going.work going.stage ≡ 1 = ap (writes_left going.work) last in
+      let syncs : syncs_left going.work going.stage ≡ 1 = ap (syncs_left going.work) last in
+      costs_called (writes_left going.work going.stage) (syncs_left going.work going.stage) old.status new.status finished.costs (omega (arith, writes)) (omega (arith, syncs))
 
   made_costs : HasBegun old new ⊎ HasGoneOn old new → CostsAtMost 8 1 old.status new.status
   made_costs (inl begun) = costs_called 1 1 old.status new.status begun.costs (omega arith) (omega arith)
@@ -195,15 +195,15 @@ module _ (old new : Held) where
   stepped_costs : (reply : Reply) → HasStepped reply old new → CostsAtMost 8 1 old.status new.status
   stepped_costs reply s = told s.told
     where
-      told : ((reply ≡ answer.Progress progress.More) × (HasBegun old new ⊎ HasGoneOn old new)) ⊎ ((reply ≡ answer.Progress progress.Done) × HasEnded old new) → CostsAtMost 8 1 old.status new.status
+      told : ((reply ≡ answer.Progress progress.More) × (HasBegun old new ⊎ HasGoneOn old new)) ⊎ ((reply ≡ answer.Progress progress.Done) × ((finished : HasFinished old new) × (finished.going.stage ≡ Bodied))) → CostsAtMost 8 1 old.status new.status
       told (inl (more, made)) = made_costs made
-      told (inr (done, ended)) = ended_costs ended
+      told (inr (done, ended)) = ended_costs ended.0 ended.1
 
   left_costs : (w : World) (met : Option Mishap) (reply : Reply) (state : State) → EventStep limits_written (Running w) event.Step met reply state → LeavesStep old met reply new → CostsAtMost 8 1 old.status new.status
   left_costs w None reply state step l = stepped_costs reply l
   left_costs w (Some Memory) reply state step l = idle l
   left_costs w (Some Read) reply state step l = read_idle old.status new.status l.1
-  left_costs w (Some Write) reply state step l = l.costs
+  left_costs w (Some Write) reply state step l = l.1
   left_costs w (Some Space) reply state step l = absurd step
   left_costs w (Some Age) reply state step l = idle l
 
@@ -233,7 +233,7 @@ steps_write (Running w) old new has_stopped m a = told a.met a.finish a.step a.l
     more : (fin : Held) → fin ≡ old → HasStepped (answer.Progress progress.More) fin new → old.status.writes < new.status.writes
     more fin f l = from (subst (λ (h : Held). HasStepped (answer.Progress progress.More) h new) f l).told
       where
-        from : ((answer.Progress progress.More ≡ answer.Progress progress.More) × (HasBegun old new ⊎ HasGoneOn old new)) ⊎ ((answer.Progress progress.More ≡ answer.Progress progress.Done) × HasEnded old new) → old.status.writes < new.status.writes
+        from : ((answer.Progress progress.More ≡ answer.Progress progress.More) × (HasBegun old new ⊎ HasGoneOn old new)) ⊎ ((answer.Progress progress.More ≡ answer.Progress progress.Done) × ((finished : HasFinished old new) × (finished.going.stage ≡ Bodied))) → old.status.writes < new.status.writes
         from (inl (is, made)) = more_writes old new w m.1 made
         from (inr (is, ended)) = absurd (more_is_done is)
 
@@ -275,13 +275,13 @@ module _ (fit : PayloadsFit) (old new : Held) (session : ℕ) (c : Call) (whole 
       let w = tried.costs.writes in
       let y = tried.costs.syncs in
       record { writes = omega (arith, w, few); syncs = omega (arith, y) }
-  cut_costs (inr (inl cut)) = absurd (alone (inr cut.asked))
+  cut_costs (inr (inl cut)) = absurd (alone (inr cut.0))
   cut_costs (inr (inr (inl cut))) = absurd (alone (needs_room old session c cut.0))
   cut_costs (inr (inr (inr cut))) = absurd (alone cut.needed)
 
   call_costs : (w : World) (met : Option Mishap) (reply : Reply) (state : State) → EventStep limits_written (Running w) (event.Call session c) met reply state → LeavesCall old old session c met new → CostsAtMost 131 2 old.status new.status
   call_costs w None reply state step (inl l) = absurd (alone (inr l.asked))
-  call_costs w None reply state step (inr l) = told_costs l.leaves
+  call_costs w None reply state step (inr l) = told_costs l.1
   call_costs w (Some Memory) reply state step l = more_costs old.status new.status (idle old new l)
   call_costs w (Some Read) reply state step l = more_costs old.status new.status (read_idle old.status new.status l.1)
   call_costs w (Some Write) reply state step l = cut_costs l

@@ -27,7 +27,7 @@ use Rattle.sn_caller.specs.declared.chosen.Chosen.{Chosen}
 use Rattle.sn_caller.specs.Choosing.{Chooses}
 use Rattle.sn_opening.proofs.SpelledLemmas.{applied_spelled, old_spelled}
 use Rattle.sn_record.specs.Payload.{IsSpelled}
-use Rattle.sn_events.specs.Answers.{HasNoChange}
+use Rattle.sn_events.specs.Answers.{IsChangeOf}
 
 -- a change that was chosen is the one that is pending
 abbrev IsPicked : Tree → (ℕ → Bool) → Pending → Change → Type 0
@@ -91,7 +91,7 @@ charge_of_change w kept session c o picked change decided chosen is =
 err_is_ok : {A : Type 0} (r : Refusal) (o : Outcome) → Err r ≡ Ok o → A
 err_is_ok r o e = cc
 
-pub refused_none : (w : World) (kept : ℕ → Bool) (session : ℕ) (c : Call) (r : Refusal) → decision limits_written w session c ≡ Err r → HasNoChange w kept session c
+pub refused_none : (w : World) (kept : ℕ → Bool) (session : ℕ) (c : Call) (r : Refusal) → decision limits_written w session c ≡ Err r → (change : Change) → IsChangeOf w kept session c change → ⊥
 refused_none w kept session c r refused change is = err_is_ok r is.outcome (sym refused ∙ is.decided)
 
 none_is_some : {A : Type 0} (change : Change) → None ≡ Some change → A
@@ -105,7 +105,7 @@ none_picked tree kept (Does c) caller picked other change first none second some
 ok_is : (x : Result Outcome Refusal) (a b : Outcome) → x ≡ Ok a → x ≡ Ok b → a ≡ b
 ok_is x a b e f = cc
 
-pub has_no_change : (w : World) (kept : ℕ → Bool) (session : ℕ) (c : Call) (o : Outcome) (picked : Chosen) → decision limits_written w session c ≡ Ok o → Chooses w.live kept o.change o.caller picked → picked.change ≡ None → HasNoChange w kept session c
+pub has_no_change : (w : World) (kept : ℕ → Bool) (session : ℕ) (c : Call) (o : Outcome) (picked : Chosen) → decision limits_written w session c ≡ Ok o → Chooses w.live kept o.change o.caller picked → picked.change ≡ None → (change : Change) → IsChangeOf w kept session c change → ⊥
 has_no_change w kept session c o picked decided chosen none change is =
     let same : is.outcome ≡ o = ok_is (decision limits_written w session c) is.outcome o is.decided decided in
     none_picked w.live kept o.change o.caller picked is.picked change chosen none (subst (λ (x : Outcome). Chooses w.live kept x.change x.caller is.picked) same is.chosen) is.is

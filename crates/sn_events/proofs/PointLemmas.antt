@@ -43,7 +43,7 @@ use Rattle.sn_cp_whole.specs.Making.{HasCauseFor, MakesPoint, most_syncs, most_w
 use Rattle.sn_cp_whole.specs.declared.fault.PointFault.{PointFault}
 use Rattle.sn_cp_whole.specs.declared.fault.PointFault.TheVariants as point
 use Rattle.sn_examine.specs.Failing.{CostsAtMost, HasFailed, HasNotFailed}
-use Rattle.sn_events.specs.Answers.{Answers, AnswersFrom, BuildsFor, BuildsLast, DoesNotFit, HasMadePoint, HasMadeRoom, HasPointed, HasServed, IsBesideRoot, IsChangeOf, IsCutFinish, IsCutPoint, IsLastRoot, IsUnchanged, Lacks, LacksAge, LacksFirst, Leaves, LeavesCall, LeavesRestart, MayMeet, NeedsPoint, NeedsRoom, is_fitting}
+use Rattle.sn_events.specs.Answers.{Answers, AnswersFrom, AsksFirst, BuildsFor, BuildsLast, DoesNotFit, HasLogged, HasMadePoint, HasMadeRoom, HasPointed, HasTold, IsBesideRoot, IsChangeOf, IsCutFinish, IsCutPoint, IsLastRoot, IsUnchanged, Lacks, LacksAge, LacksFirst, Leaves, LeavesCall, LeavesRestart, MayMeet, NeedsPoint, NeedsRoom, is_fitting}
 use Rattle.sn_events.specs.Pointing.{CanPoint, IsCutOffIn, IsPointed, IsPointedTo, IsUnpointed, IsUnpointedLast, IsUnpointedTo, Points, errno_of_point, is_restore, stops_for}
 use Rattle.sn_events.specs.Serving.{AsksFrom, CutsTo, Serves, ServesFrom, ServesTo}
 use Rattle.sn_events.proofs.CallLemmas.{comes, next_with}
@@ -157,7 +157,7 @@ module _ (old mid new : Held) (session : ℕ) (c : Call) (needed : NeedsRoom old
   may_meet fin at (Some Age) first same may = (subst (λ (h : Held). NeedsPoint h e × IsLastRoot h.base.root) same may.0, none_failed old.status mid.status new.status no_failures (subst (λ (h : Held). HasNotFailed h.status new.status) first may.1))
 
   leaves_call : (fin at : Held) (met : Option Mishap) → fin ≡ mid → at ≡ mid → CutsTo met mid session c new → LeavesCall fin at session c met new → LeavesCall old mid session c met new
-  leaves_call fin at None first same to leaves = subst (λ (x : Held). HasPointed session c x new ⊎ HasServed session c x new) same leaves
+  leaves_call fin at None first same to leaves = subst (λ (x : Held). HasPointed session c x new ⊎ ((AsksFirst x session c → ⊥) × (HasTold session c x new ⊎ HasLogged session c x new))) same leaves
   leaves_call fin at (Some Memory) first same to leaves = leaves ∙ same
   leaves_call fin at (Some Read) first same to leaves = subst (λ (x : Held). IsUnchanged Read x new) same leaves
   leaves_call fin at (Some Write) first same (inl tried) leaves = inl tried

@@ -92,7 +92,7 @@ ended_step old new f last =
       means = (refl, runs);
       lasts = goes_on_lasting old new f.moments runs;
       later = later-is _ _ old.status new.status f.finished.costs;
-      leaves = record { touched = f.finished.touched; told = inr (refl, record { finished = f.finished; last = last }) };
+      leaves = record { touched = f.finished.touched; told = inr (refl, (f.finished, last)) };
     }
 
 -- it was refused, and nothing has changed
@@ -154,7 +154,7 @@ cut_step old new cut =
         answered = now;
       };
       later = cut.later;
-      leaves = record { touched = cut.touched; costs = cut.costs };
+      leaves = (cut.touched, cut.costs);
     }
 
 unmade_step : (old new : Held) (fault : PointFault) → RunsWith old.point old old.world → IsUnbegun fault old new → AnswersFrom (Running old.world) event.Step (refused (errno_of_point fault)) old new (stops_for fault)

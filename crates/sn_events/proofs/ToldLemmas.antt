@@ -99,7 +99,7 @@ module _ (old new : Held) (session : ℕ) (c : Call) (o : Outcome) (picked : Cho
               means = (refl, on);
               lasts = record { moments = LeavesOnly-start old.disk (λ d. ShowsState (Running old.world) d ⊎ ShowsState (Running next) d) (λ d crash. inr (shows d crash)); answered = shows };
               later = later-same old.status old.status refl;
-              leaves = inr (record { alone = asks_nothing old session c alone; leaves = inl (record { none = has_no_change old.world old.kept session c o picked decided chosen none; drops = has_dropped; carries = carries_same old.base new.base old.world.live next.live carries }) });
+              leaves = inr (asks_nothing old session c alone, inl (record { none = has_no_change old.world old.kept session c o picked decided chosen none; drops = has_dropped; carries = carries_same old.base new.base old.world.live next.live carries }));
             };
             at_once = (refl, refl);
             met = tt;

@@ -98,16 +98,10 @@ abbrev pub NeedsPoint : Held → Event → Type 0
 NeedsPoint h (event.Call session c) = LacksFirst h session c ⊎ AsksFirst h session c
 NeedsPoint h e = Unit {0}
 
--- The layer drops the files without names of a snapshot's tree, and nothing else.
-pub record DropsUnnamed (name : List ℕ) (old : Held) (built : Layer) : Type 0 where
-  pub tree : Tree
-  pub frozen : map.get old.world.frozen name ≡ Some tree
-  pub changed : HasChanged limits_written built tree (settled tree) 0
-
 -- What the point of a call is built from: what changed since the root, and where it brings a snapshot back, what
--- drops the files without names of that one's tree.
+-- drops the files without names of that one's tree, and nothing else.
 abbrev pub BuildsFor : AskedPoint → Held → Layer → Type 0
-BuildsFor (Restores name) old built = DropsUnnamed name old built
+BuildsFor (Restores name) old built = (tree : Tree) × (map.get old.world.frozen name ≡ Some tree) × HasChanged limits_written built tree (settled tree) 0
 BuildsFor asked old built = built ≡ old.base.changed
 
 -- and that of an unmount: of that without the files that have no name
@@ -142,10 +136,6 @@ HasMadeRoom old new = HasMadePoint old.world (BuildsFor Plain old) old new
 abbrev pub HasMadeLast : Held → Held → Type 0
 HasMadeLast old new = HasMadePoint (settle old.world) (BuildsLast old) old new
 
--- what is kept once a point in progress is done
-abbrev pub base_of : Going → Kept → Kept
-base_of going k = record { slot = going.work.slot; root = going.work.plan.next; words = going.work.plan.words; changed = k.changed }
-
 -- The point in progress was finished, with the writes and syncs that were left of it, outside the root that counted: its own root counts,
 -- with what was logged, was charged and has changed since it began. The numbers that were kept back before no longer are.
 pub record HasFinished (old new : Held) : Type 0 where
@@ -157,7 +147,7 @@ pub record HasFinished (old new : Held) : Type 0 where
   pub since : (number : ℕ) → new.kept_since number ≡ old.kept_since number
   pub log : new.at ≡ old.at
   pub room : new.room ≡ done going.free old.room
-  pub base : new.base ≡ base_of going old.base
+  pub base : new.base ≡ record { slot = going.work.slot; root = going.work.plan.next; words = going.work.plan.words; changed = old.base.changed }
   pub touched : Touches (IsBesideRoot old) old.disk new.disk
   pub costs : new.status ≡ called (writes_left going.work going.stage) (syncs_left going.work going.stage) old.status
 
@@ -212,10 +202,6 @@ MayMeet old mid e met new = HasNotFailed old.status new
 abbrev pub writes_of : Change → ℕ
 writes_of change = body_sectors (payload_bytes change) + 2
 
--- the call results in no change of the tree
-abbrev pub HasNoChange : World → (ℕ → Bool) → ℕ → Call → Type 0
-HasNoChange world kept session c = (change : Change) → IsChangeOf world kept session c change → ⊥
-
 -- it lacks nothing: its record has room, its charge fits, its number isn't kept back, and a mount could make a point of it
 pub record HasAll (h : Held) (change : Change) (o : Outcome) : Type 0 where
   pub room : HasRoom h.at change
@@ -248,7 +234,7 @@ CarriesCharge charge old new = (figure : ℕ) → CarriesOn old.base old.world.l
 
 -- A call that results in no change of the tree writes nothing. Files without names may be dropped with it.
 pub record HasTold (session : ℕ) (c : Call) (old new : Held) : Type 0 where
-  pub none : HasNoChange old.world old.kept session c
+  pub none : (change : Change) → IsChangeOf old.world old.kept session c change → ⊥
   pub drops : HasDropped (nameless_in old.world.live) old new
   pub carries : CarriesCharge 0 old new
 
@@ -295,15 +281,8 @@ pub record HasPointed (session : ℕ) (c : Call) (old new : Held) : Type 0 where
   pub made : HasMadePoint (pointed asked.outcome.point old.world) (BuildsFor asked.outcome.point old) old new
 
 -- or it was cut off
-pub record IsCutAsked (session : ℕ) (c : Call) (old : Held) (disk : Disk) (status : Status) : Type 0 where
-  pub asked : AsksFirst old session c
-  pub fits : DoesNotFit old session c → ⊥
-  pub cut : IsCutPoint (BuildsFor asked.outcome.point old) old disk status
-
--- any other call
-pub record HasServed (session : ℕ) (c : Call) (old new : Held) : Type 0 where
-  pub alone : AsksFirst old session c → ⊥
-  pub leaves : HasTold session c old new ⊎ HasLogged session c old new
+abbrev pub IsCutAsked : ℕ → Call → Held → Disk → Status → Type 0
+IsCutAsked session c old disk status = (asked : AsksFirst old session c) × (DoesNotFit old session c → ⊥) × IsCutPoint (BuildsFor asked.outcome.point old) old disk status
 
 -- a call was cut off: its record, its own point, the one that made room for it, or the one in progress
 abbrev pub IsCutCall : Held → Held → ℕ → Call → Disk → Status → Type 0
@@ -313,7 +292,7 @@ IsCutCall old mid session c disk status = IsTried mid session c disk status ⊎ 
 -- After the point that a call makes first, where it needs one: one that asks for a point makes it, a call that results in a change is
 -- recorded, also where the change alters nothing, and any other writes nothing; nor does one that is refused.
 abbrev pub LeavesCall : Held → Held → ℕ → Call → Option Mishap → Held → Type 0
-LeavesCall old mid session c None new = HasPointed session c mid new ⊎ HasServed session c mid new
+LeavesCall old mid session c None new = HasPointed session c mid new ⊎ ((AsksFirst mid session c → ⊥) × (HasTold session c mid new ⊎ HasLogged session c mid new))
 LeavesCall old mid session c (Some Write) new = IsCutCall old mid session c new.disk new.status
 LeavesCall old mid session c (Some m) new = IsUnchanged m mid new
 
@@ -346,25 +325,17 @@ pub record HasGoneOn (old new : Held) : Type 0 where
   pub held : new ≡ record old { point = Some (record going { stage = next_stage going.work going.stage }); disk = new.disk; status = new.status }
   pub costs : new.status ≡ called (writes_in_step going.work going.stage) (syncs_of going.work going.stage) old.status
 
--- The last one has finished it.
-pub record HasEnded (old new : Held) : Type 0 where
-  pub finished : HasFinished old new
-  pub last : finished.going.stage ≡ Bodied
-
--- A step says that there is more where it has begun or continued a point, and that it is done where the tree that was frozen became
--- durable: it writes outside the root that counts.
+-- A step says that there is more where it has begun or continued a point, and that it is done where it has finished the point at its
+-- last stage, so that the tree that was frozen became durable: it writes outside the root that counts.
 pub record HasStepped (reply : Reply) (old new : Held) : Type 0 where
   pub touched : Touches (IsBesideRoot old) old.disk new.disk
-  pub told : ((reply ≡ answer.Progress progress.More) × (HasBegun old new ⊎ HasGoneOn old new)) ⊎ ((reply ≡ answer.Progress progress.Done) × HasEnded old new)
+  pub told : ((reply ≡ answer.Progress progress.More) × (HasBegun old new ⊎ HasGoneOn old new))
+      ⊎ ((reply ≡ answer.Progress progress.Done) × ((finished : HasFinished old new) × (finished.going.stage ≡ Bodied)))
 
--- one that was cut off, of at most eight writes and a sync
-pub record IsStepCut (old : Held) (disk : Disk) (status : Status) : Type 0 where
-  pub touched : Touches (IsBesideRoot old) old.disk disk
-  pub costs : CostsAtMost 8 1 old.status status
-
+-- one that was cut off wrote there too, with at most eight writes and a sync
 abbrev pub LeavesStep : Held → Option Mishap → Reply → Held → Type 0
 LeavesStep old None reply new = HasStepped reply old new
-LeavesStep old (Some Write) reply new = IsStepCut old new.disk new.status
+LeavesStep old (Some Write) reply new = Touches (IsBesideRoot old) old.disk new.disk × CostsAtMost 8 1 old.status new.status
 LeavesStep old (Some m) reply new = IsUnchanged m old new
 
 -- how many steps a point in progress has left

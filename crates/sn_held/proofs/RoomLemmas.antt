@@ -1,6 +1,7 @@
 -- What is charged on top of a root, change by change, and what of it is the same on another store.
 use Rattle.std.proofs.Common.{◌≡◌, ℕ, ◌+◌, ◌≤◌, Bool, true, false, cond, T, List, [], ◌∷◌, ◌++◌, Option, Some, None, count_by, flat_map, slice_index, refl, sym, ap, subst, ◌∙◌, arith}
 use Rattle.std.specs.List.{filter}
+use Rattle.std.specs.Option.{option_map_or}
 use Rattle.std.specs.Prelude.{not, ◌||◌}
 use Rattle.std.proofs.lemmas.Bool.{true≢false}
 use Rattle.std.proofs.lemmas.List.{nil_from_length}
@@ -35,7 +36,7 @@ use Rattle.sn_image.proofs.FootprintLemmas.{roots_depend}
 use Rattle.sn_opening.specs.Covering.{MakesCover}
 use Rattle.sn_opening.specs.Worlds.{all_reach}
 use Rattle.sn_room.specs.Rooms.{RoomCounts}
-use Rattle.sn_sound.specs.Charges.{Fits, after_change, charges_from}
+use Rattle.sn_sound.specs.Charges.{Fits, charges_from}
 use Rattle.sn_sound.specs.Maps.{IsSoundRoot, free_blocks}
 use Rattle.sn_sound.proofs.ChargeLemmas.{charged_alike}
 use Rattle.sn_sound.proofs.FreeLemmas.{free_counted}
@@ -52,13 +53,13 @@ charges_join limits (c ∷ cs) second from tree e = told (apply limits c from) r
   where
     told : (next : Option Tree) → apply limits c from ≡ next → (next >>= apply_all limits cs) ≡ Some tree
         → ((middle : Tree) → apply_all limits cs middle ≡ Some tree → charges_from limits (cs ++ second) middle ≡ charges_from limits cs middle + charges_from limits second tree)
-        → charge_for limits from c + after_change (charges_from limits (cs ++ second)) (apply limits c from) ≡ charge_for limits from c + after_change (charges_from limits cs) (apply limits c from) + charges_from limits second tree
+        → charge_for limits from c + option_map_or (charges_from limits (cs ++ second)) (apply limits c from) 0 ≡ charge_for limits from c + option_map_or (charges_from limits cs) (apply limits c from) 0 + charges_from limits second tree
     told (Some middle) is made again =
         omega (
           arith,
           again middle made,
-          ap (after_change (charges_from limits (cs ++ second))) is,
-          ap (after_change (charges_from limits cs)) is,
+          ap (λ (o : Option Tree). option_map_or (charges_from limits (cs ++ second)) o 0) is,
+          ap (λ (o : Option Tree). option_map_or (charges_from limits cs) o 0) is,
         )
     told None is made again = absurd cc
 
@@ -66,7 +67,7 @@ pub one_charge : (limits : Limits) (tree : Tree) (change : Change) → charges_f
 unfolding charges_from
 one_charge limits tree change = told (apply limits change tree)
   where
-    told : (next : Option Tree) → charge_for limits tree change + after_change (charges_from limits []) next ≡ charge_for limits tree change
+    told : (next : Option Tree) → charge_for limits tree change + option_map_or (charges_from limits []) next 0 ≡ charge_for limits tree change
     told None = omega arith
     told (Some after) = omega arith
 

@@ -10,11 +10,9 @@ use Rattle.sn_ondisk.specs.Trees.{Store}
 -- the tag of a number, with the user or the group that it may have
 abbrev pub tag_in : ℕ → ℕ → Tag
 tag_in number id =
-    if number == 1 then UserObj
-    else (if number == 2 then User id
-    else (if number == 3 then GroupObj
-    else (if number == 4 then Group id
-    else (if number == 5 then Mask else Other))))
+    if number == 1 then UserObj else if number == 2 then User id else
+    if number == 3 then GroupObj else if number == 4 then Group id else
+    if number == 5 then Mask else Other
 
 abbrev pub entry_in : List ℕ → Entry
 entry_in bytes = record { tag = tag_in (slice_index bytes 0) (little_number 4 (drop 4 bytes)); permissions = slice_index bytes 1 }

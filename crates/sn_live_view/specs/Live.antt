@@ -1,5 +1,4 @@
 -- What is seen of the live tree and the frozen ones, and the table of the live one's numbers.
-use Rattle.std.specs.FinMap as map
 use Rattle.sn_desc.specs.InUse.{InUse}
 use Rattle.sn_frozen.specs.Frozen.{FrozenTrees}
 use Rattle.sn_limits.specs.Versions.{limits_written}
@@ -21,7 +20,3 @@ pub record IsNumbered (tree : Tree) (numbers : NumberTable) : Type 0 where
 -- trees with who is logged in and what is open
 abbrev pub world_of : InUse → Trees → World
 world_of used trees = record { live = trees.live; frozen = trees.frozen; sessions = used.sessions; descriptors = used.descriptors }
-
--- a live tree alone, without frozen ones
-abbrev pub live_world : InUse → Tree → World
-live_world used tree = world_of used (live_trees tree map.empty)

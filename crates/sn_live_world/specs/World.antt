@@ -1,10 +1,11 @@
 -- Which world is shown of a live tree and its sessions.
 use Rattle.std.specs.Prelude.{◌≡◌, ℕ, Bool}
+use Rattle.std.specs.FinMap as map
 use Rattle.sn_desc.specs.Sessions.{in_use_of}
 use Rattle.sn_live.specs.Live as live
 use Rattle.sn_live.specs.Prepared as prepared
 use Rattle.sn_live.specs.declared.preparing.PreparedLive.{PreparedLive}
-use Rattle.sn_live_view.specs.Live.{live_world}
+use Rattle.sn_live_view.specs.Live.{live_trees, world_of}
 use Rattle.sn_live_world.specs.declared.world.LiveWorld.{LiveWorld}
 use Rattle.sn_model.specs.Descriptors.{Descriptors}
 use Rattle.sn_model.specs.Tree.{Tree}
@@ -16,13 +17,13 @@ use Rattle.sn_overlay.specs.Overlays.{no_changes}
 abbrev pub tree_over : LiveWorld → Tree → Tree
 tree_over w below = live.shown_of w.live below
 
--- with who is logged in, and without frozen trees: no change makes any difference to them
-abbrev pub world_over : LiveWorld → Tree → World
-world_over w below = live_world (in_use_of w.sessions) (tree_over w below)
-
--- over the live tree of a root, and with the frozen ones beside it
+-- over the live tree of a root, with the frozen ones beside it, who is logged in, and what is open
 abbrev pub world_in : LiveWorld → Trees → World
-world_in w trees = record (world_over w trees.live) { frozen = trees.frozen }
+world_in w trees = world_of (in_use_of w.sessions) (record { live = tree_over w trees.live; frozen = trees.frozen })
+
+-- the same without frozen trees: no change makes any difference to them
+abbrev pub world_over : LiveWorld → Tree → World
+world_over w below = world_in w (live_trees below map.empty)
 
 -- the state belongs to a tree below
 abbrev pub IsOver : LiveWorld → Tree → Type 0

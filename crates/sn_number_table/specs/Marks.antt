@@ -4,30 +4,23 @@ use Rattle.sn_number_table.specs.declared.mark.Mark.{Mark}
 use Rattle.sn_number_table.specs.declared.mark.Mark.TheVariants.{Free, Taken, KeptBefore, KeptSince}
 
 abbrev pub has_node : Mark → Bool
-has_node Free = false
 has_node Taken = true
-has_node KeptBefore = false
-has_node KeptSince = false
+has_node mark = false
 
 abbrev pub is_kept : Mark → Bool
-is_kept Free = false
-is_kept Taken = false
 is_kept KeptBefore = true
 is_kept KeptSince = true
+is_kept mark = false
 
 -- since the consistency point in progress began, or the durable root's where none is
 abbrev pub is_since : Mark → Bool
-is_since Free = false
-is_since Taken = false
-is_since KeptBefore = false
 is_since KeptSince = true
+is_since mark = false
 
 -- a search for a free number passes over it
 abbrev pub is_used : Mark → Bool
 is_used Free = false
-is_used Taken = true
-is_used KeptBefore = true
-is_used KeptSince = true
+is_used mark = true
 
 -- when a node is removed
 abbrev pub without_node : Mark → Mark

@@ -18,7 +18,7 @@ use Rattle.sn_overlay.specs.declared.node.NodeChange.TheVariants.{Gone, Changed}
 use Rattle.sn_overlay.specs.declared.node.NodeState.{NodeState}
 use Rattle.sn_overlay.specs.Pieces.{zeros, piece, joined}
 use Rattle.sn_overlay.specs.Keys.{file_block_at}
-use Rattle.sn_overlay.specs.Layers.{Layer, IsLayer, Fits, through, hides_names, hides_block, block_seen, bytes_of, kind_of, acls_of, node_seen, name_seen}
+use Rattle.sn_overlay.specs.Layers.{Layer, IsLayer, Fits, through, hides_names, hides_block, block_seen, bytes_of, acls_of, node_seen, name_seen}
 use Rattle.sn_overlay.specs.Merges.{merge, state_over}
 use Rattle.sn_overlay.proofs.PieceLemmas.{length-zeros, length-piece, joined_alike, piece-joined}
 use Rattle.sn_overlay.proofs.LayerLemmas.{get-through_nodes, get-through_links, get-merge_nodes, get-merge_names, get-merge_blocks, nodes_over, kept_under}
@@ -64,7 +64,7 @@ record Tells {A : Type 0} (of_node : Node → A) (of_state : NodeState → A) (a
   parts : (o s : NodeState) → apart (state_over o s) ≡ false → (apart o ≡ false) × (apart s ≡ false)
   old : (s : NodeState) → apart s ≡ false → s.fresh ≡ false
 
-tells_kinds : Tells kind_of (λ (s : NodeState). s.kind) (λ (s : NodeState). s.fresh)
+tells_kinds : Tells (λ (node : Node). node.kind) (λ (s : NodeState). s.kind) (λ (s : NodeState). s.fresh)
 tells_kinds = record { shown = λ s bytes. refl; over = λ o s. refl; parts = λ o s h. neither o.fresh s.fresh h; old = λ s h. h }
 
 abbrev acls_told : NodeState → List Entry × Option (List Entry)
@@ -163,7 +163,7 @@ module _ (older newer : Layer) (ho : IsLayer older) (hn : IsLayer newer) where
   module _ (tree : Tree) (fo : Fits older tree) (fn : Fits newer (through older tree)) where
     -- what isn't made anew is seen below
     not_gone : (number : ℕ) (state : NodeState) (change : Option NodeChange) → map.get older.nodes number ≡ change → map.get newer.nodes number ≡ Some (Changed state) → state.fresh ≡ false → is_some (node_seen older number change (map.get tree.nodes number)) ≡ true
-    not_gone number state change e f g = ap (λ c. is_some (node_seen older number c (map.get tree.nodes number))) (sym e) ∙ ap is_some (sym (get-through_nodes older tree number)) ∙ told_some kind_of _ _ (fn.kinds number state f g)
+    not_gone number state change e f g = ap (λ c. is_some (node_seen older number c (map.get tree.nodes number))) (sym e) ∙ ap is_some (sym (get-through_nodes older tree number)) ∙ told_some (λ (node : Node). node.kind) _ _ (fn.kinds number state f g)
 
     node_over : (number : ℕ) (old new : Option NodeChange) → map.get older.nodes number ≡ old → map.get newer.nodes number ≡ new
         → node_seen (merge older newer) number (nodes_over old new) (map.get tree.nodes number) ≡ node_seen newer number new (node_seen older number old (map.get tree.nodes number))
@@ -314,7 +314,7 @@ module _ (older newer : Layer) (ho : IsLayer older) (hn : IsLayer newer) where
 
     pub merge_fits : Fits (merge older newer) tree
     merge_fits = record {
-      kinds = λ n s e g. below_over kind_of (λ (s : NodeState). s.kind) (λ (s : NodeState). s.fresh) tells_kinds n (fo.kinds n) (fn.kinds n) s (map.get older.nodes n) (map.get newer.nodes n) refl refl (sym (get-merge_nodes older newer n) ∙ e) g;
+      kinds = λ n s e g. below_over (λ (node : Node). node.kind) (λ (s : NodeState). s.kind) (λ (s : NodeState). s.fresh) tells_kinds n (fo.kinds n) (fn.kinds n) s (map.get older.nodes n) (map.get newer.nodes n) refl refl (sym (get-merge_nodes older newer n) ∙ e) g;
       acls = λ n s e g k. below_over acls_of acls_told apart_acls tells_acls n (λ s e q. let both = neither s.fresh s.acl_changed q in fo.acls n s e both.0 both.1) (λ s e q. let both = neither s.fresh s.acl_changed q in fn.acls n s e both.0 both.1) s (map.get older.nodes n) (map.get newer.nodes n) refl refl (sym (get-merge_nodes older newer n) ∙ e) (ap (λ b. b || s.acl_changed) g ∙ k);
       zeros = λ n s index at e b k. zeros_over n s index at (map.get older.nodes n) (map.get newer.nodes n) refl refl (sym (get-merge_nodes older newer n) ∙ e) b k;
     }

@@ -4,7 +4,6 @@ use Rattle.std.specs.Ordering.{nat_cmp}
 use Rattle.std.specs.Option.{option_map, unwrap_or}
 use Rattle.std.specs.FinMap as map
 use Rattle.sn_acl.specs.declared.entries.Entry.{Entry}
-use Rattle.sn_limits.specs.declared.kind.Kind.{Kind}
 use Rattle.sn_model.specs.declared.link.Link.{Link}
 pub use Rattle.sn_model.specs.FileCalls.{bytes_of}
 use Rattle.sn_model.specs.Tree.{Node, Tree, link_cmp}
@@ -29,15 +28,18 @@ hides_names None = false
 hides_names (Some (Gone by_close)) = true
 hides_names (Some (Changed state)) = state.fresh
 
--- and the blocks, as a cut hides those after it
+-- a file made anew hides the blocks that its number had, as a cut does with those after it
+abbrev pub is_hidden : NodeState → ℕ → Bool
+is_hidden state index = state.fresh || nat_le state.cut (index * 4096)
+
 abbrev pub hides_block : Option NodeChange → ℕ → Bool
 hides_block None index = false
 hides_block (Some (Gone by_close)) index = true
-hides_block (Some (Changed state)) index = state.fresh || nat_le state.cut (index * 4096)
+hides_block (Some (Changed state)) index = is_hidden state index
 
 -- the block of a changed file: the layer's, or zeros where what is below is hidden, or what is below
 abbrev pub block_seen : Layer → ℕ → NodeState → List ℕ → ℕ → List ℕ
-block_seen layer number state below index = unwrap_or (map.get layer.blocks (file_block_at number index)) (if hides_block (Some (Changed state)) index then zeros 4096 else piece 4096 below index)
+block_seen layer number state below index = unwrap_or (map.get layer.blocks (file_block_at number index)) (if is_hidden state index then zeros 4096 else piece 4096 below index)
 
 abbrev pub node_seen : Layer → ℕ → Option NodeChange → Option Node → Option Node
 node_seen layer number None below = below
@@ -63,15 +65,12 @@ pub record IsLayer (layer : Layer) : Type 0 where
   pub begins : (file_block : FileBlock) (state : NodeState) → is_some (map.get layer.blocks file_block) ≡ true → map.get layer.nodes file_block.file ≡ Some (Changed state) → file_block.index * 4096 < state.size
   pub cuts : (number : ℕ) (state : NodeState) → map.get layer.nodes number ≡ Some (Changed state) → state.cut ≤ state.size
 
-abbrev pub kind_of : Node → Kind
-kind_of node = node.kind
-
 -- the two ACLs of a node
 abbrev pub acls_of : Node → List Entry × Option (List Entry)
 acls_of node = (node.acl, node.default_acl)
 
 -- It fits a tree below: what isn't made anew is there and of that kind, with those ACLs unless it says that they may differ, and blocks are zeros past the end of their file.
 pub record Fits (layer : Layer) (tree : Tree) : Type 0 where
-  pub kinds : (number : ℕ) (state : NodeState) → map.get layer.nodes number ≡ Some (Changed state) → state.fresh ≡ false → option_map kind_of (map.get tree.nodes number) ≡ Some state.kind
+  pub kinds : (number : ℕ) (state : NodeState) → map.get layer.nodes number ≡ Some (Changed state) → state.fresh ≡ false → option_map (λ (node : Node). node.kind) (map.get tree.nodes number) ≡ Some state.kind
   pub acls : (number : ℕ) (state : NodeState) → map.get layer.nodes number ≡ Some (Changed state) → state.fresh ≡ false → state.acl_changed ≡ false → option_map acls_of (map.get tree.nodes number) ≡ Some (state.ownership.acl, state.ownership.default_acl)
   pub zeros : (number : ℕ) (state : NodeState) (index at : ℕ) → map.get layer.nodes number ≡ Some (Changed state) → at < 4096 → state.size ≤ index * 4096 + at → slice_index (block_seen layer number state (bytes_of (map.get tree.nodes number)) index) at ≡ 0

@@ -23,7 +23,7 @@ use Rattle.sn_overlay.specs.declared.node.NodeChange.TheVariants.{Gone, Changed}
 use Rattle.sn_overlay.specs.declared.node.NodeState.{NodeState}
 use Rattle.sn_overlay.specs.Pieces.{zeros, piece}
 use Rattle.sn_overlay.specs.Keys.{file_block_cmp, file_block_at}
-use Rattle.sn_overlay.specs.Layers.{Layer, IsLayer, Fits, hides_block, block_seen, bytes_of, kind_of, acls_of}
+use Rattle.sn_overlay.specs.Layers.{Layer, IsLayer, Fits, hides_block, block_seen, bytes_of, acls_of}
 use Rattle.sn_overlay.specs.Overlays.{no_changes, with_node}
 use Rattle.sn_overlay_change.specs.ChangeLayers.{state_of, new_state, with_change, changing, touching, one_name_less, without_name, with_blocks}
 use Rattle.sn_overlay.proofs.OverlaidLemmas.{exact_file_blocks, file_blocks_total}
@@ -46,7 +46,7 @@ every_with {K} {X} {R} o exact m P key value h here k v e = told (eq_by_cmp R k 
 -- a node as a layer may have it over a tree
 pub record IsSound (tree : Tree) (number : ℕ) (s : NodeState) : Type 0 where
   pub cut : s.cut ≤ s.size
-  pub kinds : s.fresh ≡ false → option_map kind_of (map.get tree.nodes number) ≡ Some s.kind
+  pub kinds : s.fresh ≡ false → option_map (λ (node : Node). node.kind) (map.get tree.nodes number) ≡ Some s.kind
   pub acls : s.fresh ≡ false → s.acl_changed ≡ false → option_map acls_of (map.get tree.nodes number) ≡ Some (s.ownership.acl, s.ownership.default_acl)
   pub zeros : (index at : ℕ) → at < 4096 → s.size ≤ index * 4096 + at → get_or (cond (hides_block (Some (Changed s)) index) (zeros 4096) (piece 4096 (bytes_of (map.get tree.nodes number)) index)) at 0 ≡ 0
 
@@ -63,7 +63,7 @@ pub sound_kept : (tree : Tree) (number : ℕ) (s : NodeState) (node : Node) → 
 unfolding acls_in
 sound_kept tree number s node there size cut kind owned = record {
   cut = omega arith;
-  kinds = λ _. ap (option_map kind_of) there ∙ ap (λ k. Some k) (sym kind);
+  kinds = λ _. ap (option_map (λ (node : Node). node.kind)) there ∙ ap (λ k. Some k) (sym kind);
   acls = λ _ e. ap (option_map acls_of) there ∙ ap (λ o. Some (acls_in o)) (sym (owned e));
   zeros = λ index at b k. ap (λ n. get_or (cond (hides_block (Some (Changed s)) index) (zeros 4096) (piece 4096 (bytes_of n) index)) at 0) there
       ∙ told index at b (omega arith) (hides_block (Some (Changed s)) index);
@@ -195,7 +195,7 @@ whole_names layer tree names h are = (
 -- the state of a file whose blocks a layer has
 record IsFileState (layer : Layer) (tree : Tree) (number : ℕ) (s : NodeState) : Type 0 where
   cut : s.cut ≤ s.size
-  kinds : option_map kind_of (map.get tree.nodes number) ≡ Some s.kind
+  kinds : option_map (λ (node : Node). node.kind) (map.get tree.nodes number) ≡ Some s.kind
   acls : option_map acls_of (map.get tree.nodes number) ≡ Some (s.ownership.acl, s.ownership.default_acl)
   zeros : (index at : ℕ) → at < 4096 → s.size ≤ index * 4096 + at → get_or (block_seen layer number s (bytes_of (map.get tree.nodes number)) index) at 0 ≡ 0
 
@@ -244,7 +244,7 @@ whole_file layer tree number s node new nodes names blocks there kind owned cut 
     here : IsFileState layer tree number s
     here = record {
       cut = cut;
-      kinds = ap (option_map kind_of) there ∙ ap (λ k. Some k) (sym kind);
+      kinds = ap (option_map (λ (node : Node). node.kind)) there ∙ ap (λ k. Some k) (sym kind);
       acls = ap (option_map acls_of) there ∙ ap (λ o. Some (acls_in o)) (sym owned);
       zeros = λ index at b k. ap (λ n. get_or (block_seen layer number s (bytes_of n) index) at 0) there
           ∙ ap (λ (l : List ℕ). get_or l at 0) (seen index)

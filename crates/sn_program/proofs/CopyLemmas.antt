@@ -21,7 +21,7 @@ use Rattle.sn_model.specs.declared.reply.Reply.{Reply}
 use Rattle.sn_model.specs.Machine.{State, Running, Anything, CutRun}
 use Rattle.sn_model.specs.World.{World}
 use Rattle.sn_held.specs.Images.{IsImage}
-use Rattle.sn_run.specs.Runs.{IsRunOf, LeavesAll, LeavesFrom, LeavesItsRun, ShowsCut}
+use Rattle.sn_run.specs.Runs.{IsRunOf, LeavesFrom, LeavesItsRun, ShowsCut}
 use Rattle.sn_run.proofs.CutLemmas.{cut_now, found_settled}
 use Rattle.sn_program.specs.Answers.{AreEventsOf, IsRun}
 use Rattle.sn_program.specs.Copies.{IsCutShort}
@@ -51,10 +51,10 @@ pub kept : (copy last : Disk) (world : World) (events : List Event) (replies : L
     → IsRunOf world events replies end copy last → CrashNow last left → ShowsCut (Running world) events replies left
 kept copy last world events replies end left whole synced image run crash = of run.crash
   where
-    of : LeavesAll replies copy last ⊎ LeavesItsRun world events replies copy last → ShowsCut (Running world) events replies left
+    of : ((replies ≡ []) × Touches Nowhere copy last) ⊎ LeavesItsRun world events replies copy last → ShowsCut (Running world) events replies left
     of (inl h) =
-        let here = untouched (λ c. IsImage c world) copy last whole synced image h.touches left crash in
-        let cut : CutRun Anything limits_written (Running world) events replies world = subst (λ (r : List Reply). CutRun Anything limits_written (Running world) events r world) (sym h.none) (cut_now world events (found_settled (reads copy) world image)) in
+        let here = untouched (λ c. IsImage c world) copy last whole synced image h.1 left crash in
+        let cut : CutRun Anything limits_written (Running world) events replies world = subst (λ (r : List Reply). CutRun Anything limits_written (Running world) events r world) (sym h.0) (cut_now world events (found_settled (reads copy) world image)) in
         (world, here, cut)
     of (inr h) = at_last (Running world) events [] replies h.mounted last h.moments left crash
 

@@ -1,8 +1,7 @@
 -- The line of a reply.
-use Rattle.std.specs.Prelude.{ℕ, ◌+◌, Bool, List, ◌∷◌, ◌++◌, Option, codes, decimal, if◌then◌else◌}
+use Rattle.std.specs.Prelude.{ℕ, ◌+◌, Bool, List, ◌∷◌, ◌++◌, codes, decimal, if◌then◌else◌}
 use Rattle.std.specs.Option.{option_map_or}
 use Rattle.std.specs.List.{flat_map}
-use Rattle.sn_acl.specs.declared.entries.Entry.{Entry}
 use Rattle.sn_acl.specs.Modes.{mode_bits}
 use Rattle.sn_acl.specs.Text.{acl_text}
 use Rattle.sn_limits.specs.declared.kind.Kind.{Kind}
@@ -32,10 +31,7 @@ status_line s = codes "ok " ++ kind_name s.kind ++ codes " " ++ octal (status_mo
 abbrev pub names_line : List (List ℕ) → List ℕ
 names_line names = codes "ok" ++ flat_map (λ name. 32 ∷ name) names ++ codes "\n"
 
--- a dash for none
-abbrev pub some_acl_text : Option (List Entry) → List ℕ
-some_acl_text found = option_map_or acl_text found (codes "-")
-
+-- with a dash where there is no ACL
 abbrev pub reply_line : Reply → List ℕ
 reply_line reply.Done = codes "ok\n"
 reply_line (reply.Mode m) = codes "ok " ++ octal (mode_bits m) ++ codes "\n"
@@ -43,7 +39,7 @@ reply_line (reply.Number n) = codes "ok " ++ decimal n ++ codes "\n"
 reply_line (reply.Content bytes) = codes "ok " ++ content_word bytes ++ codes "\n"
 reply_line (reply.Status s) = status_line s
 reply_line (reply.Names names) = names_line names
-reply_line (reply.Acl acl) = codes "ok " ++ some_acl_text acl ++ codes "\n"
+reply_line (reply.Acl acl) = codes "ok " ++ option_map_or acl_text acl (codes "-") ++ codes "\n"
 reply_line (reply.Progress p) = codes "ok " ++ progress_text p ++ codes "\n"
 reply_line (reply.Refused r) = codes "err " ++ refusal_text r ++ codes "\n"
 reply_line (reply.Unmounted f) = codes "fault " ++ mount_fault_text f ++ codes "\n"

@@ -1,7 +1,9 @@
 ghost use Rattle.std.specs.Prelude.{◌≡◌, ◌<◌, ◌++◌, OnOk, IfOk, codes};
 ghost use Rattle.std.specs.List.{flat_map};
+ghost use Rattle.std.specs.Option.{option_map_or};
+ghost use Rattle.sn_acl.specs.Text.{acl_text};
 ghost use Rattle.sn_words.specs.Fields.{octal, content_word};
-ghost use Rattle.sn_replies.specs.Replies.{kind_name, status_mode, status_line, names_line, some_acl_text, reply_line};
+ghost use Rattle.sn_replies.specs.Replies.{kind_name, status_mode, status_line, names_line, reply_line};
 
 use sn_limits::Kind;
 use sn_model::{FileData, FileStatus, Names, Reply, StoredAcl};
@@ -90,7 +92,7 @@ fn push_names(text: &mut Vec<u8>, names: &Names) -> io::Result<()>
 }
 
 fn push_acl(text: &mut Vec<u8>, acl: &Option<StoredAcl>) -> io::Result<()>
-    ensures { OnOk result (text.new.items ≡ text.old.items ++ codes "ok " ++ some_acl_text acl.now ++ codes "\n") }
+    ensures { OnOk result (text.new.items ≡ text.old.items ++ codes "ok " ++ option_map_or acl_text acl.now (codes "-") ++ codes "\n") }
 {
     match acl {
         None => writeln!(text, "ok -"),

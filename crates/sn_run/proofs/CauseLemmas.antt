@@ -148,7 +148,7 @@ module _ (events : List Event) (replies : List Reply) (disk last_disk : Disk) (s
   served_ends : (end : End) (s : Served events replies end disk status last_disk last_status) → ServedToItsEnd end events replies disk status last_disk last_status s
   served_ends end s world image =
       let it = s.served world image in
-      let began : s.mounted.status.failures ≡ status.failures = mount_unfailing s.blocks status s.mounted.status s.costs in
+      let began : s.mounted.status.failures ≡ status.failures = mount_unfailing s.costs.0 status s.mounted.status s.costs.2 in
       let rest = runs_later (start world s.mounted) it.last events replies it.run in
       let ended : it.last.held.status.failures ≡ s.mounted.status.failures = omega (arith, rest.failures, it.ended.later.failures, same, began) in
       run_ends (start world s.mounted) it.last events replies it.run ended
@@ -173,7 +173,7 @@ module _ (events : List Event) (replies : List Reply) (disk last_disk : Disk) (s
   served_cause s world image =
       let it = s.served world image in
       let e = it.ended in
-      let began : s.mounted.status.failures ≡ status.failures = mount_unfailing s.blocks status s.mounted.status s.costs in
+      let began : s.mounted.status.failures ≡ status.failures = mount_unfailing s.costs.0 status s.mounted.status s.costs.2 in
       let rest = runs_later (start world s.mounted) it.last events replies it.run in
       let failed : last_status.failures ≡ it.last.held.status.failures = omega (arith, rest.failures, e.later.failures, same, began) in
       cause_of it.last.state it.last.held e.fin e.mid e.met e.ends e.may (failed ∙ sym (fin_failures it.last.state event.Restart it.last.held e.fin e.finish)) e.later

@@ -21,7 +21,7 @@ use Rattle.sn_held.specs.Held.{Going, Held, RunsReady}
 use Rattle.sn_cp_progress.specs.Meaning.{Means, RunsWith, progress_over}
 use Rattle.sn_cp_progress.proofs.CallLemmas.{fits_on_next}
 use Rattle.sn_cp_progress.proofs.MeaningLemmas.{runs_with}
-use Rattle.sn_events.specs.Answers.{AnswersFrom, AsksFirst, HasPointed, HasServed, IsBehindFinish, IsBehindPoint, Leaves, is_fitting, left_of}
+use Rattle.sn_events.specs.Answers.{AnswersFrom, AsksFirst, HasLogged, HasPointed, HasTold, IsBehindFinish, IsBehindPoint, Leaves, is_fitting, left_of}
 use Rattle.sn_events.specs.Durable.{IsInItsRoot}
 use Rattle.sn_events.proofs.CountedLemmas.{counts_event}
 use Rattle.sn_events.proofs.DurableLemmas.{in_its_root}
@@ -62,13 +62,13 @@ module _ (old new : Held) (had has : Bool) (session : ℕ) (c : Call) (asks : As
       asked : AsksFirst mid session c
       asked = record { asks = asks; outcome = d.0; decided = subst (λ (x : World). decision limits_written x session c ≡ Ok d.0) (sym (world_behind w fin mid p ∙ world_there w fin f m.1)) d.1 }
 
-      told : HasPointed session c mid new ⊎ HasServed session c mid new → Always new.disk (IsInItsRoot new.world.live (settle new.world))
+      told : HasPointed session c mid new ⊎ ((AsksFirst mid session c → ⊥) × (HasTold session c mid new ⊎ HasLogged session c mid new)) → Always new.disk (IsInItsRoot new.world.live (settle new.world))
       told (inl pointed) =
           let fresh = pointed.made.fresh in
           let runs : Means new has (Running step.0) = subst (Means new has) step.2 n in
           let ready : RunsReady new step.0 new.base = subst (λ (p : Option Going). RunsWith p new step.0) fresh.between runs.1 in
           subst (λ (x : World). Always new.disk (IsInItsRoot x.live (settle x))) (sym ready.runs.is) (in_its_root new step.0 ready fresh)
-      told (inr served) = absurd (served.alone asked)
+      told (inr served) = absurd (served.0 asked)
   leaves_all (Running w) (Some Memory) state fin mid f p step m n l = absurd (done_is_refused Enomem step.1.told)
   leaves_all (Running w) (Some Read) state fin mid f p step m n l = absurd (done_is_refused Eio step.1.told)
   leaves_all (Running w) (Some Write) state fin mid f p step m n l = absurd (done_is_refused Eio step.stops.told)

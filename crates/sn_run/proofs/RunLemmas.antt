@@ -29,7 +29,7 @@ use Rattle.sn_events.specs.Mounting.{Mounts}
 use Rattle.sn_run.specs.Ending.{EndsSo, IsLastEnd}
 use Rattle.sn_run.specs.Servers.{no_base}
 use Rattle.sn_run.specs.Laws.{LivesOn}
-use Rattle.sn_run.specs.Runs.{AnswersAll, Goes, IsRunOf, IsServed, LacksRoot, LeavesAll, LeavesFrom, LeavesItsRun, NotMounted, RunsTo, Served, ShowsCut, start}
+use Rattle.sn_run.specs.Runs.{AnswersAll, Goes, IsRunOf, IsServed, LacksRoot, LeavesFrom, LeavesItsRun, NotMounted, RunsTo, Served, ShowsCut, start}
 use Rattle.sn_run.proofs.CutLemmas.{cut_now, found_settled, machine_run, run_leaves}
 use Rattle.sn_run.proofs.RestartLemmas.{met_with}
 use Rattle.sn_run.proofs.UnfitLemmas.{lacks_none, unfit_fault}
@@ -61,9 +61,7 @@ module _ (events : List Event) (replies : List Reply) (disk last_disk : Disk) (s
     fresh = m.fresh;
     clean = m.clean;
     touched = m.touched;
-    blocks = n;
-    within = within;
-    costs = costs;
+    costs = (n, within, costs);
     served = λ world image.
         let it = m.runs world image in
         let a = subst (λ (b : Bool). AnswersAll events replies h b new has) m.running all (Running world) (subst (λ (b : Bool). Means h b (Running world)) m.running it.means) in
@@ -111,8 +109,8 @@ module _ (events : List Event) (replies : List Reply) (disk last_disk : Disk) (s
   shows_cut : (c : Contents) → IsImage c world → ShowsCut (Running world) events [] c
   shows_cut c h = (world, h, cut_now world events (found_settled (reads disk) world image))
 
-  left_so : replies ≡ [] → Touches Nowhere disk last_disk ⊎ LeavesTheWorld disk last_disk world → LeavesAll replies disk last_disk ⊎ LeavesItsRun world events replies disk last_disk
-  left_so none (inl touches) = inl (record { none = none; touches = touches })
+  left_so : replies ≡ [] → Touches Nowhere disk last_disk ⊎ LeavesTheWorld disk last_disk world → ((replies ≡ []) × Touches Nowhere disk last_disk) ⊎ LeavesItsRun world events replies disk last_disk
+  left_so none (inl touches) = inl (none, touches)
   left_so none (inr leaves) = inr (record {
     mounted = last_disk;
     mounts = leaves;
@@ -134,8 +132,8 @@ module _ (events : List Event) (replies : List Reply) (disk last_disk : Disk) (s
   is_run ending.Stopped h = served_run ending.Stopped h
   is_run ending.Memory (inr s) = served_run ending.Memory s
   is_run ending.Memory (inl h) = record {
-    run = inl (tt, h.none, refl);
-    crash = inl (record { none = h.none; touches = subst (λ (d : Disk). Touches Nowhere disk d) (sym h.left) (Touches-start Nowhere disk) });
+    run = inl (tt, h.0, refl);
+    crash = inl (h.0, subst (λ (d : Disk). Touches Nowhere disk d) (sym h.1) (Touches-start Nowhere disk));
   }
   is_run (ending.Mount f) h = unserved_run f h
 
@@ -150,7 +148,7 @@ module _ (events : List Event) (replies : List Reply) (disk last_disk : Disk) (s
   is_unfit ending.Clean h = absurd (never_served ending.Clean h)
   is_unfit ending.Stopped h = absurd (never_served ending.Stopped h)
   is_unfit ending.Memory (inr s) = absurd (never_served ending.Memory s)
-  is_unfit ending.Memory (inl h) = inl (tt, h.none, refl)
+  is_unfit ending.Memory (inl h) = inl (tt, h.0, refl)
   is_unfit (ending.Mount g) h = inr (unfit_fault f g status.sectors (reads disk) events replies h.none lacks h.left.cause)
 
 -- ---- lives

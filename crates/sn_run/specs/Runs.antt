@@ -1,5 +1,5 @@
 -- Runs over a device, and what a crash leaves of them.
-use Rattle.std.specs.Prelude.{◌≡◌, ◌⊎◌, ℕ, ◌≤◌, ◌*◌, Bool, false, List, [], ◌∷◌, ◌++◌}
+use Rattle.std.specs.Prelude.{◌≡◌, ◌⊎◌, ℕ, Bool, false, List, [], ◌∷◌, ◌++◌}
 use Rattle.sn_device.specs.Sectors.{Contents}
 use Rattle.sn_device.specs.Disk.{Disk, reads}
 use Rattle.sn_device.specs.Crash.{LeavesOnly, Touches}
@@ -22,9 +22,9 @@ use Rattle.sn_held.specs.Images.{IsImage}
 use Rattle.sn_held.specs.Room.{HasRoomOf}
 use Rattle.sn_examine.specs.Failing.{IsSoOf}
 use Rattle.sn_examine.specs.Laws.{IsSomeClean}
-use Rattle.sn_mount.specs.Costs.{CostsFew, CostsMount}
+use Rattle.sn_mount.specs.Costs.{CostsFew}
 use Rattle.sn_mount.specs.Recovering.{KeepsTheRoot, LeavesTheWorld, OfImage}
-use Rattle.sn_events.specs.Answers.{AnswersFrom}
+use Rattle.sn_events.specs.Answers.{AnswersFrom, CostsMountOf}
 use Rattle.sn_events.specs.Mounting.{IsLeft, IsFresh}
 use Rattle.sn_run.specs.Ending.{IsEnded}
 use Rattle.sn_mount.specs.Rooting.{MountsRoot}
@@ -71,9 +71,7 @@ pub record Served (events : List Event) (replies : List Reply) (end : End) (disk
   pub fresh : IsFresh mounted
   pub clean : IsSomeClean status.sectors (reads disk)
   pub touched : KeepsTheRoot status.sectors disk mounted.disk
-  pub blocks : ℕ
-  pub within : 8 * blocks ≤ status.sectors
-  pub costs : CostsMount blocks status mounted.status
+  pub costs : CostsMountOf status mounted.status
   pub served : OfImage disk (λ world. IsServed world events replies end disk status mounted last_disk last_status)
 
 -- There was no mount, for a cause, and the world that the disk is an image of, if any, is still there.
@@ -84,18 +82,12 @@ pub record NotMounted (fault : MountFault) (replies : List Reply) (disk : Disk) 
   pub later : IsLater status last_status
   pub costs : CostsFew status last_status
 
--- nothing was done, not even a mount
-pub record NothingDone (replies : List Reply) (disk : Disk) (status : Status) (last_disk : Disk) (last_status : Status) : Type 0 where
-  pub none : replies ≡ []
-  pub left : last_disk ≡ disk
-  pub counted : last_status ≡ status
-
--- a run, by its end
+-- a run, by its end: where memory was refused, nothing may have been done, not even a mount
 abbrev pub RunsTo : End → List Event → List Reply → Disk → Status → Disk → Status → Type 0
-RunsTo ending.Clean events replies disk status last_disk last_status = Served events replies ending.Clean disk status last_disk last_status
-RunsTo ending.Stopped events replies disk status last_disk last_status = Served events replies ending.Stopped disk status last_disk last_status
-RunsTo ending.Memory events replies disk status last_disk last_status = NothingDone replies disk status last_disk last_status ⊎ Served events replies ending.Memory disk status last_disk last_status
+RunsTo ending.Memory events replies disk status last_disk last_status = ((replies ≡ []) × (last_disk ≡ disk) × (last_status ≡ status))
+    ⊎ Served events replies ending.Memory disk status last_disk last_status
 RunsTo (ending.Mount fault) events replies disk status last_disk last_status = NotMounted fault replies disk status last_disk last_status
+RunsTo end events replies disk status last_disk last_status = Served events replies end disk status last_disk last_status
 
 -- the contents are an image of a world that the machine's run, cut short after these replies, leaves
 abbrev pub ShowsCut : State → List Event → List Reply → Contents → Type 0
@@ -113,15 +105,11 @@ pub record LeavesItsRun (world : World) (events : List Event) (replies : List Re
   pub mounts : LeavesTheWorld old mounted world
   pub moments : LeavesFrom (Running world) events [] replies mounted new
 
--- no event was answered, and nothing was written
-pub record LeavesAll (replies : List Reply) (old new : Disk) : Type 0 where
-  pub none : replies ≡ []
-  pub touches : Touches Nowhere old new
-
--- Where the disk is an image of a world, this is a run of the machine from that world, and it is all that a crash leaves.
+-- Where the disk is an image of a world, this is a run of the machine from that world, and it is all that a crash leaves. Only where no event
+-- was answered may nothing have been written.
 pub record IsRunOf (world : World) (events : List Event) (replies : List Reply) (end : End) (old new : Disk) : Type 0 where
   pub run : WholeRun Anything limits_written (Holds world) events replies end
-  pub crash : LeavesAll replies old new ⊎ LeavesItsRun world events replies old new
+  pub crash : ((replies ≡ []) × Touches Nowhere old new) ⊎ LeavesItsRun world events replies old new
 
 -- There is no root that a mount could begin from: the disk isn't formatted, or neither slot is open, or a root is of a version that isn't known.
 abbrev pub LacksRoot : ℕ → Contents → MountFault → Type 0

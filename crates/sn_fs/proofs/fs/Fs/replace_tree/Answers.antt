@@ -52,7 +52,7 @@ module _ (name : List ℕ) (h : Held) (p : RestoredTree) (to : IsToBringBack p n
   can_restore = record { tree = to.can.tree; frozen = to.can.frozen; drops = to.restores.changed limits_written figures; fits = to.can.fits }
 
   builds : BuildsFor (Restores name) h (drops_of p)
-  builds = record { tree = to.can.tree; frozen = to.can.frozen; changed = to.restores.changed limits_written figures }
+  builds = (to.can.tree, to.can.frozen, to.restores.changed limits_written figures)
 
 pub make_restore-requires-clause-base : goal.make_restore-requires-clause-base
 make_restore-requires-clause-base g c = base_none c.args.self.now.going c.args.self.now.log c.args.self.now.base c.requires.between (c.requires.sound.based c.requires.running)
