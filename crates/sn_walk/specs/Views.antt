@@ -34,7 +34,16 @@ is_directory Directory = true
 
 -- the directory of snapshots: 0:0, mode 0555
 abbrev pub hidden_attributes : Attributes
-hidden_attributes = record { kind = Directory; set_gid = false; sticky = false; owner = 0; group = 0; acl = three_entries (record { owner = 5; group = 5; other = 5 }); links = 1; size = 0 }
+hidden_attributes = record {
+  kind = Directory;
+  set_gid = false;
+  sticky = false;
+  owner = 0;
+  group = 0;
+  acl = three_entries (record { owner = 5; group = 5; other = 5 });
+  links = 1;
+  size = 0;
+}
 
 abbrev pub attributes_at : ViewedTrees → Object → Option Attributes
 attributes_at trees (Node home number) = (trees.tree home).node number
