@@ -11,7 +11,10 @@ use Rattle.sn_acl.specs.Rights.{contains, common, without}
 
 -- the ACL of three entries that says the same as the mode
 abbrev pub three_entries : Mode → List Entry
-three_entries mode = record { tag = UserObj; permissions = mode.owner } ∷ record { tag = GroupObj; permissions = mode.group } ∷ record { tag = Other; permissions = mode.other } ∷ []
+three_entries mode =
+    record { tag = UserObj; permissions = mode.owner } ∷
+    record { tag = GroupObj; permissions = mode.group } ∷
+    record { tag = Other; permissions = mode.other } ∷ []
 
 -- the entry with such a tag
 abbrev pub entry_of : (Tag → Bool) → List Entry → Option Entry

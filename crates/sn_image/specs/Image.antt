@@ -56,7 +56,10 @@ links_at s inodes directory = map (λ name. (link_to directory name.name, name.n
 
 -- Each number has its node, and each name in a directory the number that is first listed with it.
 unfoldable pub image : Store → BlockTree → Tree
-image s inodes = record { nodes = fin.from_entries (flat_map (nodes_at s inodes) (numbers inodes)); links = fin.from_entries (flat_map (links_at s inodes) (numbers inodes)) }
+image s inodes = record {
+  nodes = fin.from_entries (flat_map (nodes_at s inodes) (numbers inodes));
+  links = fin.from_entries (flat_map (links_at s inodes) (numbers inodes));
+}
 
 -- trees by the names of snapshots
 abbrev pub FrozenTrees : Type 0

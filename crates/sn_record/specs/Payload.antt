@@ -20,7 +20,11 @@ use Rattle.sn_record.specs.declared.ownership.Front.{Front}
 
 -- what USER_OBJ, GROUP_OBJ and OTHER grant, which the rights say
 abbrev pub objects_of : List Entry → Mode
-objects_of acl = record { owner = granted_by (entry_of is_user_obj acl); group = granted_by (entry_of is_group_obj acl); other = granted_by (entry_of is_other acl) }
+objects_of acl = record {
+  owner = granted_by (entry_of is_user_obj acl);
+  group = granted_by (entry_of is_group_obj acl);
+  other = granted_by (entry_of is_other acl);
+}
 
 abbrev pub is_object : Tag → Bool
 is_object tag = is_user_obj tag || is_group_obj tag || is_other tag
