@@ -18,12 +18,6 @@ use std::marker::Model;
 /// The most bytes that a name in a listing has.
 pub const NAME_MAX: usize = 255;
 
-<<<<<<< HEAD
-=======
-// How many bytes are before a name.
-const NAME_OFFSET: usize = 24;
-
->>>>>>> b92c33177a7af77fc939903d875cb672117adf22
 // The most bytes that an entry has.
 const ENTRY_MAX: usize = 280;
 
