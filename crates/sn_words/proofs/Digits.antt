@@ -1,5 +1,5 @@
 -- Hexadecimal digits: bytes are encoded as the digits that gave them exactly where none of these is in upper case.
-use Rattle.std.proofs.Common.{◌≡◌, ℕ, zero, suc, ◌+◌, ◌*◌, ◌/◌, ◌%◌, ◌<◌, ◌≤◌, ◌⊎◌, inl, inr, Bool, true, false, not, ◌&&◌, ◌==◌, ◌||◌, codes, List, [], ◌∷◌, length, slice_index, Some, None, Option, Result, Ok, Err, refl, sym, ap, subst, ◌∙◌, arith}
+use Rattle.std.proofs.Common.{◌≡◌, ℕ, suc, ◌+◌, ◌*◌, ◌/◌, ◌%◌, ◌<◌, ◌⊎◌, inl, inr, Bool, true, false, not, ◌&&◌, ◌==◌, ◌||◌, codes, List, [], ◌∷◌, length, slice_index, Some, None, Option, Result, Ok, Err, refl, sym, ap, subst, ◌∙◌, arith}
 use Rattle.std.specs.Result.{result_unwrap_or}
 use Rattle.std.specs.List.{list_any}
 use Rattle.std.specs.Str.{bytes_eq}
@@ -27,7 +27,7 @@ never_upper v lt = by_test (is_upper_digit (slice_index lower_digits v)) refl
 digit_again : (c v : ℕ) → hex_digit_value c ≡ Some v → is_upper_digit c ≡ false → (v < 16) × (slice_index lower_digits v ≡ c)
 digit_again c v e low =
     let a = value_of c v e in
-    let lt : v < 16 = elim a [ | inl small ↦ omega (arith, small.0) | inr large ↦ large.1 ] in
+    let lt : v < 16 = elim a [ inl small ↦ omega (arith, small.0) | inr large ↦ large.1 ] in
     let b = value_of (slice_index lower_digits v) v (IsDigits-lower_digits v lt) in
     let low_too = never_upper v lt in
     (lt, grind (arith, a, b, low, low_too))
