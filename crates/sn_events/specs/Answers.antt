@@ -1,5 +1,5 @@
 -- What an event leads a mounted file system to, on its disk too.
-use Rattle.std.specs.Prelude.{◌≡◌, ◌≢◌, ◌⊎◌, ℕ, ◌+◌, ◌-◌, ◌*◌, ◌<◌, ◌≤◌, Bool, false, true, ◌||◌, Option, None, Some, List, Ok, length}
+use Rattle.std.specs.Prelude.{◌≡◌, ◌≢◌, ◌⊎◌, ℕ, ◌+◌, ◌-◌, ◌*◌, ◌<◌, ◌≤◌, Bool, false, true, ◌||◌, Option, None, Some, Ok, length}
 use Rattle.std.specs.FinMap as map
 use Rattle.sn_device.specs.Crash.{Touches}
 use Rattle.sn_device.specs.Disk.{Disk, reads}
@@ -31,7 +31,7 @@ use Rattle.sn_log.specs.Positions.{HasRoom, base_at, behind, first_of}
 use Rattle.sn_caller.specs.Numbering.{gives_kept, has_closed}
 use Rattle.sn_caller.specs.declared.chosen.Chosen.{Chosen}
 use Rattle.sn_caller.specs.Choosing.{Chooses}
-use Rattle.sn_held.specs.Held.{Going, Held, Kept, CarriesOn}
+use Rattle.sn_held.specs.Held.{Going, Held, CarriesOn}
 use Rattle.sn_held.specs.Moments.{LastsOver}
 use Rattle.sn_held.specs.Room.{HasRoomOf}
 use Rattle.sn_overlay.specs.Layers.{Layer}
