@@ -1,2 +1,2 @@
-pub mod Unlinking
-pub mod Views
+pub mod Groups
+pub mod Restoring

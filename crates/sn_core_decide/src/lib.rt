@@ -1,42 +1,39 @@
-//! The outcome of a call, or the first test that refuses it, over any view of the trees: without a
-//! device, without a change, and without memory of its own.
+//! A call's first refusal or its outcome, over the sessions and any view of the trees, whose look-ups may fail.
 //!
-//! A decision makes a call's tests in their order, as `sn_model` lists them ([`mkdir`], [`stat`]),
-//! and answers the model's [`Outcome`](sn_model::Outcome). Instead of a refusal there may be a fault of
-//! the view: then nothing is known of the call. [`CallView`] is what a decision asks besides a walk.
-//! `arguments` and `rights` have the tests, each once for all calls, `charges` what calls are charged, for the log and its
-//! replay too, and `outcomes` the outcomes of most of them; `decisions` and `file_calls` have calls, `sn_core_access` has those
-//! that ask for rights and set them, and `sn_core_names` those on names and listings.
+//! [`decide`] makes a call's tests in their order, as `sn_model` lists them. It answers the call's outcome, its first refusal, or
+//! why there is neither: memory for its answer was refused, or the view found a fault. Both come only once session and arguments
+//! have passed. Nothing is changed. `deciding` dispatches over all calls, by the groups of `groups`. Each call is decided in one
+//! file, with the tests that calls share in `sn_core_decide_rules`; in the order of `docs/RULES.md`:
+//!
+//! | call | decided in |
+//! |---|---|
+//! | login, logout, sync, umask | `sessions` |
+//! | mkdir | `sn_core_decide_names`, `mkdir` |
+//! | chmod, chown | `sn_core_decide_access`, `setting` |
+//! | stat, access, getacl | `sn_core_decide_access`, `asking` |
+//! | setacl | `sn_core_decide_access`, `setting` |
+//! | rmdir | `sn_core_decide_names`, `rmdir` |
+//! | unlink | `sn_core_decide_names`, `unlink` |
+//! | link | `sn_core_decide_names`, `link` |
+//! | rename | `sn_core_decide_rename`, `rename` |
+//! | readdir | `sn_core_decide_names`, `readdir` |
+//! | snap-create, snap-delete, snap-restore, snap-list | `snapshots` |
+//! | open | `sn_core_decide_files`, `open` |
+//! | close | `sn_core_decide_files`, `descriptors` |
+//! | read | `sn_core_decide_files`, `read` |
+//! | write | `sn_core_decide_files`, `write` |
+//! | seek, ftruncate | `sn_core_decide_files`, `descriptors` |
 //!
 //! What the sources leave open is decided in `docs/DECISIONS.md`, under "Decisions of calls".
 //!
 //! ```text
-//! let path = path_argument(&word)?;
-//! let outcome = mkdir(&limits, &mut view, &caller, &path, mode)?;
+//! let outcome = decide(alloc, &mut view, &sessions, session, &call)?;
 //! ```
 #![tactic(auto)]
 
-mod arguments;
-mod charges;
-mod decisions;
-mod file_calls;
-mod outcomes;
-mod rights;
-mod view;
+mod deciding;
+mod groups;
+mod sessions;
+mod snapshots;
 
-pub use arguments::{
-    acl_argument, bytes_argument, count_argument, flags_argument, id_argument, mode_bits_argument,
-    new_mode_argument, path_argument,
-};
-pub use charges::{
-    attributes_charge, blocks_spanned, name_charge, rename_charge, restore_charge, size_charge,
-    unlink_charge, write_charge,
-};
-pub use decisions::{mkdir, stat};
-pub use file_calls::{open, unlink};
-pub use outcomes::{asks, does};
-pub use rights::{
-    forbidden, full, granted, live, live_if, no_directory, not_present, one_tree, parent_of,
-    prefix, sticky, there, writable_parent,
-};
-pub use view::CallView;
+pub use deciding::decide;

@@ -15,7 +15,7 @@ use Rattle.sn_model.specs.Machine.{State, Running, Mishap, Memory, Read, Write, 
 use Rattle.sn_model.specs.Settling.{dropped, nameless_in}
 use Rattle.sn_model.specs.Steps.{asks_for_point, decision, with_caller}
 use Rattle.sn_limits.specs.Versions.{limits_written}
-use Rattle.sn_core_files.specs.Decided.{MayLack}
+use Rattle.sn_core_decide_rules.specs.Decided.{MayLack}
 use Rattle.sn_model.specs.World.{World}
 use Rattle.sn_model.specs.Worlds.{IsCall}
 use Rattle.sn_caller.specs.Numbering.{gives_kept, has_closed}

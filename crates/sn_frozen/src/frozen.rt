@@ -1,5 +1,5 @@
 use sn_acl::Acl;
-use sn_core_files::FileFault;
+use sn_core_decide_rules::FileFault;
 use sn_limits::SnapshotName;
 use sn_model::Names;
 use sn_overlay::Below;
@@ -19,7 +19,7 @@ use std::alloc::{AllocError, Global};
 pub trait HasSnapshots: Below {
     ghost use Rattle.std.specs.Prelude.{◌≡◌, ◌+◌, ◌<◌, ◌^◌, IsTrue, IfOk, IfErr, drop, length, take};
     ghost use Rattle.std.specs.FinMap as map;
-    ghost use Rattle.sn_core_files.specs.Faults.{IfLookUp};
+    ghost use Rattle.sn_core_decide_rules.specs.Faults.{IfLookUp};
     ghost use Rattle.sn_frozen.specs.Frozen.{FrozenTrees, bytes_at, seen_at};
     ghost use Rattle.sn_model.specs.Seen.{names_if};
     ghost use Rattle.sn_model.specs.Settling.{nameless_if};

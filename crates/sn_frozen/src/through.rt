@@ -1,6 +1,6 @@
 use crate::HasSnapshots;
 use sn_acl::Acl;
-use sn_core_files::FileFault;
+use sn_core_decide_rules::FileFault;
 use sn_limits::SnapshotName;
 use sn_model::Names;
 use sn_overlay::Through;

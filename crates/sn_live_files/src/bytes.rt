@@ -1,12 +1,12 @@
 //! The bytes of a file, block by block.
 ghost use Rattle.std.specs.Prelude.{◌≡◌, ◌++◌, ◌-◌, ◌/◌, ◌%◌, ◌+◌, ◌<◌, ◌≤◌, ◌^◌, IsTrue, IfErr, IfOk, OnOk, drop, length, min, take, vec_len};
 ghost use Rattle.std.specs.FinMap as map;
-ghost use Rattle.sn_core_files.specs.Faults.{IfLookUp};
+ghost use Rattle.sn_core_decide_rules.specs.Faults.{IfLookUp};
 ghost use Rattle.sn_overlay.specs.Keys.{file_block_at};
 ghost use Rattle.sn_overlay.specs.Layers.{bytes_of};
 ghost use Rattle.sn_overlay.specs.Seen.{seen_block};
 
-use sn_core_files::FileFault;
+use sn_core_decide_rules::FileFault;
 use sn_overlay::{BLOCK_SIZE, Below, FileBlock};
 use std::alloc::Global;
 

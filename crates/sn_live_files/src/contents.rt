@@ -1,4 +1,4 @@
-use sn_core_files::FileFault;
+use sn_core_decide_rules::FileFault;
 use sn_model::Link;
 use sn_overlay::Below;
 use sn_walk::Attributes;
@@ -16,7 +16,7 @@ pub trait HasContents: Below {
     ghost use Rattle.std.specs.Prelude.{◌≡◌, ◌+◌, ◌<◌, ◌^◌, IsTrue, IfErr, IfOk, drop, length, take};
     ghost use Rattle.std.specs.FinMap as map;
     ghost use Rattle.std.specs.Option.{option_map};
-    ghost use Rattle.sn_core_files.specs.Faults.{IfLookUp};
+    ghost use Rattle.sn_core_decide_rules.specs.Faults.{IfLookUp};
     ghost use Rattle.sn_overlay.specs.Layers.{bytes_of};
     ghost use Rattle.sn_overlay.specs.Seen.{seen_node};
     ghost use Rattle.sn_live_files.specs.Known.{attributes_of};

@@ -8,7 +8,7 @@
 //! names of a directory in their order, each with its number. Through an overlay these are the ones that changed, merged
 //! with those below in one pass, and below nothing is asked of a directory that is gone or was made anew.
 //!
-//! A lack of memory for an answer is distinguished from the tree's own fault (`FileFault` of `sn_core_files`).
+//! A lack of memory for an answer is distinguished from the tree's own fault (`FileFault` of `sn_core_decide_rules`).
 //!
 //! The way through:
 //!

@@ -1,5 +1,5 @@
 use crate::HasContents;
-use sn_core_files::FileFault;
+use sn_core_decide_rules::FileFault;
 use sn_directories::{KeepsNames, LoggedTree};
 use sn_model::Link;
 use sn_walk::Attributes;

@@ -7,7 +7,7 @@ ghost use Rattle.sn_live_files.specs.Known.{attributes_of};
 use crate::HasContents;
 use crate::bytes::gathered_from;
 use crate::merge::merged;
-use sn_core_files::FileFault;
+use sn_core_decide_rules::FileFault;
 use sn_model::Link;
 use sn_overlay::{NodeChange, NodeState, Through};
 use sn_walk::Attributes;

@@ -1,7 +1,7 @@
 //! The outcomes of calls over a root that is seen through what changed since.
 ghost use Rattle.std.specs.Prelude.{◌≡◌, IsTrue, IfOk};
-ghost use Rattle.sn_core_files.specs.Decided.{Decides, HidesNoRefusal};
-ghost use Rattle.sn_core_files.specs.Faults.{IfView};
+ghost use Rattle.sn_core_decide_rules.specs.Decided.{Decides, HidesNoRefusal};
+ghost use Rattle.sn_core_decide_rules.specs.Faults.{IfView};
 ghost use Rattle.sn_desc.specs.Sessions.{in_use_of};
 ghost use Rattle.sn_directories.specs.Told.{IsShown};
 ghost use Rattle.sn_model.specs.Worlds.{IsCall};
@@ -13,8 +13,8 @@ ghost use Rattle.sn_live_view.specs.Live.{IsNumbered, live_trees, world_of};
 use crate::unread::UnreadView;
 use crate::{LiveView, Unread};
 use sn_applies::NamedTree;
-use sn_core_calls::decide;
-use sn_core_files::CallError;
+use sn_core_decide::decide;
+use sn_core_decide_rules::CallError;
 use sn_desc::Sessions;
 use sn_directories::{Directories, KeepsNames, LoggedTree};
 use sn_frozen::HasSnapshots;

@@ -4,7 +4,7 @@ ghost use Rattle.sn_model.specs.declared.link.Link.{Link as TheLink};
 
 use crate::LiveView;
 use sn_applies::NamedTree;
-use sn_core_files::{FileFault, FileView};
+use sn_core_decide_rules::{FileFault, FileView};
 use sn_frozen::HasSnapshots;
 use sn_limits::SnapshotName;
 use sn_live_files::{HasContents, size};
@@ -25,7 +25,7 @@ fn names_alone(alloc: Global, links: Vec<(Link, u16)>) -> Result<Names, AllocErr
 
 impl<'a, T: NamedTree + HasContents + HasSnapshots> FileView for LiveView<'a, T> {
     ghost use Rattle.std.proofs.Common.{ap₂};
-    ghost use Rattle.sn_core_files.specs.Shown.{bytes_in};
+    ghost use Rattle.sn_core_decide_rules.specs.Shown.{bytes_in};
     ghost use Rattle.sn_live_view.specs.Live.{live_trees};
 
     ghost bytes = { λ v. bytes_in (live_trees (T.shows v.tree.now) (T.frozen v.tree.now)) };

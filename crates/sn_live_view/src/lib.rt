@@ -10,7 +10,7 @@
 //! (`IsNumbered`); then each answer is the one that the model has. A fault is the tree's.
 //!
 //! The tree answers what a walk learns of a node, bytes and names (`HasContents` of `sn_live_files`), so calls are
-//! decided over the view too (`FileView` of `sn_core_files`): its files are read, and its directories listed.
+//! decided over the view too (`FileView` of `sn_core_decide_rules`): its files are read, and its directories listed.
 //!
 //! The way through: `specs/Live` says which trees are seen, and when a table belongs to one; `reads` has what
 //! is made of one look-up, and `view` and `files` the view, [`LiveView`]. `deciding` decides a call over a live tree

@@ -1,8 +1,6 @@
 use crate::Unread;
 use sn_acl::Acl;
-use sn_core_decide::CallView;
-use sn_core_files::{FileFault, FileView};
-use sn_core_names::MoveView;
+use sn_core_decide_rules::{CallView, FileFault, FileView, MoveView};
 use sn_frozen::HasSnapshots;
 use sn_limits::SnapshotName;
 use sn_live::LiveTree;
@@ -105,7 +103,7 @@ impl<'a, B: HasSnapshots> MoveView for UnreadView<'a, B> {
 
 impl<'a, B: HasSnapshots> FileView for UnreadView<'a, B> {
     ghost use Rattle.std.proofs.Common.{ap};
-    ghost use Rattle.sn_core_files.specs.Shown.{bytes_in};
+    ghost use Rattle.sn_core_decide_rules.specs.Shown.{bytes_in};
     ghost use Rattle.sn_live.specs.Live.{shown_of};
     ghost use Rattle.sn_live_view.specs.Live.{live_trees};
 

@@ -1,8 +1,8 @@
 -- What follows from the fault of a call that is refused at once: that all its tests passed.
 use Rattle.std.proofs.Common.{◌≡◌, Result, Ok, Err, true, refl}
 use Rattle.std.specs.Prelude.{IfErr, IsOk}
-use Rattle.sn_core_files.specs.declared.fault.CallError.{CallError}
-use Rattle.sn_core_files.specs.declared.fault.CallError.TheVariants.{Refused}
+use Rattle.sn_core_decide_rules.specs.declared.fault.CallError.{CallError}
+use Rattle.sn_core_decide_rules.specs.declared.fault.CallError.TheVariants.{Refused}
 use Rattle.sn_model.specs.declared.outcome.Outcome.{Outcome}
 use Rattle.sn_model.specs.declared.reply.Refusal.{Refusal}
 

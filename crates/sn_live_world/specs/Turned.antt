@@ -3,7 +3,7 @@ use Rattle.std.specs.Prelude.{◌≡◌, ℕ, Bool, List, Option, None, Some, Re
 use Rattle.sn_changed.specs.Dropped.{LeadsOn, TellsGone}
 use Rattle.sn_changed.specs.declared.dropped.DroppedFile.{DroppedFile}
 use Rattle.sn_caller.specs.Called.{CanTurn}
-use Rattle.sn_core_files.specs.Decided.{IsRefusedAtOnce, MayLack}
+use Rattle.sn_core_decide_rules.specs.Decided.{IsRefusedAtOnce, MayLack}
 use Rattle.sn_limits.specs.Versions.{limits_written}
 use Rattle.sn_live_world.specs.World.{IsOver, changes_of, descriptors_of, room_of, tree_over, world_over}
 use Rattle.sn_live_world.specs.declared.choosing.Picked.{Picked}

@@ -1,7 +1,7 @@
 //! The outcomes of calls over the trees of a root on a device.
 ghost use Rattle.std.specs.Prelude.{◌≡◌, IsOk, IsTrue, IfErr, IfNone, IfOk, IfSome};
 ghost use Rattle.sn_block.specs.Lending.{device_of};
-ghost use Rattle.sn_core_files.specs.Decided.{IsRefusedAtOnce, MayLack};
+ghost use Rattle.sn_core_decide_rules.specs.Decided.{IsRefusedAtOnce, MayLack};
 ghost use Rattle.sn_limits.specs.Versions.{limits_written};
 ghost use Rattle.sn_live_world.specs.Faults.{CountsCall};
 ghost use Rattle.sn_live_world.specs.Turned.{Decides, HidesNoRefusal};
@@ -13,7 +13,7 @@ ghost use Rattle.sn_rooted.specs.Roots.{AreSound, store_on, tree_on, trees_at};
 use crate::LiveWorld;
 use crate::fault::{CallFault, look_fault_of};
 use sn_block::Blocks;
-use sn_core_files::CallError;
+use sn_core_decide_rules::CallError;
 use sn_device::Device;
 use sn_layout::RootBody;
 use sn_live_view::{decide_live, decide_unread};

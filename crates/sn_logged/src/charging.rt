@@ -6,7 +6,7 @@ ghost use Rattle.sn_model.specs.Tree.{link_to};
 ghost use Rattle.sn_model.specs.declared.link.Link.{Link};
 
 use sn_applies::NamedTree;
-use sn_core_decide::{
+use sn_core_decide_rules::{
     attributes_charge, blocks_spanned, name_charge, rename_charge, size_charge, unlink_charge,
     write_charge,
 };

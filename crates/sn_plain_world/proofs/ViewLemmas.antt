@@ -18,10 +18,10 @@ use Rattle.sn_model.specs.World.{World, tree_in, viewed_if, viewed_trees}
 use Rattle.sn_desc.specs.Sessions.{in_use_of}
 use Rattle.sn_numbers.specs.declared.numbered.NumberedTree.{NumberedTree}
 use Rattle.sn_numbers.specs.Live.{live_of}
-use Rattle.sn_core_files.specs.declared.fault.CallError.{CallError}
-use Rattle.sn_core_files.specs.declared.fault.CallError.TheVariants.{Refused, Memory, View}
-use Rattle.sn_core_files.specs.Decided as calls
-use Rattle.sn_core_files.specs.Shown.{Shows, bytes_in}
+use Rattle.sn_core_decide_rules.specs.declared.fault.CallError.{CallError}
+use Rattle.sn_core_decide_rules.specs.declared.fault.CallError.TheVariants.{Refused, Memory, View}
+use Rattle.sn_core_decide_rules.specs.Decided as calls
+use Rattle.sn_core_decide_rules.specs.Shown.{Shows, bytes_in}
 use Rattle.sn_plain_world.specs.declared.view.PlainView.{PlainView}
 use Rattle.sn_plain_world.specs.declared.world.PlainWorld.{PlainWorld}
 use Rattle.sn_plain_world.specs.Plain.{plain_trees, world_of}

@@ -15,8 +15,8 @@ use Rattle.sn_model.specs.Calls.{ready}
 use Rattle.sn_model.specs.Steps.{Becomes, TakesMemory, decision, with_live}
 use Rattle.sn_plain.specs.declared.fault.ApplyError.{ApplyError}
 use Rattle.sn_plain.specs.declared.fault.ApplyError.TheVariants as lack
-use Rattle.sn_core_files.specs.declared.fault.CallError as calls
-use Rattle.sn_core_files.specs.declared.fault.CallError.TheVariants as undecided
+use Rattle.sn_core_decide_rules.specs.declared.fault.CallError as calls
+use Rattle.sn_core_decide_rules.specs.declared.fault.CallError.TheVariants as undecided
 use Rattle.sn_caller.specs.Numbering.{Numbers}
 use Rattle.sn_plain_world.specs.PlainRuns.{Numbered}
 use Rattle.sn_plain_world.specs.declared.fault.WorldError.{WorldError}

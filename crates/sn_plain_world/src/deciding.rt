@@ -5,7 +5,7 @@ ghost use Rattle.sn_plain_world.specs.Served.{Decides};
 
 use crate::PlainWorld;
 use crate::fault::WorldError;
-use sn_core_calls as calls;
+use sn_core_decide as calls;
 use sn_model::{Call, Outcome};
 use std::alloc::Global;
 

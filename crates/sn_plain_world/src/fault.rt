@@ -1,7 +1,7 @@
 ghost use Rattle.std.specs.Prelude.{◌≡◌};
 ghost use Rattle.sn_plain_world.specs.declared.fault.WorldError.TheVariants.{Memory, Refused};
 
-use sn_core_files as calls;
+use sn_core_decide_rules as calls;
 use sn_model::Refusal;
 use std::alloc::AllocError;
 use std::convert::Infallible;

@@ -3,9 +3,7 @@ ghost use Rattle.sn_model.specs.NameTree.{IsTree};
 ghost use Rattle.sn_numbers.specs.Live.{live_of};
 
 use sn_acl::Acl;
-use sn_core_decide::CallView;
-use sn_core_files::{FileFault, FileView};
-use sn_core_names::MoveView;
+use sn_core_decide_rules::{CallView, FileFault, FileView, MoveView};
 use sn_limits::{Limits, SnapshotName};
 use sn_model::{Names, Refusal};
 use sn_numbers::NumberedTree;
@@ -130,7 +128,7 @@ impl<'a> MoveView for PlainView<'a> {
 impl<'a> FileView for PlainView<'a> {
     ghost use Rattle.std.proofs.Common.{ap};
     ghost use Rattle.sn_plain_world.specs.Plain.{plain_trees};
-    ghost use Rattle.sn_core_files.specs.Shown.{bytes_in};
+    ghost use Rattle.sn_core_decide_rules.specs.Shown.{bytes_in};
 
     ghost bytes = { λ v. bytes_in (plain_trees (live_of v.tree.now)) };
 

@@ -9,7 +9,7 @@ use crate::nameless::nameless_of;
 use crate::rooted::fault_of;
 use crate::seeing::seen_node;
 use sn_acl::Acl;
-use sn_core_files::FileFault;
+use sn_core_decide_rules::FileFault;
 use sn_device::Device;
 use sn_dir::ListedName;
 use sn_frozen::HasSnapshots;

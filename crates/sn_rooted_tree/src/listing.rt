@@ -5,7 +5,7 @@ ghost use Rattle.sn_model.specs.Tree.{link_to};
 
 use crate::RootedTree;
 use crate::rooted::fault_of;
-use sn_core_files::FileFault;
+use sn_core_decide_rules::FileFault;
 use sn_device::Device;
 use sn_dir::ListedName;
 use sn_live_files::HasContents;

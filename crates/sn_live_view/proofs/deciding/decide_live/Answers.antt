@@ -1,5 +1,5 @@
 use Rattle.std.proofs.Common.{ap, subst, ◌∙◌}
-use Rattle.sn_core_files.specs.Decided.{Decides, HidesNoRefusal}
+use Rattle.sn_core_decide_rules.specs.Decided.{Decides, HidesNoRefusal}
 use Rattle.sn_desc.specs.Sessions.{in_use_of}
 use Rattle.sn_live.specs.Live.{changes_of}
 use Rattle.sn_live_view.specs.Live.{live_trees, world_of}

@@ -1,0 +1,57 @@
+use Rattle.std.proofs.Common.{true, Err, refl}
+use Rattle.std.proofs.lemmas.Result.{err_from_is_err_and}
+use Rattle.sn_model.specs.declared.call.Call.TheVariants as call
+use Rattle.sn_desc.specs.InUse.{in_world}
+use Rattle.sn_desc.specs.Sessions.{in_use_of}
+use Rattle.sn_core_decide_rules.proofs.DecidedLemmas.{gives_decided, shown_seen, view_if}
+use Rattle.sn_core_decide_names.proofs.link.decide_link.Goals as goal
+
+pub returns-in_err-caller : goal.returns-in_err-caller
+returns-in_err-caller g c =
+    let p = err_from_is_err_and c.from_residual.result c.from_residual.ensures.1 in
+    record {
+      kept = c.requires;
+      follows = g.met.V.TreeView.follows_itself _;
+      same = λ told. refl;
+      decided = λ told world shows. rw (p.1, p.2, c.in_err-caller.ensures) (refl {a = Err c.in_err-caller.field-0.0});
+      cause = rw (p.1, p.2) tt;
+    }
+
+pub returns-in_err-old : goal.returns-in_err-old
+returns-in_err-old g c =
+    let p = err_from_is_err_and c.from_residual-in_err-old.result c.from_residual-in_err-old.ensures.1 in
+    record {
+      kept = c.requires;
+      follows = g.met.V.TreeView.follows_itself _;
+      same = λ told. refl;
+      decided = λ told world shows. rw (p.1, p.2, c.in_ok-caller.ensures, c.in_err-old.ensures) (refl {a = Err c.in_err-old.field-0.0});
+      cause = rw (p.1, p.2) tt;
+    }
+
+pub returns-in_err-new : goal.returns-in_err-new
+returns-in_err-new g c =
+    let p = err_from_is_err_and c.from_residual-in_err-new.result c.from_residual-in_err-new.ensures.1 in
+    record {
+      kept = c.requires;
+      follows = g.met.V.TreeView.follows_itself _;
+      same = λ told. refl;
+      decided = λ told world shows. rw (p.1, p.2, c.in_ok-caller.ensures, c.in_ok-old.ensures, c.in_err-new.ensures) (refl {a = Err c.in_err-new.field-0.0});
+      cause = rw (p.1, p.2) tt;
+    }
+
+pub returns-clause-kept : goal.returns-clause-kept
+returns-clause-kept g c = c.link.ensures.kept
+
+pub returns-clause-follows : goal.returns-clause-follows
+returns-clause-follows g c = c.link.ensures.follows
+
+pub returns-clause-same : goal.returns-clause-same
+returns-clause-same g c told = c.link.ensures.same told
+
+pub returns-clause-decided : goal.returns-clause-decided
+returns-clause-decided g c told world shows =
+    let given = rw (shown_seen shows) at (c.link.ensures.exact told) in
+    rw c.decided.ensures (gives_decided (in_world (in_use_of c.args.sessions.now) world) c.args.session (call.Link c.args.old.now c.args.new.now) (tt, rw (c.in_ok-caller.ensures, c.in_ok-old.ensures, c.in_ok-new.ensures) (refl {a = true})) c.link.result (rw (c.in_ok-caller.ensures, c.in_ok-old.ensures, c.in_ok-new.ensures) given))
+
+pub returns-clause-cause : goal.returns-clause-cause
+returns-clause-cause g c = rw c.decided.ensures (view_if _ c.link.result c.link.ensures.cause)

@@ -1,0 +1,4 @@
+pub mod Decided
+pub mod Faults
+pub mod Shown
+pub mod Views

@@ -1,5 +1,0 @@
-use Rattle.sn_model.specs.World.{new_world}
-use Rattle.sn_core_files.proofs.callers.logged_out.Goals as goal
-
-pub returns : goal.returns
-returns c = c.logged_out.ensures new_world

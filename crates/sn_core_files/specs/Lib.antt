@@ -1,3 +1,0 @@
-pub mod Decided
-pub mod Faults
-pub mod Shown
