@@ -81,11 +81,11 @@ machine_run old new (e ∷ events) (r ∷ replies) run = (Running run.0.world, r
 
 -- what the machine says of a call that was answered, or refused, or found no memory
 pub answered_step : (old new : Numbered) (session : ℕ) (c : Call) (reply : Reply) → IsServed old.world old.kept session c reply new.world new.kept → PlainStep old (event.Call session c) reply new
-answered_step old new session c reply h = record { step = (None, inl refl, new.world, h.0, refl); numbers = h.1 }
+answered_step old new session c reply h = record { step = (None, inl refl, (new.world, h.0, refl)); numbers = h.1 }
 
 pub refused_step : (old new : Numbered) (session : ℕ) (c : Call) (refusal : Refusal) → decision limits_written old.world session c ≡ Err refusal → new.world ≡ old.world → new.kept ≡ old.kept → PlainStep old (event.Call session c) (Refused refusal) new
 refused_step old new session c refusal e same none = record {
-  step = (None, inl refl, new.world, subst (λ (d : Result Outcome Refusal). Becomes limits_written old.world session d (Refused refusal) new.world) (sym e) (refl, same), refl);
+  step = (None, inl refl, (new.world, subst (λ (d : Result Outcome Refusal). Becomes limits_written old.world session d (Refused refusal) new.world) (sym e) (refl, same), refl));
   numbers = same_numbers session c old.world new.world old.kept new.kept same none;
 }
 

@@ -123,7 +123,7 @@ module _ (events : List Event) (replies : List Reply) (disk last_disk : Disk) (s
   unserved_run f n =
       let met = met_with f (reads disk) world status.sectors (device_alone disk status) (device_alone last_disk last_status) image device n.left.cause n.failed in
       record {
-        run = inr (inl (met.0, f, tt, met.1, n.none, refl));
+        run = inr (inl (met.0, f, tt, met.1, (n.none, refl)));
         crash = left_so n.none (n.left.keeps world image);
       }
 
@@ -132,7 +132,7 @@ module _ (events : List Event) (replies : List Reply) (disk last_disk : Disk) (s
   is_run ending.Stopped h = served_run ending.Stopped h
   is_run ending.Memory (inr s) = served_run ending.Memory s
   is_run ending.Memory (inl h) = record {
-    run = inl (tt, h.0, refl);
+    run = inl (tt, (h.0, refl));
     crash = inl (h.0, subst (λ (d : Disk). Touches Nowhere disk d) (sym h.1) (Touches-start Nowhere disk));
   }
   is_run (ending.Mount f) h = unserved_run f h
@@ -148,7 +148,7 @@ module _ (events : List Event) (replies : List Reply) (disk last_disk : Disk) (s
   is_unfit ending.Clean h = absurd (never_served ending.Clean h)
   is_unfit ending.Stopped h = absurd (never_served ending.Stopped h)
   is_unfit ending.Memory (inr s) = absurd (never_served ending.Memory s)
-  is_unfit ending.Memory (inl h) = inl (tt, h.0, refl)
+  is_unfit ending.Memory (inl h) = inl (tt, (h.0, refl))
   is_unfit (ending.Mount g) h = inr (unfit_fault f g status.sectors (reads disk) events replies h.none lacks h.left.cause)
 
 -- ---- lives

@@ -57,8 +57,8 @@ no_fault f damage sectors c block faulty lacks = told faulty.why
 -- The mount reports the same of it, or lacks memory, or the device has failed.
 pub unfit_fault : (f g : MountFault) (sectors : ℕ) (c : Contents) (events : List Event) (replies : List Reply) → replies ≡ [] → LacksRoot sectors c f → IsCause sectors c g
     → HasNoMount Anything replies (ending.Mount g) ⊎ Serves Anything limits_written (Lacks f) events replies (ending.Mount g)
-unfit_fault f fault.Memory sectors c events replies none lacks cause = inl (Memory, fault.Memory, tt, refl, none, refl)
-unfit_fault f fault.Device sectors c events replies none lacks cause = inl (Read, fault.Device, tt, refl, none, refl)
+unfit_fault f fault.Memory sectors c events replies none lacks cause = inl (Memory, fault.Memory, tt, refl, (none, refl))
+unfit_fault f fault.Device sectors c events replies none lacks cause = inl (Read, fault.Device, tt, refl, (none, refl))
 unfit_fault f (fault.Damaged damage block) sectors c events replies none lacks cause = absurd (no_fault f damage sectors c block cause lacks)
 unfit_fault fault.NotFormatted fault.NotFormatted sectors c events replies none lacks cause = inr (none, refl)
 unfit_fault fault.NoRoot fault.NoRoot sectors c events replies none lacks cause = inr (none, refl)

@@ -15,7 +15,7 @@ from_new first last events replies world kept run = subst (λ (w : Numbered). Pl
 pub returns-clause-run : goal.returns-clause-run
 returns-clause-run c =
     let run = from_new _ (numbered_of c.answer.new.world) c.args.events.now c.answer.new.replies.items c.in-Ok-new.ensures.world c.in-Ok-new.ensures.kept c.answer.ensures in
-    inr (inr (Running (world_of c.answer.new.world), machine_run _ _ _ _ run, None, inl refl, Done, refl, refl))
+    inr (inr (Running (world_of c.answer.new.world), machine_run _ _ _ _ run, None, inl refl, (Done, refl, refl)))
 
 pub returns-clause-numbers : goal.returns-clause-numbers
 returns-clause-numbers c = λ _.
