@@ -7,7 +7,8 @@ use crate::table::NodeTable;
 
 /// A path consists of a node's first name, the first name of that name's directory, and so on up to the root.
 ///
-/// Proved: A path is such a chain of first names up to the root.
+/// Proved: A path has the first name of its node at its end, before that the first name of that name's directory, and so on from the
+/// root.
 pub fn paths_are_chains()
     ensures { (t : Table) (id : ℕ) (text : List ℕ) → path_of t id ≡ Ok text → (names : List (List ℕ)) × IsChain names t id × (text ≡ path_up names) }
 {}
