@@ -1,6 +1,6 @@
 -- The supplementary groups in a text of /proc/PID/status: proc_pid_status(5).
-use Rattle.std.specs.Prelude.{ℕ, ◌-◌, ◌^◌, ◌==◌, ◌&&◌, ◌||◌, Bool, not, nat_le, nat_lt, if◌then◌else◌, List, [], ◌∷◌, ◌++◌, length, take, drop, Option, None, Some, Result, Ok, Err, codes, decimal}
-use Rattle.std.specs.List.{slice_split}
+use Rattle.std.specs.Prelude.{◌≡◌, ℕ, ◌-◌, ◌^◌, ◌<◌, ◌==◌, ◌&&◌, ◌||◌, Bool, false, not, nat_le, nat_lt, if◌then◌else◌, List, [], ◌∷◌, ◌++◌, length, take, drop, map, filter, Option, None, Some, Result, Ok, Err, codes, decimal}
+use Rattle.std.specs.List.{AllByRecursion, slice_split}
 use Rattle.std.specs.Option.{option_to_list}
 use Rattle.std.specs.Str.{bytes_eq}
 use Rattle.std.specs.Str.Parse.{digits_value}
@@ -39,11 +39,15 @@ is_blank b = (b == 32) || (b == 9)
 unfoldable pub number_of : List ℕ → Option ℕ
 number_of word = let n = digits_value 10 word in if bytes_eq word (decimal n) && nat_lt n (2 ^ 32) then Some n else None
 
--- groups and one more, of which there may be 32. Linux shows one as 65534 that isn't mapped to the reader's namespace.
+-- Linux shows a group as 65534 that isn't mapped to the reader's namespace
+abbrev pub is_hidden : Bool → ℕ → Bool
+is_hidden all_mapped n = (n == 65534) && not all_mapped
+
+-- groups and one more, of which there may be 32
 abbrev pub with_group : Bool → List ℕ → Option ℕ → Result (List ℕ) GroupsFault
 with_group all_mapped groups None = Err Unreadable
 with_group all_mapped groups (Some n) =
-    if (n == 65534) && not all_mapped then Err Unmapped else
+    if is_hidden all_mapped n then Err Unmapped else
     if nat_le 32 (length groups) then Err TooMany else Ok (groups ++ n ∷ [])
 
 abbrev pub after : Result (List ℕ) GroupsFault → (List ℕ → Result (List ℕ) GroupsFault) → Result (List ℕ) GroupsFault
@@ -64,3 +68,20 @@ groups_in all_mapped (Some list) = read_groups all_mapped [] (slice_split is_bla
 -- the groups that a text lists, or the fault of the first word that has one
 abbrev pub groups_of : Bool → List ℕ → Result (List ℕ) GroupsFault
 groups_of all_mapped text = groups_in all_mapped (list_of text)
+
+-- ---- the grammar
+
+abbrev pub is_some_word : List ℕ → Bool
+is_some_word word = not (length word == 0)
+
+-- A text lists groups: it consists of whole lines, and the words of the only one that begins with `Groups:` are their numbers.
+pub record Lists (text groups : List ℕ) : Type 0 where
+  pub lines : List ℕ
+  pub ended : text ≡ lines ++ 10 ∷ []
+  pub list : List ℕ
+  pub only_list : lists_in (slice_split is_line_end lines) ≡ list ∷ []
+  pub words : filter is_some_word (slice_split is_blank list) ≡ map decimal groups
+  pub numbers : AllByRecursion (λ n. n < 2 ^ 32) groups
+
+abbrev pub AreShown : Bool → List ℕ → Type 0
+AreShown all_mapped groups = AllByRecursion (λ n. is_hidden all_mapped n ≡ false) groups

@@ -9,7 +9,8 @@
 //! the reader's user namespace doesn't map (user_namespaces(7)). Where the namespace maps all ([`maps_all_groups`]), 65534 is a group
 //! like others.
 //!
-//! The model: `specs/Status` has the groups that a text lists, `specs/Map` the text of a whole map.
+//! The model: `specs/Status` has the groups that a text lists, and the grammar of such a text (`Lists`); `specs/Map` the text of a whole
+//! map. The law: a text is read as groups exactly where the grammar has it ([`listed_groups_are_read`]).
 //!
 //! What the sources leave open is decided in `docs/DECISIONS.md`, under "Groups of callers".
 //!
@@ -20,8 +21,10 @@
 #![tactic(auto)]
 
 mod groups;
+mod laws;
 mod map;
 mod status;
 
 pub use groups::{CallerGroups, GroupsFault, caller_groups};
+pub use laws::listed_groups_are_read;
 pub use map::maps_all_groups;

@@ -8,7 +8,7 @@
 
 mod steps;
 
-use anyhow::{Context, Result};
+use anyhow::Result;
 use sn_node_table::NodeTable;
 use sn_testing_tables::{Case, Report, push_word};
 use std::alloc::Global;
@@ -26,9 +26,7 @@ fn answers(alloc: Global, case: Case<'_>) -> Result<String> {
     let mut table = NodeTable::new(alloc)?;
     let mut text = String::new(alloc);
     for word in case.text().split_ascii_whitespace() {
-        let answer = Step::new(alloc, word)
-            .answer(&mut table)
-            .context(format_args!("no step: {word}"))?;
+        let answer = Step::new(alloc, word).answer(&mut table)?;
         push_word(&mut text, answer.as_str())?;
     }
     Ok(text)

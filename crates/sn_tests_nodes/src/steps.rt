@@ -37,7 +37,8 @@ impl<'a> Step<'a> {
     }
 
     fn number(self, at: usize) -> Result<u64> {
-        Ok(self.word(at)?.parse()?)
+        let word = self.word(at)?;
+        word.parse().context(format_args!("no number: {word}"))
     }
 
     /// A name, where `a*9` is nine letters.
@@ -45,7 +46,7 @@ impl<'a> Step<'a> {
         let mut name = Vec::new(self.alloc);
         let word = self.word(at)?;
         let (letters, count) = word.split_once('*').unwrap_or((word, "1"));
-        let count: u32 = count.parse()?;
+        let count: u32 = count.parse().context(format_args!("no count: {word}"))?;
         for _ in 0..count {
             name.extend_from_slice(letters.as_bytes())?;
         }
@@ -56,11 +57,12 @@ impl<'a> Step<'a> {
     fn give(self, table: &mut NodeTable) -> Result<String> {
         let (parent, name, inode) = (self.number(1)?, self.name(2)?, self.number(3)?);
         let is_made = self.word(0)? == "make";
-        let mut given = given(table, is_made, parent, name.as_slice(), inode);
-        if given == Err(NodeFault::Refused) {
-            given = self::given(table, is_made, parent, name.as_slice(), inode);
-        }
-        match given {
+        let name = name.as_slice();
+        let id = match give_once(table, is_made, parent, name, inode) {
+            Err(NodeFault::Refused) => give_once(table, is_made, parent, name, inode),
+            given => given,
+        };
+        match id {
             Ok(id) => self.number_text(Some(id)),
             Err(NodeFault::Stale) => self.text("ESTALE"),
             Err(NodeFault::Refused) => bail!("memory"),
@@ -93,21 +95,31 @@ impl<'a> Step<'a> {
 
     fn path(self, table: &NodeTable) -> Result<String> {
         let id = self.number(1)?;
-        let path = match self.word(0)? {
-            "child" => table.child_path(id, self.name(2)?.as_slice()),
-            _ => table.path(id),
-        };
+        match self.word(0)? {
+            "child" => self.path_text(table.child_path(id, self.name(2)?.as_slice())),
+            "size" => self.size_text(table.path(id)),
+            _ => self.path_text(table.path(id)),
+        }
+    }
+
+    fn size_text(self, path: Result<PathText, NoPath>) -> Result<String> {
         match path {
-            Ok(path) if self.word(0)? == "size" => self.number_text(Some(path.len() as u64)),
-            path => self.path_text(path),
+            Ok(path) => self.number_text(Some(path.len() as u64)),
+            Err(fault) => self.fault_text(fault),
         }
     }
 
     fn path_text(self, path: Result<PathText, NoPath>) -> Result<String> {
         match path {
             Ok(path) => self.text(str::from_utf8(path.as_slice())?),
-            Err(NoPath::Stale) => self.text("ESTALE"),
-            Err(NoPath::TooLong) => self.text("ENAMETOOLONG"),
+            Err(fault) => self.fault_text(fault),
+        }
+    }
+
+    fn fault_text(self, fault: NoPath) -> Result<String> {
+        match fault {
+            NoPath::Stale => self.text("ESTALE"),
+            NoPath::TooLong => self.text("ENAMETOOLONG"),
         }
     }
 
@@ -128,7 +140,8 @@ impl<'a> Step<'a> {
     /// What is known of each id up to one.
     fn all(self, table: &NodeTable) -> Result<String> {
         let mut text = String::new(self.alloc);
-        for id in 1..=self.number(1)? {
+        let last = self.number(1)?;
+        for id in 1..=last {
             if id > 1 {
                 text.push_str(";")?;
             }
@@ -153,7 +166,7 @@ impl<'a> Step<'a> {
 }
 
 /// The id of an object that is made or found under a name.
-fn given(
+fn give_once(
     table: &mut NodeTable,
     is_made: bool,
     parent: u64,
