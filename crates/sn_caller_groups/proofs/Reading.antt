@@ -40,56 +40,58 @@ abbrev ReadFrom : Bool → List ℕ → List (List ℕ) → List ℕ → Type 0
 ReadFrom all_mapped front words total =
     (more : List ℕ) × (total ≡ front ++ more) × (filter is_some_word words ≡ map decimal more) × AllByRecursion (λ n. n < 2 ^ 32) more × AreShown all_mapped more × (length total ≤ 32)
 
+word_takes : (all_mapped : Bool) (front word : List ℕ) (words : List (List ℕ)) (total : List ℕ) → length front ≤ 32 → read_groups all_mapped front (word ∷ words) ≡ Ok total
+    → ((start : List ℕ) → length start ≤ 32 → read_groups all_mapped start words ≡ Ok total → ReadFrom all_mapped start words total)
+    → (b : Bool) → (length word == 0) ≡ b → ReadFrom all_mapped front (word ∷ words) total
+word_takes all_mapped front word words total few e later true skip =
+    let t = later front few (sym (skipped all_mapped front word words skip) ∙ e) in
+    (t.0, t.1, ap (λ (b : Bool). cond (not b) (word ∷ filter is_some_word words) (filter is_some_word words)) skip ∙ t.2, t.3, t.4, t.5)
+word_takes all_mapped front word words total few e later false some =
+    let mid = after_takes (with_group all_mapped front (number_of word)) (λ more. read_groups all_mapped more words) total (sym (added all_mapped front word words _ some refl) ∙ e) in
+    let group = group_takes all_mapped front (number_of word) mid.0 mid.1 in
+    let n = group.0 in
+    let longer : length (front ++ n ∷ []) ≤ 32 = grind (arith, group.3, length-append front (n ∷ [])) in
+    let t = later (front ++ n ∷ []) longer (ap (λ (xs : List ℕ). read_groups all_mapped xs words) group.4 ∙ mid.2) in
+    let number = number_takes n word group.1 in
+    let first = ap (λ (b : Bool). cond (not b) (word ∷ filter is_some_word words) (filter is_some_word words)) some in
+    let same = ap (λ (w : List ℕ). w ∷ filter is_some_word words) number.0 ∙ ap (λ (ws : List (List ℕ)). decimal n ∷ ws) t.2 in
+    (n ∷ t.0, t.1 ∙ append_assoc front (n ∷ []) t.0, first ∙ same, (number.1, t.3), (group.2, t.4), t.5)
+
 words_take : (all_mapped : Bool) (front : List ℕ) (words : List (List ℕ)) (total : List ℕ) → length front ≤ 32 → read_groups all_mapped front words ≡ Ok total → ReadFrom all_mapped front words total
 words_take all_mapped front [] total few e =
     let same : front ≡ total = cc in
     ([], sym same ∙ sym (append-nil front), refl, tt, tt, subst (λ (xs : List ℕ). length xs ≤ 32) same few)
-words_take all_mapped front (word ∷ words) total few e = at (length word == 0) refl
-  where
-    at : (b : Bool) → (length word == 0) ≡ b → ReadFrom all_mapped front (word ∷ words) total
-    at true skip =
-        let t = words_take all_mapped front words total few (sym (skipped all_mapped front word words skip) ∙ e) in
-        (t.0, t.1, ap (λ (b : Bool). cond (not b) (word ∷ filter is_some_word words) (filter is_some_word words)) skip ∙ t.2, t.3, t.4, t.5)
-    at false some =
-        let mid = after_takes (with_group all_mapped front (number_of word)) (λ more. read_groups all_mapped more words) total (sym (added all_mapped front word words _ some refl) ∙ e) in
-        let group = group_takes all_mapped front (number_of word) mid.0 mid.1 in
-        let n = group.0 in
-        let longer : length (front ++ n ∷ []) ≤ 32 = grind (arith, group.3, length-append front (n ∷ [])) in
-        let read : read_groups all_mapped (front ++ n ∷ []) words ≡ Ok total = ap (λ (xs : List ℕ). read_groups all_mapped xs words) group.4 ∙ mid.2 in
-        let t = words_take all_mapped (front ++ n ∷ []) words total longer read in
-        let number = number_takes n word group.1 in (
-          n ∷ t.0,
-          t.1 ∙ append_assoc front (n ∷ []) t.0,
-          ap (λ (b : Bool). cond (not b) (word ∷ filter is_some_word words) (filter is_some_word words)) some ∙ ap (λ (w : List ℕ). w ∷ filter is_some_word words) number.0 ∙ ap (λ (ws : List (List ℕ)). decimal n ∷ ws) t.2,
-          (number.1, t.3),
-          (group.2, t.4),
-          t.5,
-        )
+words_take all_mapped front (word ∷ words) total few e =
+    word_takes all_mapped front word words total few e (λ start fits read. words_take all_mapped start words total fits read) (length word == 0) refl
 
-words_again : (all_mapped : Bool) (front more : List ℕ) (words : List (List ℕ)) → filter is_some_word words ≡ map decimal more → AllByRecursion (λ n. n < 2 ^ 32) more → AreShown all_mapped more
-    → length front + length more ≤ 32 → read_groups all_mapped front words ≡ Ok (front ++ more)
-words_again all_mapped front [] [] e small shown few = ap (λ (xs : List ℕ). Ok xs) (sym (append-nil front))
-words_again all_mapped front (n ∷ more) [] e small shown few = absurd cc
-words_again all_mapped front more (word ∷ words) e small shown few = at (length word == 0) refl more e small shown few
-  where
-    at : (b : Bool) → (length word == 0) ≡ b → (more : List ℕ) → filter is_some_word (word ∷ words) ≡ map decimal more → AllByRecursion (λ n. n < 2 ^ 32) more → AreShown all_mapped more
-        → length front + length more ≤ 32 → read_groups all_mapped front (word ∷ words) ≡ Ok (front ++ more)
-    at true skip more e small shown few =
-        skipped all_mapped front word words skip
-        ∙ words_again all_mapped front more words (sym (ap (λ (b : Bool). cond (not b) (word ∷ filter is_some_word words) (filter is_some_word words)) skip) ∙ e) small shown few
-    at false some [] e small shown few =
-        let there : word ∷ filter is_some_word words ≡ [] = sym (ap (λ (b : Bool). cond (not b) (word ∷ filter is_some_word words) (filter is_some_word words)) some) ∙ e in
-        absurd cc
-    at false some (n ∷ more) e small shown few =
-        let there : word ∷ filter is_some_word words ≡ decimal n ∷ map decimal more = sym (ap (λ (b : Bool). cond (not b) (word ∷ filter is_some_word words) (filter is_some_word words)) some) ∙ e in
-        let first : word ≡ decimal n = cc in
-        let others : filter is_some_word words ≡ map decimal more = cc in
-        let number : number_of word ≡ Some n = ap number_of first ∙ number_again n small.0 in
-        let room : nat_le 32 (length front) ≡ false = grind (arith, few) in
-        let group : with_group all_mapped front (number_of word) ≡ Ok (front ++ n ∷ []) = ap (with_group all_mapped front) number ∙ group_again all_mapped front n shown.0 room in
-        let fits : length (front ++ n ∷ []) + length more ≤ 32 = omega (arith, few, length-append front (n ∷ [])) in
-        added all_mapped front word words _ some group
-        ∙ words_again all_mapped (front ++ n ∷ []) more words others small.1 shown.1 fits ∙ ap (λ (xs : List ℕ). Ok xs) (append_assoc front (n ∷ []) more)
+abbrev IsAgain : Bool → List (List ℕ) → List ℕ → List ℕ → Type 0
+IsAgain all_mapped words front more =
+    filter is_some_word words ≡ map decimal more → AllByRecursion (λ n. n < 2 ^ 32) more → AreShown all_mapped more → length front + length more ≤ 32
+    → read_groups all_mapped front words ≡ Ok (front ++ more)
+
+word_again : (all_mapped : Bool) (word : List ℕ) (words : List (List ℕ)) (front more : List ℕ) → ((start others : List ℕ) → IsAgain all_mapped words start others)
+    → (b : Bool) → (length word == 0) ≡ b → IsAgain all_mapped (word ∷ words) front more
+word_again all_mapped word words front more later true skip e small shown few =
+    let there = sym (ap (λ (b : Bool). cond (not b) (word ∷ filter is_some_word words) (filter is_some_word words)) skip) ∙ e in
+    skipped all_mapped front word words skip ∙ later front more there small shown few
+word_again all_mapped word words front [] later false some e small shown few =
+    let there : word ∷ filter is_some_word words ≡ [] = sym (ap (λ (b : Bool). cond (not b) (word ∷ filter is_some_word words) (filter is_some_word words)) some) ∙ e in
+    absurd (cc there)
+word_again all_mapped word words front (n ∷ more) later false some e small shown few =
+    let there : word ∷ filter is_some_word words ≡ decimal n ∷ map decimal more = sym (ap (λ (b : Bool). cond (not b) (word ∷ filter is_some_word words) (filter is_some_word words)) some) ∙ e in
+    let first : word ≡ decimal n = cc there in
+    let others : filter is_some_word words ≡ map decimal more = cc there in
+    let number : number_of word ≡ Some n = ap number_of first ∙ number_again n small.0 in
+    let room : nat_le 32 (length front) ≡ false = grind (arith, few) in
+    let group : with_group all_mapped front (number_of word) ≡ Ok (front ++ n ∷ []) = ap (with_group all_mapped front) number ∙ group_again all_mapped front n shown.0 room in
+    let fits : length (front ++ n ∷ []) + length more ≤ 32 = omega (arith, few, length-append front (n ∷ [])) in
+    added all_mapped front word words _ some group ∙ later (front ++ n ∷ []) more others small.1 shown.1 fits ∙ ap (λ (xs : List ℕ). Ok xs) (append_assoc front (n ∷ []) more)
+
+words_again : (all_mapped : Bool) (words : List (List ℕ)) (front more : List ℕ) → IsAgain all_mapped words front more
+words_again all_mapped [] front [] e small shown few = ap (λ (xs : List ℕ). Ok xs) (sym (append-nil front))
+words_again all_mapped [] front (n ∷ more) e small shown few = absurd (cc e)
+words_again all_mapped (word ∷ words) front more e small shown few =
+    word_again all_mapped word words front more (λ start others. words_again all_mapped words start others) (length word == 0) refl e small shown few
 
 -- ---- the list of a text
 
@@ -136,4 +138,4 @@ read_is_listed all_mapped text groups e =
 pub listed_is_read : (all_mapped : Bool) (text groups : List ℕ) → Lists text groups → length groups ≤ 32 → AreShown all_mapped groups → groups_of all_mapped text ≡ Ok groups
 listed_is_read all_mapped text groups lists few shown =
     ap (λ (t : List ℕ). groups_of all_mapped t) lists.ended ∙ ap (groups_in all_mapped) (list_again lists.lines lists.list lists.only_list)
-    ∙ words_again all_mapped [] groups (slice_split is_blank lists.list) lists.words lists.numbers shown (omega (arith, few))
+    ∙ words_again all_mapped (slice_split is_blank lists.list) [] groups lists.words lists.numbers shown (omega (arith, few))

@@ -1,5 +1,6 @@
 //! The groups of a list.
-ghost use Rattle.std.specs.Prelude.{◌≡◌, ◌∷◌, ◌++◌, All, IfErr, IfNone, IfSome, OnOk, MatchResult, Err, Ok, List, ℕ, false, true};
+ghost use Rattle.std.specs.Prelude.{◌≡◌, ◌<◌, ◌∷◌, [], IfErr, IfSome, IsNone, OnOk, MatchResult, Err, Ok, List, ℕ, length, position};
+ghost use Rattle.std.specs.List.{slice_split};
 ghost use Rattle.sn_caller_groups.specs.Status as status;
 ghost use Rattle.sn_caller_groups.specs.Status.{groups_of, is_blank, read_groups, with_group};
 
@@ -43,13 +44,19 @@ fn number(word: &[u8]) -> Option<u32>
     }
 }
 
-// What is before the first blank, and what is after it.
-fn cut_word(list: &[u8]) -> Option<(&[u8], &[u8])>
-    ensures found { IfSome result (λ cut. (blank : ℕ) × (is_blank blank ≡ true) × (list.now ≡ cut.0.now ++ blank ∷ cut.1.now)) }
-    ensures first { IfSome result (λ cut. All (λ b. is_blank b ≡ false) cut.0.now) }
-    ensures none { IfNone result (All (λ b. is_blank b ≡ false) list.now) }
+fn place(list: &[u8]) -> Option<usize>
+    ensures { result ≡ position is_blank list.now }
 {
-    let at = list.iter().position(|byte| matches!(*byte, b' ' | b'\t'))?;
+    list.iter().position(|byte| matches!(*byte, b' ' | b'\t'))
+}
+
+// The first word of several, and the text of the others.
+fn cut_word(list: &[u8]) -> Option<(&[u8], &[u8])>
+    ensures found { IfSome result (λ cut. slice_split is_blank list.now ≡ cut.0.now ∷ slice_split is_blank cut.1.now) }
+    ensures shorter { IfSome result (λ cut. length cut.1.now < length list.now) }
+    ensures last { IsNone result → slice_split is_blank list.now ≡ list.now ∷ [] }
+{
+    let at = place(list)?;
     Some((&list[..at], &list[at + 1..]))
 }
 
