@@ -1,5 +1,5 @@
 -- Which ids nothing holds, after each change of a table.
-use Rattle.std.proofs.Common.{◌≡◌, ◌≢◌, ℕ, ◌==◌, Bool, true, false, cond, List, Option, Some, None, refl, subst, sym, ap, ◌∙◌, arith}
+use Rattle.std.proofs.Common.{◌≡◌, ◌≢◌, ℕ, ◌==◌, Bool, true, false, cond, List, Option, Some, None, is_none, refl, subst, sym, ap, ◌∙◌, arith}
 use Rattle.std.specs.Ordering.{nat_cmp, eq_by_cmp}
 use Rattle.std.specs.Cmp.{eq_by_cmp_equiv, nat_cmp_total}
 use Rattle.std.specs.Cmp.Lexicographic.{slice_cmp, nat_list_cmp_total}
@@ -11,7 +11,7 @@ use Rattle.sn_maps.specs.Maps.{updated}
 use Rattle.sn_maps.proofs.MapLemmas.{get-updated}
 use Rattle.sn_node_table.specs.declared.node.Link.{Link}
 use Rattle.sn_node_table.specs.Nodes.{Below, IsIdle, Node, first_link, link_to, new_node, with_handles, with_link, with_lookups, with_name, without_first_link, without_link, without_name}
-use Rattle.sn_node_table.specs.Tables.{IsIdleAt, IsIdleNode, Nodes, Table, added, dropped, dropped_of, handles_of, is_id, linked, linked_over, lookups_of, made, met, met_as, moved, moved_as, named, one_more, opened, put, unlinked, unlinked_from}
+use Rattle.sn_node_table.specs.Tables.{IsIdleAt, IsIdleNode, Nodes, Table, added, dropped, dropped_of, handles_of, is_id, linked, linked_over, lookups_of, made, met, met_as, moved, moved_as, named, node_at, one_more, opened, put, unlinked, unlinked_from}
 
 -- A change makes no node idle that wasn't.
 abbrev Holds : (Node → Node) → Type 0
@@ -110,8 +110,9 @@ moved_at : (o : Option ℕ) (t : Table) (parent : ℕ) (name : List ℕ) (direct
 moved_at None t parent name directory as_name other apart away idle = unlinked_at (named t directory as_name) t directory as_name other away idle
 moved_at (Some id) t parent name directory as_name other apart away idle =
     let there = linked t directory as_name id in
-    either_way (is_id id (named t directory as_name)) t t (unlinked there parent name) other (λ same. same)
-    (λ over. idle_linked t directory as_name id other (unlinked_at (named there parent name) there parent name other apart over)) idle
+    either_way (is_none (node_at t directory)) t (unlinked t parent name) _ other (λ only. unlinked_at (named t parent name) t parent name other apart only)
+    (either_way (is_id id (named t directory as_name)) t t (unlinked there parent name) other (λ same. same)
+    (λ over. idle_linked t directory as_name id other (unlinked_at (named there parent name) there parent name other apart over))) idle
 
 pub idle_moved : (t u : Table) (parent : ℕ) (name : List ℕ) (directory : ℕ) (as_name : List ℕ) (other : ℕ) → other ≢ parent → other ≢ directory
     → u ≡ moved t parent name directory as_name → IsIdleAt u other → IsIdleAt t other

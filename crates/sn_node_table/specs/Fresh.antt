@@ -1,4 +1,4 @@
--- Which ids were never given.
+-- The ids that were never given.
 use Rattle.std.specs.Prelude.{ℕ}
 use Rattle.sn_node_table.specs.declared.nodes.Nodes.{Nodes}
 use Rattle.sn_node_table.specs.Stored.{nodes_of}

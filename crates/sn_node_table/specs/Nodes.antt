@@ -1,4 +1,4 @@
--- A node that is known, and what becomes of it.
+-- A node of the table, and its changes.
 use Rattle.std.specs.Prelude.{◌≡◌, ℕ, ◌-◌, ◌==◌, ◌&&◌, Bool, not, List, [], ◌∷◌, ◌++◌, length, take, drop, filter, slice_get, Option, None, Some}
 use Rattle.std.specs.Ordering.{nat_cmp}
 use Rattle.std.specs.Cmp.Lexicographic.{slice_cmp, pointwise}
@@ -9,7 +9,7 @@ use Rattle.sn_node_table.specs.declared.node.Link.{Link}
 abbrev pub Below : Type 0
 Below = map.FinMap (slice_cmp nat_cmp) ℕ
 
--- the number of the object that it is; the names that it was met under, in the order in which they were met; the names that are known below it
+-- the number of its object; the names under which it was found, in the order in which they were found; the known names below it; counts
 pub record Node : Type 0 where
   pub inode : ℕ
   pub links : List Link
@@ -30,7 +30,7 @@ new_node inode = record { inode = inode; links = []; below = map.empty; lookups 
 abbrev pub first_link : Node → Option Link
 first_link node = slice_get node.links 0
 
--- one more name that it was met under; without the first one, without the last one, and without one of them
+-- with one more name at the end; without the first one, without the last one, and without one of them
 abbrev pub with_link : Link → Node → Node
 with_link link node = record node { links = node.links ++ link ∷ [] }
 
@@ -43,7 +43,7 @@ without_last_link node = record node { links = take (length node.links - 1) node
 abbrev pub without_link : ℕ → List ℕ → Node → Node
 without_link parent name node = record node { links = filter (λ link. not (is_link parent name link)) node.links }
 
--- a name below it leads to an id, or nowhere
+-- with a name below it that leads to an id, and without that name
 abbrev pub with_name : List ℕ → ℕ → Node → Node
 with_name name id node = record node { below = map.insert node.below name id }
 
@@ -61,7 +61,7 @@ abbrev pub below_of : Option Node → Below
 below_of None = map.empty
 below_of (Some node) = node.below
 
--- Nothing holds it: no lookup, no handle, and no name below.
+-- Nothing holds it: it has no lookup, no handle and no name below.
 pub record IsIdle (node : Node) : Type 0 where
   pub lookups : node.lookups ≡ 0
   pub handles : node.handles ≡ 0

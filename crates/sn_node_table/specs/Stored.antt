@@ -1,4 +1,4 @@
--- What the maps in memory stand for.
+-- The finite maps of the stored ones.
 use Rattle.std.specs.Prelude.{ℕ}
 use Rattle.std.specs.Ordering.{nat_cmp}
 use Rattle.std.specs.FinMap as map

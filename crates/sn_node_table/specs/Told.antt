@@ -1,4 +1,4 @@
--- What a table stands for.
+-- The model of a table in memory.
 use Rattle.sn_node_table.specs.Stored.{current_of, nodes_of}
 use Rattle.sn_node_table.specs.Tables.{Table}
 use Rattle.sn_node_table.specs.declared.table.NodeTable.{NodeTable}

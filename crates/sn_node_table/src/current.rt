@@ -1,4 +1,4 @@
-//! Which id stands for an object.
+//! The current id of each object.
 ghost use Rattle.std.specs.Prelude.{◌≡◌, IfOk, OnOk, OnErr};
 ghost use Rattle.std.specs.FinMap as map;
 ghost use Rattle.sn_maps.specs.Maps.{restored, updated};
@@ -6,7 +6,7 @@ ghost use Rattle.sn_maps.specs.Maps.{restored, updated};
 use std::alloc::{AllocError, Global};
 use std::collections::BTreeMap;
 
-/// The ids that stand for objects, by the numbers of the objects.
+/// The current ids, by the numbers of their objects.
 #[derive(Drop)]
 pub(crate) struct Current {
     map: BTreeMap<u64, u64>,
@@ -15,7 +15,7 @@ pub(crate) struct Current {
 impl Current {
     ghost use Rattle.sn_node_table.specs.Stored.{current_of};
 
-    /// No id. It takes no memory.
+    /// An empty index. It allocates nothing.
     pub fn new(alloc: Global) -> Current
         ensures { current_of result ≡ map.empty }
     {
@@ -24,14 +24,14 @@ impl Current {
         }
     }
 
-    /// The id that stands for an object.
+    /// The current id of an object.
     pub fn get(&self, inode: u64) -> Option<u64>
         ensures { result ≡ map.get (current_of self.now) inode }
     {
         self.map.get(&inode).copied()
     }
 
-    /// An id stands for an object from now on. Hands back the id that did.
+    /// Makes an id the current one of an object. Returns the one before.
     pub fn insert(&mut self, inode: u64, id: u64) -> Result<Option<u64>, AllocError>
         ensures ok { OnOk result (current_of self.new ≡ map.insert (current_of self.old) inode id) }
         ensures old { IfOk result (λ old. old ≡ map.get (current_of self.old) inode) }
@@ -41,14 +41,14 @@ impl Current {
         Ok(old)
     }
 
-    /// No id stands for an object from now on.
+    /// Leaves an object without a current id.
     pub fn remove(&mut self, inode: u64)
         ensures { current_of self.new ≡ map.remove (current_of self.old) inode }
     {
         self.map.remove(&inode);
     }
 
-    /// Takes back an `insert`, by what it handed back. It takes no memory.
+    /// Undoes an `insert`, given what it returned. It allocates nothing.
     pub fn put_back(&mut self, inode: u64, old: Option<u64>)
         ensures { current_of self.new ≡ restored (current_of self.old) inode old }
     {
@@ -58,7 +58,7 @@ impl Current {
         }
     }
 
-    /// Sets the id of an object that has one.
+    /// Replaces the current id of an object that has one.
     fn set(&mut self, inode: u64, id: u64)
         ensures { current_of self.new ≡ updated (current_of self.old) inode (λ _. id) }
     {

@@ -1,4 +1,4 @@
-//! What holds nodes, and what goes with it.
+//! Calls that release nodes, and remove those that nothing holds any longer.
 ghost use Rattle.std.specs.Prelude.{◌≡◌, OnOk, OnErr};
 ghost use Rattle.sn_node_table.specs.Tables.{Goes, NoneIsIdled, closed, dropped, forgotten, moved, unlinked};
 
@@ -8,13 +8,12 @@ use std::alloc::AllocError;
 impl NodeTable {
     ghost use Rattle.sn_node_table.specs.Told.{table_of};
 
-    /// The system forgets an id so many times. Where nothing holds it any more, it goes, and with it the
-    /// directories above it that nothing else held.
+    /// Subtracts lookups that the system forgot. An id that nothing holds any longer is removed, and so are the directories above
+    /// it that nothing else held.
     ///
-    /// Proved, also of `close`, `unlink`, `rename` and `drop_first_link`: After a forget, a close, an unlink, a rename, or a
-    /// first name that is dropped, the table is as that alone makes it, without ids that went one after another, each of
-    /// which no lookup, handle or name below held when its turn came. No id is left with nothing to hold it, if none was
-    /// before.
+    /// Proved, also of `close`, `unlink`, `rename` and `drop_first_link`: After a forget, a close, an unlink, a rename, or the
+    /// removal of a first name, the table is the result of that alone, without ids that were removed one after another, each
+    /// while no lookup, handle or name below held it. No id becomes idle.
     pub fn forget(&mut self, id: u64, count: u64)
         ensures goes { Goes (forgotten (table_of self.old) id count) (table_of self.new) }
         ensures idle { NoneIsIdled (table_of self.old) (table_of self.new) }
@@ -23,7 +22,7 @@ impl NodeTable {
         self.sweep(id);
     }
 
-    /// A handle of a node is closed. Where nothing holds the node any more, it goes as by `forget`.
+    /// Closes a handle of a node. Ids are removed as by `forget`.
     pub fn close(&mut self, id: u64)
         ensures goes { Goes (closed (table_of self.old) id) (table_of self.new) }
         ensures idle { NoneIsIdled (table_of self.old) (table_of self.new) }
@@ -32,7 +31,7 @@ impl NodeTable {
         self.sweep(id);
     }
 
-    /// A name of a directory leads nowhere any more. Where nothing holds the directory, it goes as by `forget`.
+    /// Removes a name of a directory. Ids are removed as by `forget`.
     pub fn unlink(&mut self, parent: u64, name: &[u8])
         ensures goes { Goes (unlinked (table_of self.old) parent name.now) (table_of self.new) }
         ensures idle { NoneIsIdled (table_of self.old) (table_of self.new) }
@@ -41,8 +40,9 @@ impl NodeTable {
         self.sweep(parent);
     }
 
-    /// What a name of a directory led to has another name instead, and what had that name has it no more. Where
-    /// memory is refused the table stays as it was: then `unlink` both names.
+    /// Gives what a name of a directory led to another name instead, and takes that name from what had it. Where the id of the new
+    /// directory isn't current, no name of it is known, and the old name is removed. Where memory is refused the table is
+    /// unchanged: then `unlink` both names.
     pub fn rename(
         &mut self,
         parent: u64,
@@ -60,8 +60,7 @@ impl NodeTable {
         Ok(())
     }
 
-    /// The first name of a node leads to it no more, since it leads elsewhere. Where nothing holds the directory of
-    /// that name, it goes as by `forget`.
+    /// Removes the first name of a node, which was found to lead elsewhere. Ids are removed as by `forget`.
     pub fn drop_first_link(&mut self, id: u64)
         ensures goes { Goes (dropped (table_of self.old) id) (table_of self.new) }
         ensures idle { NoneIsIdled (table_of self.old) (table_of self.new) }

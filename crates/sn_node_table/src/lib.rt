@@ -1,25 +1,24 @@
-//! The nodes that a mount's messages speak of, by the ids that the system was given for them.
+//! The nodes of a mount, by the ids that its messages name them by.
 //!
-//! A message names a node by an id, which it was told when a name of a directory was looked up. A file system here
-//! knows paths and numbers alone. So a table has, for each id, the number of its object, the names that it was met
-//! under, the names that are known below it, and how often it was looked up and opened. It knows no device and no
-//! file system: who calls it looks at a path before using it, and tells the table where the path leads elsewhere.
+//! The reply to a lookup gives the system an id, and later messages name the node by it. The file system knows only paths and
+//! inode numbers. So the table keeps, for each id, the number of its object, the names under which the object was found, the
+//! known names below it, and its counts of lookups and handles. It uses no device and no file system: its caller resolves a path
+//! before using it, and reports a name that leads elsewhere.
 //!
-//! The model is a [`Table`](../specs/Tables.antt) of finite maps: the node of each id, the id that stands for each
-//! object, and the next id to be given. Each call's contract says what becomes of it.
+//! The model is a [`Table`](../specs/Tables.antt) of finite maps: the node of each id, the current id of each object, and the next
+//! id to be given. The contract of each call gives the table that results.
 //!
-//! - An id is never given twice: each is the next one ([`ids_are_given_in_order`]), from which on no id has a node. 1 is `/`.
-//! - What is made gets a new id. One that stood for an earlier object of its number stands for none from then on: it has
-//!   no path and no number any more.
-//! - A path is made of first names ([`paths_are_chains`]). A name that leads elsewhere is dropped, and with none left there
-//!   is no path.
-//! - An id goes with its last lookup, handle and known name below: `Goes` says that ids go one after another, each held by
-//!   nothing when its turn comes, and `NoneIsIdled` that none stays which nothing holds any more.
-//! - A call to which memory is refused leaves the table as it was.
+//! - An id is never given twice: each is the next one ([`ids_are_given_in_order`]), and no id from there on has a node. 1 is `/`.
+//! - A new object gets a new id. The id of an earlier object with its number is then stale: it has no path and no number.
+//! - A path is made of first names ([`paths_are_chains`]). The caller drops a name that leads elsewhere; an id without names has no
+//!   path.
+//! - An id is removed with its last lookup, handle and known name below: `Goes` says that ids are removed one after another, each
+//!   while nothing holds it, and `NoneIsIdled` that no id becomes idle.
+//! - A call that is refused memory leaves the table unchanged.
 //!
-//! The way through it: `specs/Nodes`, `specs/Tables` and `specs/Paths`; then `node` and `nodes` for what is kept of
-//! nodes, `current` for the ids that stand for objects, and [`NodeTable`] in `table` (what is told), `linking` (names),
-//! `meeting` (ids that are given), `path`, `sweeping` (ids that go) and `holding` (what lets them go).
+//! Read `specs/Nodes`, `specs/Tables` and `specs/Paths` first; then `node` and `nodes` (the stored nodes), `current` (the current
+//! ids), and [`NodeTable`] in `table` (queries and counts), `linking` (names), `meeting` (new ids), `path`, `sweeping` (removal of
+//! idle ids) and `holding` (calls that release nodes).
 //!
 //! What the sources leave open is decided in `docs/DECISIONS.md`, under "The table of nodes".
 //!

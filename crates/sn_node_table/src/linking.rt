@@ -1,4 +1,4 @@
-//! The names that nodes are met under.
+//! The names of nodes.
 ghost use Rattle.std.specs.Prelude.{◌≡◌, OnOk, OnErr};
 ghost use Rattle.std.specs.FinMap as map;
 ghost use Rattle.std.specs.Option.{option_and_then, option_map};
@@ -14,7 +14,7 @@ use std::alloc::AllocError;
 impl NodeTable {
     ghost use Rattle.sn_node_table.specs.Told.{table_of};
 
-    /// A name leads to an id from now on, as the last of that id's names. What had the name has it no more.
+    /// Makes a name lead to an id, as the last of that id's names, and takes it from the id that had it.
     pub(crate) fn link(&mut self, parent: u64, name: &[u8], id: u64) -> Result<(), AllocError>
         ensures ok { OnOk result (table_of self.new ≡ linked (table_of self.old) parent name.now id) }
         ensures err { OnErr result (table_of self.new ≡ table_of self.old) }
@@ -30,7 +30,7 @@ impl NodeTable {
         }
     }
 
-    /// The same where another id that had the name still has it among its names.
+    /// Does so without taking the name from an id that had it.
     fn put_link(&mut self, parent: u64, name: &[u8], id: u64) -> Result<(), AllocError>
         ensures ok { OnOk result (table_of self.new ≡ put (table_of self.old) parent name.now id) }
         ensures err { OnErr result (table_of self.new ≡ table_of self.old) }
@@ -47,7 +47,7 @@ impl NodeTable {
         }
     }
 
-    /// A name leads nowhere from now on, whether or not its directory is still held.
+    /// Removes a name. Its directory is left even where nothing holds it any longer.
     pub(crate) fn take_name(&mut self, parent: u64, name: &[u8])
         ensures { table_of self.new ≡ unlinked (table_of self.old) parent name.now }
     {
@@ -57,7 +57,7 @@ impl NodeTable {
         }
     }
 
-    /// What a name led to is under another name, whether or not their directories are still held.
+    /// Moves what a name led to to another name. Both directories are left even where nothing holds them any longer.
     pub(crate) fn move_name(
         &mut self,
         parent: u64,
@@ -72,6 +72,10 @@ impl NodeTable {
             self.take_name(directory, other);
             return Ok(());
         };
+        if self.node(directory).is_none() {
+            self.take_name(parent, name);
+            return Ok(());
+        }
         if self.named(directory, other) == Some(id) {
             return Ok(());
         }
@@ -80,8 +84,7 @@ impl NodeTable {
         Ok(())
     }
 
-    /// The first name of a node leads to it no more. Hands back the directory of that name, whether or not it is
-    /// still held.
+    /// Removes the first name of a node. Returns the directory of that name, which is left even where nothing holds it any longer.
     pub(crate) fn take_first_link(&mut self, id: u64) -> Option<u64>
         ensures table { table_of self.new ≡ dropped (table_of self.old) id }
         ensures parent { result ≡ option_map (λ (link : TheLink). link.parent) (option_and_then first_link (map.get (table_of self.old).nodes id)) }

@@ -1,4 +1,4 @@
-//! The ids that are given.
+//! How objects get ids.
 ghost use Rattle.std.specs.Prelude.{◌≡◌, ◌+◌, false, Err, is_none, is_some, true, IfOk, IfErr, OnOk, OnErr};
 ghost use Rattle.std.specs.FinMap as map;
 ghost use Rattle.sn_node_table.specs.Tables.{Table, added, given, made, met, node_at};
@@ -8,10 +8,10 @@ use crate::node::StoredNode;
 use crate::table::NodeTable;
 use std::alloc::AllocError;
 
-/// Why an object was given no id.
+/// Why an object got no id.
 #[derive(Clone, Copy, Debug, PartialEq, Eq)]
 pub enum NodeFault {
-    /// The id of the directory isn't known, or another one stands for its object.
+    /// The id of the directory isn't known or isn't current.
     Stale,
     /// Memory was refused, or all ids were given.
     Refused,
@@ -28,7 +28,7 @@ impl From<AllocError> for NodeFault {
 impl NodeTable {
     ghost use Rattle.sn_node_table.specs.Told.{table_of};
 
-    /// An object gets the next id. Hands back the one that stood for it.
+    /// Gives an object the next id. Returns its earlier one.
     fn add(&mut self, inode: u64) -> Result<Option<u64>, AllocError>
         ensures ok { OnOk result (table_of self.new ≡ added (table_of self.old) inode) }
         ensures old { IfOk result (λ old. old ≡ map.get (table_of self.old).current inode) }
@@ -52,7 +52,7 @@ impl NodeTable {
         }
     }
 
-    /// Takes back an `add`, by the id that it gave and the one that it handed back. It takes no memory.
+    /// Undoes an `add`, given the new id and the earlier one. It allocates nothing.
     fn undo_add(&mut self, id: u64, inode: u64, old: Option<u64>)
         requires { (table_of self.old).next ≡ id + 1 }
         ensures { (t : Table) → table_of self.old ≡ added t inode → old ≡ map.get t.current inode → id ≡ t.next → is_some (map.get t.nodes t.next) ≡ false
@@ -63,7 +63,7 @@ impl NodeTable {
         self.next = id;
     }
 
-    /// An object gets a new id under a name.
+    /// Gives an object a new id and a name.
     fn give(&mut self, parent: u64, name: &[u8], inode: u64) -> Result<u64, AllocError>
         ensures ok { OnOk result (table_of self.new ≡ made (table_of self.old) parent name.now inode) }
         ensures id { IfOk result (λ id. id ≡ (table_of self.old).next) }
@@ -80,11 +80,10 @@ impl NodeTable {
         }
     }
 
-    /// An object was made under a name of a directory, and its id is told once. It gets a new one, and one that
-    /// stood for an earlier object of this number stands for none from now on.
+    /// Adds an object that was made under a name of a directory, looked up once. It gets a new id, and the id of an earlier object
+    /// with this number becomes stale.
     ///
-    /// Proved: An object that is made gets the next id, and the one that stood for an earlier object of its number stands
-    /// for none from then on.
+    /// Proved: An object that is made gets the next id, and the id of an earlier object with its number becomes stale.
     pub fn make(&mut self, parent: u64, name: &[u8], inode: u64) -> Result<u64, NodeFault>
         ensures ok { OnOk result (table_of self.new ≡ made (table_of self.old) parent name.now inode) }
         ensures id { IfOk result (λ id. id ≡ (table_of self.old).next) }
@@ -98,12 +97,11 @@ impl NodeTable {
         Ok(self.give(parent, name, inode)?)
     }
 
-    /// An object was found under a name of a directory, and its id is told once more: that which stands for it,
-    /// or a new one.
+    /// Counts a lookup that found an object under a name of a directory. Returns the object's current id, or a new one.
     ///
-    /// Proved: An object that is found under a name gets the id that stands for it, or the next one, and was looked up once
-    /// more; the name leads to that id, and to no other one. Where the directory's id stands for nothing the answer is
-    /// `Stale`, and where memory is refused the table stays as it was.
+    /// Proved: An object that is found under a name has its current id, or gets the next one, with one more lookup; the name leads
+    /// to that id and no other. Where the directory's id is stale or unknown the result is `Stale`, and where memory is refused
+    /// the table is unchanged.
     pub fn meet(&mut self, parent: u64, name: &[u8], inode: u64) -> Result<u64, NodeFault>
         ensures ok { OnOk result (table_of self.new ≡ met (table_of self.old) parent name.now inode) }
         ensures id { IfOk result (λ id. id ≡ given (table_of self.old) inode) }

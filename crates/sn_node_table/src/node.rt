@@ -1,4 +1,4 @@
-//! What is kept of a node.
+//! A stored node.
 ghost use Rattle.std.specs.Prelude.{◌≡◌, ◌↔◌, IfOk, OnOk, OnErr, IsTrue};
 ghost use Rattle.std.specs.Option.{option_copied};
 
@@ -6,7 +6,7 @@ use sn_maps::NameMap;
 use sn_model::Word;
 use std::alloc::{AllocError, Global};
 
-/// A name of a directory that was met.
+/// A name under which a node was found.
 #[derive(Drop)]
 pub struct Link {
     /// The id of the directory.
@@ -17,7 +17,7 @@ pub struct Link {
 impl Link {
     ghost use Rattle.sn_node_table.specs.Nodes.{is_link, link_to};
 
-    /// The link of a name, which is copied.
+    /// The link of a name, which it copies.
     pub fn new(alloc: Global, parent: u64, name: &[u8]) -> Result<Link, AllocError>
         ensures { IfOk result (λ link. link ≡ link_to parent name.now) }
     {
@@ -25,7 +25,7 @@ impl Link {
         Ok(Link { parent, name })
     }
 
-    /// Whether it is that of this name of this directory.
+    /// Whether it is this name of this directory.
     pub fn is(&self, parent: u64, name: &[u8]) -> bool
         ensures { result ≡ is_link parent name.now self.now }
     {
@@ -33,14 +33,14 @@ impl Link {
     }
 }
 
-/// A node that is known.
+/// A node of the table.
 #[derive(Drop)]
 pub(crate) struct StoredNode {
-    /// The number of the object that it is, as a caller of `stat` is told.
+    /// The inode number of its object, as `stat` reports it.
     pub inode: u64,
-    /// The names that it was met under, in the order in which they were met.
+    /// The names under which it was found, in the order in which they were found.
     pub links: Vec<Link>,
-    /// The names that are known below it.
+    /// The ids of the known names below it.
     pub below: NameMap<u64>,
     pub lookups: u64,
     pub handles: u64,
@@ -50,7 +50,7 @@ impl StoredNode {
     ghost use Rattle.sn_node_table.specs.Nodes.{IsIdle, first_link, new_node, with_link, with_name, without_first_link, without_last_link, without_link, without_name};
     ghost use Rattle.sn_node_table.specs.Stored.{node_of};
 
-    /// A node that was looked up once. It takes no memory.
+    /// A node that was looked up once. It allocates nothing.
     pub fn new(alloc: Global, inode: u64) -> StoredNode
         ensures { node_of result ≡ new_node inode }
     {
@@ -63,14 +63,14 @@ impl StoredNode {
         }
     }
 
-    /// The first name that it was met under.
+    /// Its first name.
     pub fn first_link(&self) -> Option<&Link>
         ensures { option_copied result ≡ first_link (node_of self.now) }
     {
         self.links.first()
     }
 
-    /// It was met under one more name.
+    /// Adds a name.
     pub fn push_link(&mut self, link: Link) -> Result<(), AllocError>
         ensures ok { OnOk result (node_of self.new ≡ with_link link (node_of self.old)) }
         ensures err { OnErr result (node_of self.new ≡ node_of self.old) }
@@ -79,14 +79,14 @@ impl StoredNode {
         Ok(())
     }
 
-    /// Takes back the last name that it was met under.
+    /// Removes its last name.
     pub fn pop_link(&mut self)
         ensures { node_of self.new ≡ without_last_link (node_of self.old) }
     {
         self.links.pop();
     }
 
-    /// Takes the first name that it was met under.
+    /// Removes its first name, and returns it.
     pub fn take_first_link(&mut self) -> Option<Link>
         ensures link { result ≡ first_link (node_of self.old) }
         ensures rest { node_of self.new ≡ without_first_link (node_of self.old) }
@@ -97,14 +97,14 @@ impl StoredNode {
         Some(self.links.remove(0))
     }
 
-    /// A name isn't one of its names any more.
+    /// Removes one of its names.
     pub fn drop_link(&mut self, parent: u64, name: &[u8])
         ensures { node_of self.new ≡ without_link parent name.now (node_of self.old) }
     {
         self.links.retain(|link| !link.is(parent, name));
     }
 
-    /// A name below it leads to an id.
+    /// Makes a name below it lead to an id.
     pub fn put_name(&mut self, name: Word, id: u64) -> Result<(), AllocError>
         ensures ok { OnOk result (node_of self.new ≡ with_name name id (node_of self.old)) }
         ensures err { OnErr result (node_of self.new ≡ node_of self.old) }
@@ -112,14 +112,14 @@ impl StoredNode {
         self.below.insert(name.into_bytes(), id)
     }
 
-    /// A name below it is known no more.
+    /// Removes a name below it.
     pub fn take_name(&mut self, name: &[u8])
         ensures { node_of self.new ≡ without_name name.now (node_of self.old) }
     {
         self.below.remove(name);
     }
 
-    /// Whether nothing holds it: no lookup, no handle, and no name below.
+    /// Whether it is idle: without a lookup, a handle and a name below.
     pub fn is_idle(&self) -> bool
         ensures { IsTrue result ↔ IsIdle (node_of self.now) }
     {

@@ -11,7 +11,7 @@ use sn_model::Word;
 use std::alloc::{AllocError, Global};
 use std::collections::BTreeMap;
 
-/// The nodes that are known, by their ids.
+/// The nodes of the table, by their ids.
 #[derive(Drop)]
 pub(crate) struct Nodes {
     map: BTreeMap<u64, StoredNode>,
@@ -20,7 +20,7 @@ pub(crate) struct Nodes {
 impl Nodes {
     ghost use Rattle.sn_node_table.specs.Stored.{node_of, nodes_of};
 
-    /// No node. It takes no memory.
+    /// No node. It allocates nothing.
     pub fn new(alloc: Global) -> Nodes
         ensures { nodes_of result ≡ map.empty }
     {
@@ -45,7 +45,7 @@ impl Nodes {
         Ok(())
     }
 
-    /// Takes a node out, and hands it back.
+    /// Removes a node, and returns it.
     pub fn remove(&mut self, id: u64) -> Option<StoredNode>
         ensures node { option_map node_of result ≡ map.get (nodes_of self.old) id }
         ensures gone { nodes_of self.new ≡ map.remove (nodes_of self.old) id }
@@ -53,7 +53,7 @@ impl Nodes {
         self.map.remove(&id)
     }
 
-    /// Sets how many lookups a node has.
+    /// Sets the count of a node's lookups.
     pub fn set_lookups(&mut self, id: u64, lookups: u64)
         ensures { nodes_of self.new ≡ updated (nodes_of self.old) id (with_lookups lookups) }
     {
@@ -62,7 +62,7 @@ impl Nodes {
         }
     }
 
-    /// Sets how many handles a node has.
+    /// Sets the count of a node's handles.
     pub fn set_handles(&mut self, id: u64, handles: u64)
         ensures { nodes_of self.new ≡ updated (nodes_of self.old) id (with_handles handles) }
     {
@@ -71,7 +71,7 @@ impl Nodes {
         }
     }
 
-    /// A node was met under one more name.
+    /// Adds a name of a node.
     pub fn push_link(&mut self, id: u64, link: Link) -> Result<(), AllocError>
         ensures ok { OnOk result (nodes_of self.new ≡ updated (nodes_of self.old) id (with_link link)) }
         ensures err { OnErr result (nodes_of self.new ≡ nodes_of self.old) }
@@ -82,7 +82,7 @@ impl Nodes {
         }
     }
 
-    /// Takes back the last name that a node was met under.
+    /// Removes the last name of a node.
     pub fn pop_link(&mut self, id: u64)
         ensures { nodes_of self.new ≡ updated (nodes_of self.old) id without_last_link }
     {
@@ -91,7 +91,7 @@ impl Nodes {
         }
     }
 
-    /// Takes the first name that a node was met under.
+    /// Removes the first name of a node, and returns it.
     pub fn take_first_link(&mut self, id: u64) -> Option<Link>
         ensures link { result ≡ option_and_then first_link (map.get (nodes_of self.old) id) }
         ensures rest { nodes_of self.new ≡ updated (nodes_of self.old) id without_first_link }
@@ -102,7 +102,7 @@ impl Nodes {
         }
     }
 
-    /// A name isn't one of a node's names any more.
+    /// Removes one of a node's names.
     pub fn drop_link(&mut self, id: u64, parent: u64, name: &[u8])
         ensures { nodes_of self.new ≡ updated (nodes_of self.old) id (without_link parent name.now) }
     {
@@ -111,7 +111,7 @@ impl Nodes {
         }
     }
 
-    /// A name below a node leads to an id.
+    /// Makes a name below a node lead to an id.
     pub fn put_name(&mut self, parent: u64, name: Word, id: u64) -> Result<(), AllocError>
         ensures ok { OnOk result (nodes_of self.new ≡ updated (nodes_of self.old) parent (with_name name id)) }
         ensures err { OnErr result (nodes_of self.new ≡ nodes_of self.old) }
@@ -122,7 +122,7 @@ impl Nodes {
         }
     }
 
-    /// A name below a node is known no more.
+    /// Removes a name below a node.
     pub fn take_name(&mut self, parent: u64, name: &[u8])
         ensures { nodes_of self.new ≡ updated (nodes_of self.old) parent (without_name name.now) }
     {
@@ -131,7 +131,7 @@ impl Nodes {
         }
     }
 
-    /// No name leads to a node any more by these links.
+    /// Removes the names of these links from their directories.
     pub fn unhook(&mut self, links: &[Link])
         ensures { nodes_of self.new ≡ unhooked (nodes_of self.old) links.now }
     {

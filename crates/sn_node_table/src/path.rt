@@ -9,20 +9,19 @@ use sn_walk::PATH_MAX;
 /// Why a node has no path.
 #[derive(Clone, Copy, Debug, PartialEq, Eq)]
 pub enum NoPath {
-    /// The id of the node or of a directory above it isn't known, doesn't stand for an object any more, or has no
-    /// name left (`ESTALE`).
+    /// The id of the node or of a directory above it isn't known, isn't current, or has no name left (`ESTALE`).
     Stale,
-    /// It has more bytes than a path can have, or as many names (`ENAMETOOLONG`).
+    /// It has more bytes or names than a path can have (`ENAMETOOLONG`).
     TooLong,
 }
 
 /// The bytes of a path.
 pub type PathText = ArrayVec<u8, PATH_MAX>;
 
-/// One more than the names that a path can have.
+/// One more than the most names of a path.
 const HOPS: u32 = 512;
 
-/// Puts a name at the end of a path, behind a slash.
+/// Appends a slash and a name to a path.
 fn append(text: &mut PathText, name: &[u8]) -> Result<(), NoPath>
     ensures ok { OnOk result (extended name.now (Ok text.old.items) ≡ Ok text.new.items) }
     ensures err { IfErr result (λ fault. extended name.now (Ok text.old.items) ≡ Err fault) }
@@ -40,7 +39,7 @@ fn append(text: &mut PathText, name: &[u8]) -> Result<(), NoPath>
 impl NodeTable {
     ghost use Rattle.sn_node_table.specs.Told.{table_of};
 
-    /// Writes the names down to a node, each behind a slash.
+    /// Writes the names from the root down to a node, each after a slash.
     fn climb(&self, hops: u32, id: u64, text: &mut PathText) -> Result<(), NoPath>
         requires { text.old.items ≡ [] }
         ensures ok { OnOk result (climbed (table_of self.now) hops id ≡ Ok text.new.items) }
@@ -63,7 +62,7 @@ impl NodeTable {
         Ok(())
     }
 
-    /// The path of a node, by the first names of it and of the directories above it.
+    /// The path of a node, made of its first name and those of the directories above it.
     pub fn path(&self, id: u64) -> Result<PathText, NoPath>
         ensures { MatchResult result (λ text. path_of (table_of self.now) id ≡ Ok text.items) (λ fault. path_of (table_of self.now) id ≡ Err fault) }
     {
@@ -75,7 +74,7 @@ impl NodeTable {
         Ok(text)
     }
 
-    /// The path of a name of a directory, whatever is there.
+    /// The path of a name of a directory, whether or not something is there.
     pub fn child_path(&self, parent: u64, name: &[u8]) -> Result<PathText, NoPath>
         ensures { MatchResult result (λ text. child_path_of (table_of self.now) parent name.now ≡ Ok text.items) (λ fault. child_path_of (table_of self.now) parent name.now ≡ Err fault) }
     {

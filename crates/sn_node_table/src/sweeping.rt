@@ -1,4 +1,4 @@
-//! The nodes that nothing holds, which go.
+//! Removal of the nodes that nothing holds.
 ghost use Rattle.std.specs.Prelude.{◌≡◌, ◌≢◌, ◌<◌, ◌≤◌, ◌↔◌, ◌⊎◌, ℕ, IsTrue, OnSome, Some};
 ghost use Rattle.std.specs.FinMap as map;
 ghost use Rattle.sn_node_table.specs.Tables.{Goes, IsIdleAt, links_of, without};
@@ -19,7 +19,7 @@ impl NodeTable {
         }
     }
 
-    /// Takes an id out, and hands back the names that led to it.
+    /// Removes an id, and returns the names that led to it.
     fn take_out(&mut self, id: u64) -> Vec<Link>
         ensures table { table_of self.new ≡ without (table_of self.old) id }
         ensures links { result.items ≡ links_of (map.get (table_of self.old).nodes id) }
@@ -35,8 +35,8 @@ impl NodeTable {
         links
     }
 
-    /// Takes out an id that nothing holds, with those that it was the last to hold, but for one: that is handed
-    /// back, so that a long way up takes no room on the stack.
+    /// Removes an id that nothing holds, and those that only it held, except for one, which it returns: so a deep tree needs no deep
+    /// stack.
     #[cycle(sweep)]
     fn sweep_one(&mut self, id: u64) -> Option<u64>
         ensures goes { Goes (table_of self.old) (table_of self.new) }
@@ -55,7 +55,7 @@ impl NodeTable {
         Some(left.parent)
     }
 
-    /// Takes out an id that nothing holds, and those that it was the last to hold.
+    /// Removes an id that nothing holds, and those that only it held.
     #[cycle(sweep)]
     pub(crate) fn sweep(&mut self, id: u64)
         ensures goes { Goes (table_of self.old) (table_of self.new) }

@@ -1,4 +1,4 @@
-//! The table: what it tells, and what counts its lookups and handles.
+//! The table: its queries, and its counts of lookups and handles.
 ghost use Rattle.std.specs.Prelude.{◌≡◌, ◌-◌, ◌≤◌, ◌^◌, IfOk, OnOk, OnErr};
 ghost use Rattle.std.specs.Option.{option_copied, option_map};
 ghost use Rattle.std.specs.FinMap as map;
@@ -16,7 +16,7 @@ pub const ROOT_ID: u64 = 1;
 /// The number of the root directory.
 const ROOT_INODE: u64 = 2;
 
-/// The nodes that the system knows, by the ids that it was given.
+/// The nodes that the system knows, by their ids.
 #[derive(Drop)]
 pub struct NodeTable {
     pub(crate) nodes: Nodes,
@@ -47,7 +47,7 @@ impl NodeTable {
         })
     }
 
-    /// The node of an id that stands for an object.
+    /// The node of a current id.
     pub(crate) fn node(&self, id: u64) -> Option<&StoredNode>
         ensures { option_map node_of (option_copied result) ≡ node_at (table_of self.now) id }
     {
@@ -59,12 +59,11 @@ impl NodeTable {
         }
     }
 
-    /// The number of the object that an id stands for. None where the id isn't known, or where another one
-    /// stands for the object that it stood for.
+    /// The number of the object of a current id. `None` where the id isn't known or is stale, as its object has another one.
     ///
-    /// Proved, also of `NodeTable::path` and `NodeTable::child_path`: A number is told, and a path, exactly of an id that
-    /// stands for an object: the path is that of its first name, of its directory's first name, and so on, where it has no
-    /// more than 1,023 bytes.
+    /// Proved, also of `NodeTable::path` and `NodeTable::child_path`: An id has a number exactly where it is current, and a path
+    /// exactly where it and the directories of its first names are and the path has no more than 1,023 bytes: its first name
+    /// after that of its directory, and so on.
     pub fn inode(&self, id: u64) -> Option<u64>
         ensures { result ≡ inode_of (table_of self.now) id }
     {
@@ -72,14 +71,14 @@ impl NodeTable {
         Some(node.inode)
     }
 
-    /// The id that stands for an object.
+    /// The current id of an object.
     pub fn id(&self, inode: u64) -> Option<u64>
         ensures { result ≡ map.get (table_of self.now).current inode }
     {
         self.current.get(inode)
     }
 
-    /// The id that a name of a directory leads to, as far as it is known.
+    /// The id that a name of a directory leads to, where that is known.
     pub fn named(&self, parent: u64, name: &[u8]) -> Option<u64>
         ensures { result ≡ named (table_of self.now) parent name.now }
     {
@@ -87,7 +86,7 @@ impl NodeTable {
         node.below.get(name)
     }
 
-    /// How many handles a node has, 0 where the id isn't known.
+    /// The count of a node's handles, 0 where the id isn't known.
     pub fn handles(&self, id: u64) -> u64
         ensures { result ≡ handles_of (map.get (table_of self.now).nodes id) }
     {
@@ -97,7 +96,7 @@ impl NodeTable {
         }
     }
 
-    /// How many lookups a node has, 0 where the id isn't known.
+    /// The count of a node's lookups, 0 where the id isn't known.
     pub fn lookups(&self, id: u64) -> u64
         ensures { result ≡ lookups_of (map.get (table_of self.now).nodes id) }
     {
@@ -107,7 +106,7 @@ impl NodeTable {
         }
     }
 
-    /// An id was told once more.
+    /// Counts a lookup.
     pub(crate) fn count_lookup(&mut self, id: u64)
         ensures { table_of self.new ≡ looked_up (table_of self.old) id }
     {
@@ -115,7 +114,7 @@ impl NodeTable {
         self.nodes.set_lookups(id, lookups);
     }
 
-    /// A node was opened once more.
+    /// Counts a handle of a node that was opened.
     pub fn open(&mut self, id: u64)
         ensures { table_of self.new ≡ opened (table_of self.old) id }
     {
@@ -123,7 +122,7 @@ impl NodeTable {
         self.nodes.set_handles(id, handles);
     }
 
-    /// One handle fewer, whoever else holds the node.
+    /// Subtracts a handle. The node is left even where nothing holds it any longer.
     pub(crate) fn drop_handle(&mut self, id: u64)
         ensures { table_of self.new ≡ closed (table_of self.old) id }
     {
@@ -131,7 +130,7 @@ impl NodeTable {
         self.nodes.set_handles(id, handles);
     }
 
-    /// So many lookups fewer, whoever else holds the node.
+    /// Subtracts lookups. The node is left even where nothing holds it any longer.
     pub(crate) fn drop_lookups(&mut self, id: u64, count: u64)
         ensures { table_of self.new ≡ forgotten (table_of self.old) id count }
     {

@@ -1,12 +1,13 @@
-//! Cases of what a mount and an image name and keep differently: names, and ACLs as extended attributes.
+//! Cases of what a mount and an image name and keep differently: names, and ACLs as extended attributes; and of the groups of callers.
 //!
 //! The tables of the cases are in the data of `sn_tests_messages`: their head lines say where the answers come from. `tables` has
-//! their words, and `drawn` names that a seed draws, there and back both ways.
+//! their words, `groups` texts of Linux, and `drawn` names that a seed draws, there and back both ways.
 //!
 //! No clause promises what comes out, since it is compared: `sn_tests_messages` runs it.
 #![tactic(auto)]
 
 mod drawn;
+mod groups;
 mod tables;
 
 use anyhow::Result;
@@ -16,5 +17,6 @@ use sn_testing_tables::Report;
 /// want of memory.
 pub fn run(report: &mut Report<'_>) -> Result<()> {
     tables::run(report)?;
+    groups::run(report)?;
     drawn::run(report)
 }
