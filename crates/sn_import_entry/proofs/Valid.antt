@@ -1,0 +1,31 @@
+-- Entries that are an ACL, and texts with more entries than one has.
+use Rattle.std.proofs.Common.{◌≡◌, ℕ, ◌<◌, ◌≤◌, Bool, true, false, cond, ⊎_elim, List, [], length, refl, ap, absurd, arith}
+use Rattle.std.specs.Prelude.{nat_lt, Option, Some, None, Ok, Err}
+use Rattle.std.proofs.lemmas.Bool.{cases_Bool}
+use Rattle.sn_acl.specs.declared.entries.Entry.{Entry}
+use Rattle.sn_acl.specs.AccessList.{IsValid, is_acl}
+use Rattle.sn_acl.proofs.Validity.{valid-from_test, test-from_valid}
+use Rattle.sn_acl_text.specs.declared.entries.TextEntry.{TextEntry}
+use Rattle.sn_import_entry.specs.declared.fault.EntryFault.TheVariants.{Acl}
+use Rattle.sn_import_entry.specs.declared.names.Names.{Names}
+use Rattle.sn_import_entry.specs.Acls.{valid, valid_if, acl_said, numbered}
+
+pub valid_is : (es : List Entry) → IsValid es → valid es ≡ Ok es
+valid_is es ok = ap (λ t. cond t (Ok es) (Err Acl)) (test-from_valid es ok)
+
+pub invalid_is : (es : List Entry) → (IsValid es → ⊥) → valid es ≡ Err Acl
+invalid_is es bad = ⊎_elim
+    (λ is. absurd (bad (valid-from_test es is)))
+    (λ isnt. ap (λ t. cond t (Ok es) (Err Acl)) isnt)
+    (cases_Bool (is_acl es))
+
+pub none_said : (names : Names) (es : Option (List TextEntry)) → ((all : List TextEntry) → es ≡ Some all → 36 < length all) → acl_said names es ≡ Err Acl
+none_said names None many = refl
+none_said names (Some es) many =
+    let is : nat_lt 36 (length es) ≡ true = grind (arith, many es refl) in
+    ap (λ t. cond t (Err Acl) (valid_if (numbered names [] es))) is
+
+pub few_said : (names : Names) (es : List TextEntry) → length es ≤ 36 → acl_said names (Some es) ≡ valid_if (numbered names [] es)
+few_said names es few =
+    let is : nat_lt 36 (length es) ≡ false = grind arith in
+    ap (λ t. cond t (Err Acl) (valid_if (numbered names [] es))) is
