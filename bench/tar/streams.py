@@ -219,8 +219,6 @@ def by_tar():
                 Entry("d/other", "1", 0o644, 1000, 100, "d/file"),
                 Entry("d/soft", "2", 0o777, 1000, 100, "file"),
             ]
-            if style == "v7":
-                entries[0].letter = "0"
             yield case(raw, entries)
         for style in ("gnu", "pax"):
             (top / ("n" * 150)).write_bytes(b"1")

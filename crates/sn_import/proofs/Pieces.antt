@@ -1,5 +1,5 @@
 -- Pieces of a content, as bytes come.
-use Rattle.std.proofs.Common.{◌≡◌, ℕ, ◌+◌, ◌<◌, ◌≤◌, true, false, cond, List, [], ◌∷◌, ◌++◌, length, take, drop, map, refl, sym, ap, ◌∙◌, append_assoc, length-append, length-drop, arith, absurd}
+use Rattle.std.proofs.Common.{◌≡◌, ℕ, ◌+◌, ◌<◌, ◌≤◌, true, false, cond, List, [], ◌∷◌, ◌++◌, length, take, drop, map, refl, sym, ap, ◌∙◌, append_assoc, length-append, length-drop, arith}
 use Rattle.std.specs.Prelude.{nat_lt}
 use Rattle.std.proofs.lemmas.Bool.{cond-true, cond-false}
 use Rattle.std.proofs.lemmas.List.{append-nil, length-take-le, take-append-drop}
@@ -37,17 +37,26 @@ ended held (b ∷ c ∷ bytes) rest long some =
     ∙ ended (held ++ b ∷ []) (c ∷ bytes) rest (omega (arith, one_more held b)) (omega arith)
     ∙ ap (λ h. h ∷ pieces [] rest) (append_assoc held (b ∷ []) (c ∷ bytes))
 
-pub writes_short : (fd : ℕ) (held bytes rest : List ℕ) → length held + length bytes < 28672
-    → map (call.Write fd) (pieces held (bytes ++ rest)) ≡ map (call.Write fd) (pieces (held ++ bytes) rest)
-writes_short fd held bytes rest fits = ap (map (call.Write fd)) (short held bytes rest fits)
+-- bytes that are held
+pub writes_held : (before after : Unwritten) (bytes rest : List ℕ) → length before.held + length bytes < 28672 → after ≡ record before { held = before.held ++ bytes }
+    → writes before (bytes ++ rest) ≡ writes after rest
+writes_held before after bytes rest fits is =
+    ap (map (call.Write before.fd)) (short before.held bytes rest fits) ∙ ap (λ u. writes u rest) (sym is)
 
-pub writes_full : (fd : ℕ) (held bytes rest : List ℕ) (room : ℕ) → length held + room ≡ 28672 → 0 < room → room ≤ length bytes → length bytes ≤ 512
-    → map (call.Write fd) (pieces held (bytes ++ rest)) ≡ call.Write fd (held ++ take room bytes) ∷ map (call.Write fd) (pieces (drop room bytes) rest)
-writes_full fd held bytes rest room long some within block =
-    let front = take room bytes in
-    let back = drop room bytes in
-    let size : length front ≡ room = length-take-le room bytes within in
-    let whole : bytes ++ rest ≡ front ++ (back ++ rest) = ap (λ s. s ++ rest) (sym (take-append-drop room bytes)) ∙ append_assoc front back rest in
-    ap (λ s. map (call.Write fd) (pieces held s)) whole
-    ∙ ap (map (call.Write fd)) (ended held front (back ++ rest) (omega (arith, size)) (omega (arith, size)))
-    ∙ ap (λ ps. call.Write fd (held ++ front) ∷ map (call.Write fd) ps) (short [] back rest (omega (arith, length-drop room bytes)))
+-- bytes of which a front fills a write
+pub writes_filled : (before after : Unwritten) (bytes rest front back piece : List ℕ) (room : ℕ) (next : Call)
+    → room + length before.held ≡ 28672 → 0 < room → room ≤ length bytes → length bytes ≤ 512
+    → front ≡ take room bytes → back ≡ drop room bytes → piece ≡ before.held ++ front → after ≡ record before { held = back } → next ≡ call.Write after.fd piece
+    → writes before (bytes ++ rest) ≡ next ∷ writes after rest
+writes_filled before after bytes rest front back piece room next long some within block is_front is_back is_piece is_after is_next =
+    let size : length front ≡ room = ap length is_front ∙ length-take-le room bytes within in
+    let few : length [] + length back < 28672 = omega (arith, ap length is_back, length-drop room bytes) in
+    let joined : front ++ back ≡ bytes = ap (λ f. f ++ back) is_front ∙ ap (λ b. take room bytes ++ b) is_back ∙ take-append-drop room bytes in
+    let whole : bytes ++ rest ≡ front ++ (back ++ rest) = ap (λ s. s ++ rest) (sym joined) ∙ append_assoc front back rest in
+    let fd : after.fd ≡ before.fd = ap (λ u. u.fd) is_after in
+    let is_call : next ≡ call.Write before.fd (before.held ++ front) = is_next ∙ ap (λ n. call.Write n piece) fd ∙ ap (call.Write before.fd) is_piece in
+    ap (λ s. map (call.Write before.fd) (pieces before.held s)) whole
+    ∙ ap (map (call.Write before.fd)) (ended before.held front (back ++ rest) (omega (arith, size)) (omega (arith, size)))
+    ∙ ap (λ ps. call.Write before.fd (before.held ++ front) ∷ map (call.Write before.fd) ps) (short [] back rest few)
+    ∙ ap (λ w. w ∷ map (call.Write before.fd) (pieces back rest)) (sym is_call)
+    ∙ ap (λ u. next ∷ writes u rest) (sym is_after)

@@ -39,5 +39,6 @@ pub fn order(directories: &mut Vec<Object>) -> Result<(), AllocError>
     ensures ok { OnOk result (AreDeepestFirst directories.old.items directories.new.items) }
     ensures err { OnErr result (directories.new.items ≡ directories.old.items) }
 {
-    directories.sort_by(|a, b| compare(a, b))
+    directories.sort_by(|a, b| compare(a, b))?;
+    Ok(())
 }

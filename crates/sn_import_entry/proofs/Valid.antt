@@ -1,6 +1,7 @@
 -- Entries that are an ACL, and texts with more entries than one has.
-use Rattle.std.proofs.Common.{◌≡◌, ℕ, ◌<◌, ◌≤◌, Bool, true, false, cond, ⊎_elim, List, [], length, refl, ap, absurd, arith}
+use Rattle.std.proofs.Common.{◌≡◌, ℕ, ◌<◌, ◌≤◌, Bool, true, false, cond, ⊎_elim, List, [], ◌∷◌, length, refl, sym, ap, ◌∙◌, arith}
 use Rattle.std.specs.Prelude.{nat_lt, Option, Some, None, Ok, Err}
+use Rattle.std.specs.Option.{option_and_then}
 use Rattle.std.proofs.lemmas.Bool.{cases_Bool}
 use Rattle.sn_acl.specs.declared.entries.Entry.{Entry}
 use Rattle.sn_acl.specs.AccessList.{IsValid, is_acl}
@@ -8,7 +9,7 @@ use Rattle.sn_acl.proofs.Validity.{valid-from_test, test-from_valid}
 use Rattle.sn_acl_text.specs.declared.entries.TextEntry.{TextEntry}
 use Rattle.sn_import_entry.specs.declared.fault.EntryFault.TheVariants.{Acl}
 use Rattle.sn_import_entry.specs.declared.names.Names.{Names}
-use Rattle.sn_import_entry.specs.Acls.{valid, valid_if, acl_said, numbered}
+use Rattle.sn_import_entry.specs.Acls.{valid, valid_if, acl_said, entry_of, numbered, placed}
 
 pub valid_is : (es : List Entry) → IsValid es → valid es ≡ Ok es
 valid_is es ok = ap (λ t. cond t (Ok es) (Err Acl)) (test-from_valid es ok)
@@ -29,3 +30,17 @@ pub few_said : (names : Names) (es : List TextEntry) → length es ≤ 36 → ac
 few_said names es few =
     let is : nat_lt 36 (length es) ≡ false = grind arith in
     ap (λ t. cond t (Err Acl) (valid_if (numbered names [] es))) is
+
+-- the next entry that a text says
+pub next_numbered : (names : Names) (entries : List Entry) (rest others : List TextEntry) (first : TextEntry) (entry : Entry)
+    → rest ≡ first ∷ others → Some entry ≡ entry_of names first → numbered names entries rest ≡ numbered names (placed entry entries) others
+next_numbered names entries rest others first entry is has =
+    ap (numbered names entries) is ∙ ap (option_and_then (λ e. numbered names (placed e entries) others)) (sym has)
+
+pub none_numbered : (names : Names) (entries : List Entry) (rest others : List TextEntry) (first : TextEntry)
+    → rest ≡ first ∷ others → None ≡ entry_of names first → numbered names entries rest ≡ None
+none_numbered names entries rest others first is none =
+    ap (numbered names entries) is ∙ ap (option_and_then (λ e. numbered names (placed e entries) others)) (sym none)
+
+pub all_numbered : (names : Names) (entries : List Entry) (rest : List TextEntry) → rest ≡ [] → numbered names entries rest ≡ Some entries
+all_numbered names entries rest none = ap (numbered names entries) none

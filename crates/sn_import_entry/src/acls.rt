@@ -84,6 +84,7 @@ fn place(entries: &mut ArrayVec<Entry, MAX_ENTRIES>, entry: Entry)
 }
 
 // The entries in canonical order, each with its number. None where a name has no number.
+#[tactic(auto, using(crate::proofs::Valid::next_numbered, crate::proofs::Valid::none_numbered, crate::proofs::Valid::all_numbered))]
 fn numbered(names: &Names<'_>, said: &[TextEntry<'_>]) -> Option<ArrayVec<Entry, MAX_ENTRIES>>
     requires { length said.now ≤ 36 }
     ensures found { IfSome result (λ entries. acls.numbered names.now [] said.now ≡ Some entries.items) }
@@ -99,7 +100,7 @@ fn numbered(names: &Names<'_>, said: &[TextEntry<'_>]) -> Option<ArrayVec<Entry,
     Some(entries)
 }
 
-#[tactic(auto, using(sn_acl::proofs::Validity::test_of_valid))]
+#[tactic(auto, using(crate::proofs::Valid::valid_is, crate::proofs::Valid::invalid_is))]
 fn valid(entries: &[Entry]) -> Result<Acl, EntryFault>
     ensures { result ≡ acls.valid entries.now }
 {
@@ -109,18 +110,27 @@ fn valid(entries: &[Entry]) -> Result<Acl, EntryFault>
     }
 }
 
+// The ACL of entries that a text says.
+fn acl_said(names: &Names<'_>, said: &[TextEntry<'_>]) -> Result<Acl, EntryFault>
+    requires { length said.now ≤ 36 }
+    ensures { result ≡ acls.valid_if (acls.numbered names.now [] said.now) }
+{
+    match numbered(names, said) {
+        Some(entries) => valid(entries.as_slice()),
+        None => Err(EntryFault::Account),
+    }
+}
+
 /// The ACL that a text spells, with the numbers that names have.
 ///
 /// Proved: An ACL has the entries of its text, in canonical order, with the numbers that the tables have for names. There is none
 /// exactly where the text is misspelt, a name isn't in its table, or these are no valid ACL.
+#[tactic(auto, using(crate::proofs::Valid::none_said, crate::proofs::Valid::few_said))]
 pub fn acl_of(names: &Names<'_>, text: &[u8]) -> Result<Acl, EntryFault>
     ensures { result ≡ acls.acl_of names.now text.now }
 {
     let Some(said) = parse_entries(text) else {
         return Err(EntryFault::Acl);
     };
-    match numbered(names, said.as_slice()) {
-        Some(entries) => valid(entries.as_slice()),
-        None => Err(EntryFault::Account),
-    }
+    acl_said(names, said.as_slice())
 }

@@ -16,5 +16,6 @@ fn main(rt: HostRuntime) -> Result<()> {
     sn_tests_names::run(&mut report)?;
     sn_tests_fuse::run(&mut report)?;
     sn_tests_tar::run(&mut report)?;
+    sn_tests_untar::run(&mut report)?;
     report.end()
 }
