@@ -1,6 +1,6 @@
 #!/usr/bin/env python3
-"""Makes the tables streams.txt, places.txt and accounts.txt of crates/sn_tests_messages/data/tar: what archives by Python's tarfile and
-by GNU tar hold, the paths of their names in an image, and the accounts of texts as glibc reads them.
+"""Makes the tables streams.txt, places.txt, accounts.txt and imports.txt of crates/sn_tests_messages/data/tar: what archives by Python's tarfile and
+by GNU tar hold, the paths of their names in an image, the accounts of texts as glibc reads them, and the calls of an import.
 
     bench/tar/streams.py
 
@@ -70,6 +70,11 @@ class Entry:
 
 def content(size, step=7):
     return bytes((step * n + n // 251) % 255 + 1 for n in range(size))
+
+
+def marked(size):
+    """Mostly zeros, which take little room in a table."""
+    return bytes(n // 5000 + 1 if n % 5000 == 0 else 0 for n in range(size))
 
 
 def filled(raw):
@@ -342,9 +347,241 @@ def accounts():
         yield f"number {hexed(text)} {hexed(b'u')} => none"
 
 
+PASSWD, GROUP_FILE = b"ann:x:1001:100::/:\nbob:x:1000:100::/:\n", b"staff:x:50:\n"
+# Texts of ACLs, what they are in an image and the permission bits that they show, or why they are none.
+ACLS = {
+    ACL: ("u::rw-,u:1001:rw-,g::r--,m::rw-,o::r--", 0o664),
+    "user::rwx,user:ann:r-x,user:bob:---,group::r-x,group:staff:rwx,mask::rwx,other::---": ("u::rwx,u:1000:---,u:1001:r-x,g::r-x,g:50:rwx,m::rwx,o::---", 0o770),
+    "u::rw-\ng::r--\no::---\n": ("u::rw-,g::r--,o::---", 0o640),
+    "other::r--,group::r--,user::rw-": ("u::rw-,g::r--,o::r--", 0o644),
+    "user::rw-,user:1001:r--,group::r--,mask::r--,other::---,user:7:r--:1005": ("u::rw-,u:1001:r--,u:1005:r--,g::r--,m::r--,o::---", 0o640),
+    "user::rw-,user:carl:rw-,group::r--,mask::rw-,other::r--": ("unknown name in ACL", None),
+    "user::rw-,group:ann:rw-,group::r--,mask::rw-,other::r--": ("unknown name in ACL", None),
+    "user::rw-,user:1001:rw-,group::r--,other::r--": ("damaged ACL", None),
+    "user::rw-,user:1001:rw-,user:ann:r--,group::r--,mask::rw-,other::r--": ("damaged ACL", None),
+    "user::rw-,group::r--,other::rq-": ("damaged ACL", None),
+    "user::rw-": ("damaged ACL", None),
+    "#": ("damaged ACL", None),
+}
+
+
+class Skipped(Exception):
+    pass
+
+
+def three(mode):
+    letters = ["".join(letter if mode >> shift & bit else "-" for letter, bit in zip("rwx", (4, 2, 1))) for shift in (6, 3, 0)]
+    return f"u::{letters[0]},g::{letters[1]},o::{letters[2]}"
+
+
+class Importer:
+    """What import does, by the rules of docs/ARCHIVES.md."""
+
+    EXPECTED = {("unlink", "ENOENT"), ("mkdir", "EEXIST")}
+    ENDS = ("EIO", "ENOSPC")
+
+    def __init__(self, directory, refused):
+        self.directory, self.refused, self.front = directory, refused, "" if directory == "/" else directory
+        self.calls, self.lines, self.late, self.opened = [], [], [], 2
+
+    def call(self, word, is_directory=False):
+        self.calls.append(word)
+        errno = self.refused.get(word)
+        kind = word.split(":")[0]
+        if errno and (kind, errno) not in self.EXPECTED and not (kind == "unlink" and errno == "EPERM" and is_directory):
+            raise Skipped(errno)
+
+    def path(self, name, link=False):
+        where = "link" if link else "name"
+        raw = name.encode("utf-8", "surrogateescape")
+        found = place(raw)
+        if found == "-":
+            raise Skipped("link without a name" if link else "no name")
+        faults = {"parent": f".. in {where}", "no-name": f"byte 0 in {where}", "long-name": "name over 255 bytes" + (" in link" if link else ""), "long-path": "link over 1023 bytes" if link else "path over 1023 bytes"}
+        if found in faults:
+            raise Skipped(faults[found])
+        path = self.front + bytes.fromhex(found).decode()
+        if len(path) > 1023:
+            raise Skipped(faults["long-path"])
+        return path
+
+    def rights(self, entry):
+        if entry.user >= 1 << 32 or entry.group >= 1 << 32:
+            raise Skipped("owner over 32 bits")
+        texts = []
+        for text in (entry.access, entry.default if entry.letter == "5" else ""):
+            said = ACLS[text] if text else None
+            if said and said[1] is None:
+                raise Skipped(said[0])
+            texts.append(said)
+        access = texts[0] or (three(entry.mode & 0o777), entry.mode & 0o777)
+        return access[0], access[1] | entry.mode & 0o3000, texts[1][0] if texts[1] else "-"
+
+    def above(self, path):
+        parts = path[len(self.front) + 1 :].split("/")[:-1]
+        for count in range(1, len(parts) + 1):
+            self.call(f"mkdir:{self.front}/{'/'.join(parts[:count])}:755")
+
+    def make(self, entry):
+        kinds = {"2": "symbolic link", "3": "device", "4": "device", "6": "pipe", "S": "sparse file"}
+        if entry.sparse:
+            raise Skipped("sparse file")
+        if entry.letter not in "015":
+            raise Skipped(kinds.get(entry.letter, "unknown kind"))
+        if entry.letter == "0" and entry.size > 1 << 36:
+            raise Skipped("over 68719476736 bytes")
+        {"0": self.file, "1": self.link, "5": self.folder}[entry.letter](entry)
+
+    def told(self, entry):
+        if entry.mode & 0o4000:
+            self.line(entry, "set-user-ID dropped")
+
+    def file(self, entry):
+        path = self.path(entry.path)
+        access, bits, _ = self.rights(entry)
+        self.told(entry)
+        self.above(path)
+        self.call(f"unlink:{path}")
+        self.call(f"new:{path}:600")
+        self.opened += 1
+        for at in range(0, len(entry.content), 28672):
+            piece = entry.content[at : at + 28672]
+            self.call(f"write:{self.opened}:{len(piece)}:{sum(piece)}")
+        self.call(f"close:{self.opened}")
+        self.call(f"chown:{path}:{entry.user}:{entry.group}")
+        self.call(f"access:{path}:{access}")
+        if bits & 0o3000:
+            self.call(f"chmod:{path}:{bits:o}")
+
+    def link(self, entry):
+        path, old = self.path(entry.path), self.path(entry.link, True)
+        self.above(path)
+        self.call(f"stat:{old}")
+        if old.startswith("/d"):
+            raise Skipped("EPERM")
+        if old != path:
+            self.call(f"unlink:{path}")
+            self.call(f"link:{old}:{path}")
+
+    def folder(self, entry):
+        is_top = place(entry.path.encode("utf-8", "surrogateescape")) == "-"
+        path = self.directory if is_top else self.path(entry.path)
+        access, bits, default = self.rights(entry)
+        self.told(entry)
+        if not is_top:
+            self.above(path)
+            self.call(f"unlink:{path}", True)
+            self.call(f"mkdir:{path}:700")
+        self.call(f"chown:{path}:{entry.user}:{entry.group}")
+        self.late.append((0 if is_top else path.count("/"), path, access, bits, default))
+
+    def line(self, entry, text):
+        name = "".join(chr(b) if 0x21 <= b <= 0x7E else f"%{b:02X}" for b in entry.path.encode("utf-8", "surrogateescape"))
+        self.lines.append(f"snapfs: entry {self.number} {name}: {text}" if name else f"snapfs: entry {self.number}: {text}")
+
+    def run(self, entries, damaged=False):
+        self.call("login:0:0")
+        self.call(f"stat:{self.directory}")
+        for number, entry in enumerate(entries, 1):
+            self.number = number
+            try:
+                self.make(entry)
+            except Skipped as fault:
+                self.line(entry, str(fault))
+                if str(fault) in self.ENDS:
+                    return self.answer(str(fault))
+        if damaged:
+            self.lines.append(f"snapfs: entry {len(entries) + 1}: damaged")
+        for _, path, access, bits, default in sorted(self.late, key=lambda it: -it[0]):
+            for word in (f"access:{path}:{access}", f"default:{path}:{default}", f"chmod:{path}:{bits:o}"):
+                self.call(word)
+        return self.answer("told" if self.lines else "whole")
+
+    def answer(self, end):
+        return " ".join([*self.calls, *("_" + line.replace(" ", "_") for line in self.lines), end])
+
+
+def imported(entries, directory="/", refused=None, style="pax", raw=None, damaged=False):
+    refused = refused or {}
+    words = ";".join(f"{call}={errno}" for call, errno in refused.items()) or "-"
+    archive = word(made(entries, style) if raw is None else raw)
+    answer = Importer(directory, refused).run(entries, damaged)
+    return f"import {directory} {hexed(PASSWD)} {hexed(GROUP_FILE)} {words} {archive} => {answer}"
+
+
+def imports():
+    yield "# Archives that are imported, with the calls that make what they have: by the rules of docs/ARCHIVES.md, written down in bench/tar/streams.py."
+    yield "# Each kind of entry, and what isn't held."
+    for style in FORMATS:
+        yield imported(KINDS, style=style)
+        yield imported(KINDS, "/d", style=style)
+    yield "# Content: none, and up to three writes."
+    for size in (0, 1, 512, 28671, 28672, 28673, 57344, 57345):
+        yield imported([Entry("f", content=marked(size)), Entry("g")], style="ustar")
+    yield "# Directories, which get their rights after all entries and the deepest first, and those above an entry."
+    tree = [Entry("./", "5", 0o1777, 1, 2), Entry("a/", "5", 0o2750), Entry("a/b/", "5", 0o500), Entry("c/", "5", 0o700), Entry("a/b/f", content=b"1"), Entry("x/y/z/f"), Entry("a/", "5", 0o711)]
+    yield imported(tree)
+    yield imported(tree, "/d/e")
+    yield imported([Entry("/top/f"), Entry("//d//e/./f"), Entry("a b\u00e9\n")], "/d")
+    yield "# Names and links that lead nowhere."
+    for name in ("..", "a/../b", "", "n" * 256, "n/" * 512, "a\0b"):
+        if "\0" not in name:
+            yield imported([Entry(name, content=b"1"), Entry("f")], raw=named(name))
+            yield imported([Entry("h", "1", link=name), Entry("f")], raw=named(name, True))
+    yield imported([Entry("./", content=b"1"), Entry("./", "1", link="f"), Entry("h", "1", link="./"), Entry("h", "1", link="d"), Entry("h", "1", link="h")], "/", raw=tops())
+    yield imported([Entry("n" * 255), Entry("m" * 254)], "/" + "/".join(["d" * 255] * 3))
+    yield "# ACLs: sorted, with the numbers of names, and those that aren't made."
+    for text in ACLS:
+        yield imported([Entry("f", mode=0o2755, access=text, content=b"1"), Entry("after")])
+        yield imported([Entry("d/", "5", 0o755, access=ACL, default=text), Entry("after")])
+    yield imported([Entry("f", access=ACL, default="#"), Entry("after")])
+    yield "# Owners over 32 bits, and set-user-ID."
+    yield imported([Entry("u", user=4294967296), Entry("g", group=1 << 40), Entry("f", mode=0o6755, user=4294967295), Entry("d/", "5", 0o4755), Entry("h", "1", mode=0o4755, link="f")], style="gnu")
+    yield imported([Entry("f", size=68719476737)], raw=Entry("f", size=68719476737).info().tobuf(tarfile.GNU_FORMAT), damaged=True)
+    yield "# Refusals: those that belong to a plan, those that end an entry, and those that end all."
+    some = [Entry("a/f", content=content(3), mode=0o1644), Entry("a/", "5", 0o755), Entry("h", "1", link="a/f"), Entry("z")]
+    for refused in (
+        {"mkdir:/a:755": "EEXIST", "unlink:/a/f": "ENOENT", "unlink:/h": "ENOENT", "unlink:/z": "ENOENT"},
+        {"unlink:/a": "EPERM", "mkdir:/a:700": "EEXIST"},
+        {"unlink:/a/f": "EPERM"},
+        {"unlink:/h": "EPERM"},
+        {"stat:/a/f": "ENOENT"},
+        {"link:/a/f:/h": "EMLINK"},
+        {"new:/a/f:600": "ENOTDIR"},
+        {"chown:/a/f:0:0": "EROFS"},
+        {"write:3:3:24": "EROFS"},
+        {"mkdir:/a:755": "ENOSPC"},
+        {"new:/a/f:600": "EIO"},
+        {"write:3:3:24": "ENOSPC"},
+        {"close:3": "EIO"},
+    ):
+        yield imported(some, refused=refused)
+    yield "# Damage: entries before it stay, and directories get their rights."
+    raw = made(some)[:-1024]
+    yield imported(some, raw=raw, damaged=True)
+    yield imported(some, raw=raw + bytes(512), damaged=True)
+    yield imported(some, raw=raw + b"x" * 512 + bytes(1024), damaged=True)
+    yield imported(some, raw=raw + bytes(100), damaged=True)
+    yield imported([], raw=b"")
+    yield imported([], raw=bytes(1024))
+
+
+def named(name, link=False):
+    """An entry with a name, or a link to it, and one after it."""
+    first = Entry("h", "1", link=name) if link else Entry(name, content=b"1")
+    return made([first, Entry("f")])
+
+
+def tops():
+    out = b""
+    for entry in (Entry("./", content=b"1"), Entry("./", "1", link="f"), Entry("h", "1", link="./"), Entry("h", "1", link="d"), Entry("h", "1", link="h")):
+        out += entry.info().tobuf(tarfile.USTAR_FORMAT) + filled(entry.content)
+    return out + bytes(1024)
+
+
 def main():
     streams = [row for rows in (kinds(), records(), long_names(), by_tar(), damage()) for row in rows]
-    for name, rows in (("streams", streams), ("places", places()), ("accounts", accounts())):
+    for name, rows in (("streams", streams), ("places", places()), ("accounts", accounts()), ("imports", list(imports()))):
         (DATA / f"{name}.txt").write_text("\n".join(rows) + "\n")
 
 

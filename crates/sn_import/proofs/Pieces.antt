@@ -50,7 +50,7 @@ pub writes_filled : (before after : Unwritten) (bytes rest front back piece : Li
     → writes before (bytes ++ rest) ≡ next ∷ writes after rest
 writes_filled before after bytes rest front back piece room next long some within block is_front is_back is_piece is_after is_next =
     let size : length front ≡ room = ap length is_front ∙ length-take-le room bytes within in
-    let few : length [] + length back < 28672 = omega (arith, ap length is_back, length-drop room bytes) in
+    let few : length {A = ℕ} [] + length back < 28672 = omega (arith, ap length is_back, length-drop room bytes) in
     let joined : front ++ back ≡ bytes = ap (λ f. f ++ back) is_front ∙ ap (λ b. take room bytes ++ b) is_back ∙ take-append-drop room bytes in
     let whole : bytes ++ rest ≡ front ++ (back ++ rest) = ap (λ s. s ++ rest) (sym joined) ∙ append_assoc front back rest in
     let fd : after.fd ≡ before.fd = ap (λ u. u.fd) is_after in

@@ -43,11 +43,13 @@ abbrev pub default : Names → Option (List ℕ) → Result (Option (List Entry)
 default names None = Ok None
 default names (Some text) = after (acl_of names text) (λ acl. Ok (Some acl))
 
-abbrev pub rights : Names → Member → Option (List Entry) → Result Rights EntryFault
-rights names member default_acl =
+-- owner, group and ACLs of an entry, where its default ACL has this text, or none is looked at
+abbrev pub rights : Names → Member → Option (List ℕ) → Result Rights EntryFault
+rights names member default_text =
     after (owner member.user) (λ owner_number.
     after (owner member.group) (λ group_number.
     after (access names member.mode (option_map vec_items member.access_acl)) (λ access_acl.
+    after (default names default_text) (λ default_acl.
     Ok (record {
       user = owner_number;
       group = group_number;
@@ -55,10 +57,10 @@ rights names member default_acl =
       sticky = has_bit member.mode 512;
       access = access_acl;
       default = default_acl;
-    }))))
+    })))))
 
 abbrev pub directory_rights : Names → Member → Result Rights EntryFault
-directory_rights names member = after (default names (option_map vec_items member.default_acl)) (rights names member)
+directory_rights names member = rights names member (option_map vec_items member.default_acl)
 
 -- ---- paths
 

@@ -10,7 +10,11 @@ use sn_walk::PATH_MAX;
 fn front(directory: &[u8]) -> &[u8]
     ensures { result.now ≡ entries.front directory.now }
 {
-    if directory == b"/" { &[] } else { directory }
+    if directory == b"/".as_slice() {
+        &[]
+    } else {
+        directory
+    }
 }
 
 /// How many bytes a path below a directory has before its first name.

@@ -81,17 +81,18 @@ fn default(names: &Names<'_>, text: &Option<Vec<u8>>) -> Result<Option<Acl>, Ent
     }
 }
 
-// The rights of an entry with a default ACL, or none.
+// The rights of an entry, with the text of its default ACL.
 fn rights(
     names: &Names<'_>,
     member: &Member,
-    default: Option<Acl>,
+    default_text: &Option<Vec<u8>>,
 ) -> Result<Wanted, EntryFault>
-    ensures { result ≡ entries.rights names.now member.now default }
+    ensures { result ≡ entries.rights names.now member.now (option_map vec_items default_text.now) }
 {
     let user = owner(member.user)?;
     let group = owner(member.group)?;
     let access = access(names, member.mode, &member.access_acl)?;
+    let default = default(names, default_text)?;
     Ok(Wanted {
         user,
         group,
@@ -102,19 +103,18 @@ fn rights(
     })
 }
 
-/// The rights of a file.
+/// The rights of a file, which has no default ACL.
 pub fn file_rights(names: &Names<'_>, member: &Member) -> Result<Wanted, EntryFault>
     ensures { result ≡ entries.rights names.now member.now None }
 {
-    rights(names, member, None)
+    rights(names, member, &None)
 }
 
 /// The rights of a directory.
 pub fn directory_rights(names: &Names<'_>, member: &Member) -> Result<Wanted, EntryFault>
     ensures { result ≡ entries.directory_rights names.now member.now }
 {
-    let default = default(names, &member.default_acl)?;
-    rights(names, member, default)
+    rights(names, member, &member.default_acl)
 }
 
 impl Wanted {

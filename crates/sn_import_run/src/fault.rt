@@ -1,11 +1,9 @@
-use sn_import_entry::ObjectFault;
 use sn_model::Errno;
-use sn_untar::ReadFault;
 use std::alloc::{AllocError, AllocFailed};
 use std::io;
 
 /// Why an import ended before its archive did.
-#[derive(Clone, Copy, Debug)]
+#[derive(Clone, Copy)]
 pub enum ImportFault {
     /// No directory is at the path, or it is misspelt.
     Path,
