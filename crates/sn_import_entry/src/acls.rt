@@ -1,7 +1,6 @@
 //! Texts of ACLs, with the numbers of names.
-ghost use Rattle.std.specs.Prelude.{◌≡◌, ◌+◌, ◌<◌, [], length, IfOk, IfErr, IfSome, IsNone, Ok, Err, None, Some};
+ghost use Rattle.std.specs.Prelude.{◌≡◌, ◌+◌, ◌<◌, [], length, position, IfSome, IsNone, None, Some};
 ghost use Rattle.arrayvec.specs.ArrayVec.{array_vec_len};
-ghost use Rattle.std.specs.List.{position_or_len};
 ghost use Rattle.sn_acl.specs.Entries.{precedes};
 ghost use Rattle.sn_import_entry.specs.Acls as acls;
 
@@ -64,13 +63,10 @@ fn entry_of(names: &Names<'_>, said: &TextEntry<'_>) -> Option<Entry>
     }
 }
 
-fn place_of(entries: &[Entry], tag: Tag) -> usize
-    ensures { result ≡ position_or_len (λ e. precedes tag e.tag) entries.now }
+fn first_after(entries: &[Entry], tag: Tag) -> Option<usize>
+    ensures { result ≡ position (λ e. precedes tag e.tag) entries.now }
 {
-    entries
-        .iter()
-        .position(|entry| tag.precedes(entry.tag))
-        .unwrap_or(entries.len())
+    entries.iter().position(|entry| tag.precedes(entry.tag))
 }
 
 // Puts an entry at its place in canonical order, after those with its tag.
@@ -79,7 +75,8 @@ fn place(entries: &mut ArrayVec<Entry, MAX_ENTRIES>, entry: Entry)
     ensures items { entries.new.items ≡ acls.placed entry entries.old.items }
     ensures longer { array_vec_len entries.new ≡ array_vec_len entries.old + 1 }
 {
-    let at = place_of(entries.as_slice(), entry.tag);
+    let length = entries.len();
+    let at = first_after(entries.as_slice(), entry.tag).unwrap_or(length);
     entries.insert(at, entry);
 }
 

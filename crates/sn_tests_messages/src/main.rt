@@ -13,6 +13,9 @@ use sn_testing_tables::Report;
 
 fn main(rt: HostRuntime) -> Result<()> {
     let mut report = Report::new(&rt)?;
+    sn_tests_names::run(&mut report)?;
+    sn_tests_fuse::run(&mut report)?;
+    sn_tests_tar::run(&mut report)?;
     sn_tests_untar::run(&mut report)?;
     report.end()
 }
