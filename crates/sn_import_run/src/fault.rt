@@ -48,3 +48,9 @@ impl From<Errno> for CallFault {
         CallFault::Refused(errno)
     }
 }
+
+impl<T: Drop> From<AllocFailed<T>> for CallFault {
+    fn from(_error: AllocFailed<T>) -> CallFault {
+        CallFault::Memory
+    }
+}

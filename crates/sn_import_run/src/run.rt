@@ -1,4 +1,5 @@
 //! Archives, an entry after the other.
+ghost use Rattle.std.specs.Prelude.{◌≤◌, length};
 
 use crate::calls::{Calls, SESSION, close, make, open};
 use crate::fault::{CallFault, ImportFault};
@@ -25,7 +26,7 @@ struct OpenFile {
 
 /// How far an import is.
 #[derive(Drop)]
-struct Import<'a> {
+struct Progress<'a> {
     names: &'a Names<'a>,
     /// The directory that the archive goes into.
     directory: &'a [u8],
@@ -40,7 +41,7 @@ struct Import<'a> {
     is_whole: bool,
 }
 
-impl<'a> Import<'a> {
+impl<'a> Progress<'a> {
     fn report<W: Write>(
         &mut self,
         alloc: Global,
@@ -71,11 +72,7 @@ impl<'a> Import<'a> {
     }
 
     // Makes what is made of a file after its content.
-    fn end_file<C: Calls>(
-        alloc: Global,
-        calls: &mut C,
-        file: OpenFile,
-    ) -> Result<(), CallFault> {
+    fn end_file<C: Calls>(alloc: Global, calls: &mut C, file: OpenFile) -> Result<(), CallFault> {
         if let Some(call) = file.content.last() {
             write(calls, &file.object.what, &call)?;
         }
@@ -93,10 +90,10 @@ impl<'a> Import<'a> {
         match &object.what {
             What::File(_) => self.begin_file(alloc, calls, object, answer, size),
             What::HardLink(_) => Ok(()),
-            _ => match self.directories.push(object) {
-                Ok(()) => Ok(()),
-                Err(_) => Err(CallFault::Memory),
-            },
+            _ => {
+                self.directories.push(object)?;
+                Ok(())
+            }
         }
     }
 
@@ -118,7 +115,7 @@ impl<'a> Import<'a> {
             left: size,
         };
         if size == 0 {
-            return Import::end_file(alloc, calls, file);
+            return Progress::end_file(alloc, calls, file);
         }
         self.file = Some(file);
         Ok(())
@@ -158,18 +155,18 @@ impl<'a> Import<'a> {
         alloc: Global,
         calls: &mut C,
         bytes: &[u8],
-    ) -> Result<(), CallFault> {
+    ) -> Result<(), CallFault>
+        requires { length bytes.now ≤ 512 }
+    {
         let Some(mut file) = self.file.take() else {
             return Ok(());
         };
-        if bytes.len() <= BLOCK_SIZE {
-            if let Some(call) = file.content.push(alloc, bytes)? {
-                write(calls, &file.object.what, &call)?;
-            }
+        if let Some(call) = file.content.push(alloc, bytes)? {
+            write(calls, &file.object.what, &call)?;
         }
         file.left = file.left.saturating_sub(bytes.len() as u64);
         if file.left == 0 {
-            return Import::end_file(alloc, calls, file);
+            return Progress::end_file(alloc, calls, file);
         }
         self.file = Some(file);
         Ok(())
@@ -317,7 +314,7 @@ pub fn import<C: Calls, R: Read, W: Write>(
 ) -> Result<bool, ImportFault> {
     log_in(alloc, calls)?;
     find(alloc, calls, directory)?;
-    let mut import = Import {
+    let mut import = Progress {
         names,
         directory,
         entry: 0,

@@ -65,7 +65,11 @@ impl Calls for Recorder<'_> {
 fn status_of(path: &[u8]) -> FileStatus {
     let is_directory = path == b"/".as_slice() || path.starts_with(b"/d");
     FileStatus {
-        kind: if is_directory { Kind::Directory } else { Kind::File },
+        kind: if is_directory {
+            Kind::Directory
+        } else {
+            Kind::File
+        },
         set_gid: false,
         sticky: false,
         mode: Mode {

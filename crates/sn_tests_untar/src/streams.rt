@@ -79,8 +79,11 @@ impl Reading {
         push_hex(alloc, &mut self.text, member.link.as_slice())?;
         self.push_acl(alloc, &member.access_acl)?;
         self.push_acl(alloc, &member.default_acl)?;
-        self.text
-            .push_str(if member.is_sparse { ":sparse" } else { ":whole" })?;
+        self.text.push_str(if member.is_sparse {
+            ":sparse"
+        } else {
+            ":whole"
+        })?;
         Ok(())
     }
 
@@ -90,7 +93,9 @@ impl Reading {
             Ok(Told::Nothing) => {}
             Ok(Told::Entry(member)) => self.push_entry(alloc, "entry:", &member)?,
             Ok(Told::Cut(member)) => self.push_entry(alloc, "cut:entry:", &member)?,
-            Ok(Told::Content(size)) => self.content.extend_from_slice(&block[..size.min(BLOCK_SIZE)])?,
+            Ok(Told::Content(size)) => self
+                .content
+                .extend_from_slice(&block[..size.min(BLOCK_SIZE)])?,
             Ok(Told::TooLong) => self.push_word("toolong")?,
             Ok(Told::End) => {
                 self.push_content(alloc)?;
@@ -132,7 +137,11 @@ fn entries(alloc: Global, archive: &[u8]) -> Result<String> {
         }
     }
     reading.push_content(alloc)?;
-    reading.push_word(if archive.is_empty() { "empty" } else { "damaged" })?;
+    reading.push_word(if archive.is_empty() {
+        "empty"
+    } else {
+        "damaged"
+    })?;
     Ok(reading.text)
 }
 
