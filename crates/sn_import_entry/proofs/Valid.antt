@@ -1,5 +1,6 @@
 -- Entries that are an ACL, and texts with more entries than one has.
-use Rattle.std.proofs.Common.{◌≡◌, ℕ, ◌<◌, ◌≤◌, Bool, true, false, cond, ⊎_elim, List, [], ◌∷◌, length, refl, sym, ap, ◌∙◌, arith}
+use Rattle.std.proofs.Common.{◌≡◌, ℕ, suc, ◌+◌, ◌<◌, ◌≤◌, Bool, true, false, cond, ⊎_elim, List, [], ◌∷◌, length, drop, get_or, drop-cons, add-one, refl, sym, ap, ◌∙◌, arith}
+use Rattle.std.proofs.Math.ListN.{drop_of_length-le}
 use Rattle.std.specs.Prelude.{nat_lt, Option, Some, None, Ok, Err}
 use Rattle.std.specs.Option.{option_and_then}
 use Rattle.std.proofs.lemmas.Bool.{cases_Bool}
@@ -31,16 +32,27 @@ few_said names es few =
     let is : nat_lt 36 (length es) ≡ false = grind arith in
     ap (λ t. cond t (Err Acl) (valid_if (numbered names [] es))) is
 
--- the next entry that a text says
-pub next_numbered : (names : Names) (entries : List Entry) (rest others : List TextEntry) (first : TextEntry) (entry : Entry)
-    → rest ≡ first ∷ others → Some entry ≡ entry_of names first → numbered names entries rest ≡ numbered names (placed entry entries) others
-next_numbered names entries rest others first entry is has =
-    ap (numbered names entries) is ∙ ap (option_and_then (λ e. numbered names (placed e entries) others)) (sym has)
+-- what is left of a text's entries from one of them on
+left_at : (said : List TextEntry) (i : ℕ) (first : TextEntry) → i < length said → first ≡ get_or said i first → drop i said ≡ first ∷ drop (i + 1) said
+left_at said i first within is =
+    drop-cons said i first within ∙ ap (λ e. e ∷ drop (suc i) said) (sym is) ∙ ap (λ n. first ∷ drop n said) (sym (add-one i))
 
-pub none_numbered : (names : Names) (entries : List Entry) (rest others : List TextEntry) (first : TextEntry)
-    → rest ≡ first ∷ others → None ≡ entry_of names first → numbered names entries rest ≡ None
-none_numbered names entries rest others first is none =
-    ap (numbered names entries) is ∙ ap (option_and_then (λ e. numbered names (placed e entries) others)) (sym none)
+-- the next entry has a number
+pub next_numbered : (names : Names) (entries : List Entry) (said : List TextEntry) (i : ℕ) (first : TextEntry) (entry : Entry)
+    → i < length said → first ≡ get_or said i first → Some entry ≡ entry_of names first → numbered names entries (drop i said) ≡ numbered names [] said
+    → numbered names (placed entry entries) (drop (i + 1) said) ≡ numbered names [] said
+next_numbered names entries said i first entry within is has same =
+    ap (option_and_then (λ e. numbered names (placed e entries) (drop (i + 1) said))) has
+    ∙ ap (numbered names entries) (sym (left_at said i first within is)) ∙ same
 
-pub all_numbered : (names : Names) (entries : List Entry) (rest : List TextEntry) → rest ≡ [] → numbered names entries rest ≡ Some entries
-all_numbered names entries rest none = ap (numbered names entries) none
+-- the next entry has none
+pub none_numbered : (names : Names) (entries : List Entry) (said : List TextEntry) (i : ℕ) (first : TextEntry)
+    → i < length said → first ≡ get_or said i first → None ≡ entry_of names first → numbered names entries (drop i said) ≡ numbered names [] said
+    → numbered names [] said ≡ None
+none_numbered names entries said i first within is none same =
+    sym same ∙ ap (numbered names entries) (left_at said i first within is)
+    ∙ ap (option_and_then (λ e. numbered names (placed e entries) (drop (i + 1) said))) (sym none)
+
+pub all_numbered : (names : Names) (entries : List Entry) (said : List TextEntry) (i : ℕ) → length said ≤ i → numbered names entries (drop i said) ≡ numbered names [] said
+    → numbered names [] said ≡ Some entries
+all_numbered names entries said i all same = sym same ∙ ap (numbered names entries) (drop_of_length-le said all)

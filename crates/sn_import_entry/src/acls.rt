@@ -1,5 +1,5 @@
 //! Texts of ACLs, with the numbers of names.
-ghost use Rattle.std.specs.Prelude.{◌≡◌, ◌+◌, ◌<◌, [], length, position, IfSome, IsNone, None, Some};
+ghost use Rattle.std.specs.Prelude.{◌≡◌, ◌+◌, ◌<◌, ◌≤◌, [], length, position, IfSome, IsNone, None, Some};
 ghost use Rattle.arrayvec.specs.ArrayVec.{array_vec_len};
 ghost use Rattle.sn_acl.specs.Entries.{precedes};
 ghost use Rattle.sn_import_entry.specs.Acls as acls;
@@ -81,18 +81,16 @@ fn place(entries: &mut ArrayVec<Entry, MAX_ENTRIES>, entry: Entry)
 }
 
 // The entries in canonical order, each with its number. None where a name has no number.
-#[tactic(auto, using(crate::proofs::Valid::next_numbered, crate::proofs::Valid::none_numbered, crate::proofs::Valid::all_numbered))]
+#[tactic(auto, using(crate::proofs::Valid::none_numbered, crate::proofs::Valid::all_numbered))]
 fn numbered(names: &Names<'_>, said: &[TextEntry<'_>]) -> Option<ArrayVec<Entry, MAX_ENTRIES>>
     requires { length said.now ≤ 36 }
     ensures found { IfSome result (λ entries. acls.numbered names.now [] said.now ≡ Some entries.items) }
     ensures none { IsNone result → acls.numbered names.now [] said.now ≡ None }
 {
     let mut entries = ArrayVec::new();
-    let mut rest = said;
-    while let Some((first, others)) = rest.split_first() {
+    for first in said {
         let entry = entry_of(names, first)?;
         place(&mut entries, entry);
-        rest = others;
     }
     Some(entries)
 }
