@@ -1,1 +1,3 @@
 pub mod Slashes
+pub mod Pieces
+pub mod Depths

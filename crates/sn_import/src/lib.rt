@@ -24,12 +24,16 @@
 
 mod calls;
 mod closing;
+mod content;
+mod directories;
 mod object;
 mod opening;
 mod paths;
 mod refusals;
 
 pub use closing::Closing;
+pub use content::{Content, WRITE_SIZE};
+pub use directories::order;
 pub use object::{Object, Rights, What};
 pub use opening::Opening;
 pub use refusals::{ends, is_expected};

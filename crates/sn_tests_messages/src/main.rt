@@ -14,7 +14,7 @@ use sn_testing_tables::Report;
 use std::env;
 
 /// The parts, in the order in which they run.
-const PARTS: [&str; 4] = ["names", "nodes", "fuse", "tar"];
+const PARTS: [&str; 5] = ["names", "nodes", "fuse", "tar", "untar"];
 
 fn run(report: &mut Report<'_>, part: &str) -> Result<()> {
     match part {
@@ -22,6 +22,7 @@ fn run(report: &mut Report<'_>, part: &str) -> Result<()> {
         "nodes" => sn_tests_nodes::run(report),
         "fuse" => sn_tests_fuse::run(report),
         "tar" => sn_tests_tar::run(report),
+        "untar" => sn_tests_untar::run(report),
         _ => bail!("no such part: {part}"),
     }
 }
