@@ -113,22 +113,22 @@ impl Reading {
     }
 }
 
-// A block of an archive, if a whole one is left.
-fn next_block(rest: &[u8]) -> Option<([u8; BLOCK_SIZE], &[u8])> {
+// Copies the next block of an archive, if a whole one is left, and gives what follows it.
+fn next_block<'a>(rest: &'a [u8], block: &mut [u8; BLOCK_SIZE]) -> Option<&'a [u8]> {
     if rest.len() < BLOCK_SIZE {
         return None;
     }
     let (front, more) = rest.split_at(BLOCK_SIZE);
-    let mut block = [0; BLOCK_SIZE];
     block.copy_from_slice(front);
-    Some((block, more))
+    Some(more)
 }
 
 fn entries(alloc: Global, archive: &[u8]) -> Result<String> {
     let mut reading = Reading::new(alloc);
+    let mut block = [0; BLOCK_SIZE];
     let mut rest = archive;
     for _ in 0..archive.len() {
-        let Some((block, more)) = next_block(rest) else {
+        let Some(more) = next_block(rest, &mut block) else {
             break;
         };
         rest = more;
@@ -156,9 +156,10 @@ fn kind_word(member: &Member) -> &'static str {
 
 fn kinds(alloc: Global, archive: &[u8]) -> Result<String> {
     let mut reading = Reading::new(alloc);
+    let mut block = [0; BLOCK_SIZE];
     let mut rest = archive;
     for _ in 0..archive.len() {
-        let Some((block, more)) = next_block(rest) else {
+        let Some(more) = next_block(rest, &mut block) else {
             break;
         };
         rest = more;
@@ -168,8 +169,8 @@ fn kinds(alloc: Global, archive: &[u8]) -> Result<String> {
                 reading.push_word("end")?;
                 break;
             }
-            Ok(_) => {}
-            Err(_) => reading.push_word("damaged")?,
+            Ok(_other) => {}
+            Err(_fault) => reading.push_word("damaged")?,
         }
     }
     Ok(reading.text)
@@ -178,10 +179,11 @@ fn kinds(alloc: Global, archive: &[u8]) -> Result<String> {
 // How many entries are told of an archive, which isn't whole.
 fn count(alloc: Global, archive: &[u8]) -> Result<u32> {
     let mut untar = Untar::new(alloc);
+    let mut block = [0; BLOCK_SIZE];
     let mut rest = archive;
     let mut count: u32 = 0;
     for _ in 0..archive.len() {
-        let Some((block, more)) = next_block(rest) else {
+        let Some(more) = next_block(rest, &mut block) else {
             break;
         };
         rest = more;
