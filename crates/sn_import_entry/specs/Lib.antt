@@ -1,0 +1,3 @@
+pub mod Acls
+pub mod Forms
+pub mod Entries
