@@ -180,7 +180,7 @@ for part in access calls disk block formats records memory trees changes builds;
     each_refused "$folder/out/sn_tests" "${words[@]}"
 done
 
-# The table of nodes has some twenty thousand allocations, most of them those of the texts of answers. A step that is refused memory is
+# Of the table of nodes every 13th allocation is refused, since most are those of the texts of answers. A step that is refused memory is
 # made again there.
 folder=$top/crates/sn_tests_messages step=13
 (cd "$folder" && "$top/.ci/rt" run -- data nodes > "$work/log" 2>&1) || { tail -n 20 "$work/log"; exit 1; }
