@@ -1,14 +1,17 @@
-//! Cases of archives: heads that are written and read, what needs a pax record, pax records, and texts of ACLs.
+//! Cases of archives: heads that are written and read, what needs a pax record, pax records, texts of ACLs, and streams of
+//! whole trees.
 //!
 //! The tables of the cases are in the data of `sn_tests_messages`: their head lines say where the answers come from. `heads`,
-//! `records` and `acls` have their words.
+//! `records`, `acls` and `trees` have their words, and `nodes` the tree that is written.
 //!
 //! No clause promises what comes out, since it is compared: `sn_tests_messages` runs it.
 #![tactic(auto)]
 
 mod acls;
 mod heads;
+mod nodes;
 mod records;
+mod trees;
 
 use anyhow::{Context, Result};
 use sn_testing_tables::Report;
@@ -18,7 +21,8 @@ use std::alloc::Global;
 pub fn run(report: &mut Report<'_>) -> Result<()> {
     heads::run(report)?;
     records::run(report)?;
-    acls::run(report)
+    acls::run(report)?;
+    trees::run(report)
 }
 
 /// The bytes that a word spells in hexadecimal, or `-` for none.
