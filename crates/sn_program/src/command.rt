@@ -248,8 +248,8 @@ fn export_on<
     ensures front { OnErr result (BeginsStream (W.contents out.old) (W.contents out.new)) }
     ensures words { IfErr result (λ why. why ≢ fault.Usage) }
 {
-    let device = on_file(Which::Image, FileDevice::open(rt.alloc(), rt, image))?;
-    export_from(rt.alloc(), device, path, out)
+    let opened = FileDevice::open(rt.alloc(), rt, image);
+    export_from(rt.alloc(), on_file(Which::Image, opened)?, path, out)
 }
 
 /// Of what was done nothing is reported.
