@@ -84,8 +84,10 @@ fn is_found(alloc: Global, image: &[u8], path: &str, wanted: &str) -> Result<boo
 fn are_found(alloc: Global, number: u32) -> Result<bool> {
     let drawn = draw(alloc, number)?;
     let image = drawn.image.as_slice();
-    Ok(is_found(alloc, image, "/", drawn.live.as_str())?
-        && is_found(alloc, image, SNAPSHOT, drawn.frozen.as_str())?)
+    Ok(
+        is_found(alloc, image, "/", drawn.live.as_str())?
+            && is_found(alloc, image, SNAPSHOT, drawn.frozen.as_str())?,
+    )
 }
 
 /// Compares the archives of drawn trees with what calls say of them.

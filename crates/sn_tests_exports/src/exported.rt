@@ -16,8 +16,7 @@ const PATHS: [&str; 2] = ["/", "/.snapshot/then"];
 fn is_written(rt: &HostRuntime, image: &[u8], path: &str) -> Result<bool> {
     let words = ["export", IMAGE, path];
     let (archive, _) = exported(rt.alloc(), image, path, None)?;
-    let are_equal = (0..2)
-        .all(|_| Ended::of_words(rt, &words).is(0, archive.as_slice(), b""));
+    let are_equal = (0..2).all(|_| Ended::of_words(rt, &words).is(0, archive.as_slice(), b""));
     let after = fs::read(rt, IMAGE)?;
     let (again, _) = exported(rt.alloc(), after.as_slice(), path, None)?;
     Ok(are_equal && again.as_slice() == archive.as_slice())

@@ -129,7 +129,13 @@ impl Walk {
         Ok(())
     }
 
-    fn push_file(&mut self, disk: &mut Disk, path: &str, words: &Status, text: &mut String) -> Result<()> {
+    fn push_file(
+        &mut self,
+        disk: &mut Disk,
+        path: &str,
+        words: &Status,
+        text: &mut String,
+    ) -> Result<()> {
         let number = disk.number(path)?.context("no number")?;
         let told_path = self.told(path, false)?;
         let access = told(disk, self.alloc, "getacl", path, " a")?;
@@ -149,13 +155,21 @@ impl Walk {
             content: bytes.as_slice(),
         };
         push_facts(text, &facts, first)?;
-        Ok(self.met.push(Met {
-            number,
-            told: told_path,
-        })?)
+        Ok(
+            self.met.push(Met {
+                number,
+                told: told_path,
+            })?,
+        )
     }
 
-    fn push_directory(&mut self, disk: &mut Disk, path: &str, words: &Status, text: &mut String) -> Result<()> {
+    fn push_directory(
+        &mut self,
+        disk: &mut Disk,
+        path: &str,
+        words: &Status,
+        text: &mut String,
+    ) -> Result<()> {
         let told_path = self.told(path, true)?;
         let access = told(disk, self.alloc, "getacl", path, " a")?;
         let default = told(disk, self.alloc, "getacl", path, " d")?;

@@ -16,7 +16,13 @@ use std::env;
 
 /// The parts, in the order in which they run.
 const PARTS: [&str; 7] = [
-    "image", "fs", "live", "directories", "commands", "outputs", "exports",
+    "image",
+    "fs",
+    "live",
+    "directories",
+    "commands",
+    "outputs",
+    "exports",
 ];
 
 fn run(report: &mut Report<'_>, part: &str) -> Result<()> {
