@@ -187,6 +187,8 @@ impl<'a> Tree<'a> {
 }
 
 impl Calls for Tree<'_> {
+    ghost serves = { λ _ _. ⊥ };
+
     fn call(&mut self, _session: u32, call: &Call) -> Reply {
         match call {
             Call::Login { .. } | Call::Close { .. } => Reply::Done,
