@@ -1,7 +1,7 @@
 -- From a directory to what is under one of its names, and what is found there.
 use Rattle.std.proofs.Common.{◌≡◌, ℕ, ◌+◌, ◌==◌, ◌&&◌, not, Bool, true, false, cond, Option, Some, None, Result, Ok, Err, List, [], ◌∷◌, ◌++◌, length, nat_lt, codes, refl, sym, ap, ap₂, subst, ◌∙◌, true≢false, arith, eqb-true, lt-ltb}
-use Rattle.std.specs.Prelude.{option_map, option_and_then}
-use Rattle.std.specs.List.{list_all, onto_first, slice_split}
+use Rattle.std.specs.Prelude.{option_map}
+use Rattle.std.specs.List.{list_all, onto_first}
 use Rattle.std.specs.Cmp.Lexicographic.{pointwise}
 use Rattle.std.specs.FinMap as finite
 use Rattle.sn_acl.specs.Credential.{Credential}
@@ -22,21 +22,20 @@ use Rattle.sn_walk.specs.declared.walking.WalkRefusal.{WalkRefusal}
 use Rattle.sn_walk.specs.Chains.{◌>>=◌}
 use Rattle.sn_walk.specs.Objects.{number_of, root}
 use Rattle.sn_walk.specs.Paths.{components, of_length, of_names, of_word, parsed, pieces}
-use Rattle.sn_walk.specs.Views.{ViewedTree, ViewedTrees, attributes_at, child_of, hides, is_hidden_name}
-use Rattle.sn_walk.specs.Walks.{admitted, found_as, found_at, found_last, passed, present, walk_from, walk_of}
+use Rattle.sn_walk.specs.Views.{ViewedTrees, attributes_at, child_of, hides, is_hidden_name}
+use Rattle.sn_walk.specs.Walks.{admitted, found_as, found_at, passed, present, walk_from, walk_of}
 use Rattle.sn_walk.proofs.ChainLemmas.{bind_ok}
-use Rattle.sn_model.specs.declared.reply.Errno.TheVariants.{Enoent}
 use Rattle.sn_model.specs.declared.reply.FileStatus.{FileStatus}
 use Rattle.sn_model.specs.declared.reply.Refusal.{Refusal}
 use Rattle.sn_model.specs.Calls.{status_of}
 use Rattle.sn_model.specs.NameTree.{IsTree}
-use Rattle.sn_model.specs.Tests.{full, plain, prefix, there}
-use Rattle.sn_model.specs.Tree.{Node, Tree, attributes_of, link_to, viewed}
+use Rattle.sn_model.specs.Tests.{full, prefix, there}
+use Rattle.sn_model.specs.Tree.{Node, Tree, attributes_of, link_to}
 use Rattle.sn_model.specs.World.{Trees, tree_in, viewed_if, viewed_trees}
 use Rattle.sn_model.proofs.DecisionLemmas.{seen_node, walked_ok}
 use Rattle.sn_export.specs.Archives.{Visit}
 use Rattle.sn_export_walk.specs.Serving.{AreFound, HasStatus, LeadsTo, reader}
-use Rattle.sn_export_walk.specs.Visiting.{IsAt, IsHere, Place, image_below}
+use Rattle.sn_export_walk.specs.Visiting.{IsAt, IsHere, image_below}
 use Rattle.sn_export_walk.specs.declared.levels.Paths.{Paths}
 
 -- ---- the names of a path
@@ -336,8 +335,7 @@ pub is_at : (trees : Trees) (home : Home) (tree : Tree) (paths : Paths) (visit :
 is_at trees home tree paths visit status here has =
     let found = has.0 in
     let at = here.leads found has.1 in
-    let n = found_node trees paths.image.items found home tree visit.number has.1 at here.tree_is in
-    (
+    let n = found_node trees paths.image.items found home tree visit.number has.1 at here.tree_is in (
       found,
       n.0,
       record {

@@ -8,6 +8,7 @@ use Rattle.sn_acl.specs.Credential.{Credential}
 use Rattle.sn_limits.specs.Versions.{limits_written}
 use Rattle.sn_limits.specs.declared.kind.Kind.TheVariants.{File}
 use Rattle.sn_walk.specs.declared.fault.PathFault.{PathFault}
+use Rattle.sn_walk.specs.declared.fault.PathFault.TheVariants.{Misspelt, TooLong}
 use Rattle.sn_walk.specs.declared.object.Home.{Home}
 use Rattle.sn_walk.specs.declared.object.Object.{Object}
 use Rattle.sn_walk.specs.declared.object.Object.TheVariants.{Node, Snapshots}
@@ -16,7 +17,7 @@ use Rattle.sn_walk.specs.declared.walking.Walked.{Walked}
 use Rattle.sn_walk.specs.Chains.{◌>>=◌}
 use Rattle.sn_walk.specs.Objects.{number_of}
 use Rattle.sn_walk.specs.Paths.{parsed}
-use Rattle.sn_walk.specs.Views.{ViewedTrees, is_directory}
+use Rattle.sn_walk.specs.Views.{is_directory}
 use Rattle.sn_walk.specs.Walks.{found_at}
 use Rattle.sn_walk.proofs.ChainLemmas.{bind_ok}
 use Rattle.sn_model.specs.declared.argument.AclKind.{AclKind}
@@ -31,19 +32,19 @@ use Rattle.sn_model.specs.declared.reply.Reply.TheVariants as answer
 use Rattle.sn_model.specs.declared.session.Session.{Session}
 use Rattle.sn_model.specs.AccessCalls.{acl_at, getacl_outcome, has_acl}
 use Rattle.sn_model.specs.Calls.{Ready, new_session, outcome_of, stat_outcome, status_of}
-use Rattle.sn_model.specs.Descriptors.{Descriptors, at_offset, descriptor_at, descriptor_for, for_reading, moved_if, moved_to, next_descriptor, opened, readable_at}
+use Rattle.sn_model.specs.Descriptors.{Descriptors, descriptor_at, descriptor_for, moved_if, moved_to, next_descriptor, opened, readable_at}
 use Rattle.sn_model.specs.FileCalls.{close_outcome, count_argument, file, file_of, open_absent, open_as, open_bytes, open_found, open_outcome, open_there, opens_there, read_outcome, reads}
-use Rattle.sn_model.specs.Machine.{EventStep, IsAnswered, Memory, Mishap, Read, Running, Space, Age, State, Write}
+use Rattle.sn_model.specs.Machine.{CallStep, EventStep, Memory, Mishap, Read, Running, Space, Age, State, Write}
 use Rattle.sn_model.specs.NameCalls.{is_listable, read, readdir_outcome}
 use Rattle.sn_model.specs.NameTree.{HasKind}
-use Rattle.sn_model.specs.Outcomes.{asks, opens, tells}
+use Rattle.sn_model.specs.Outcomes.{asks, tells}
 use Rattle.sn_model.specs.declared.outcome.Caller.{Caller}
 use Rattle.sn_model.specs.declared.outcome.Caller.TheVariants.{Closes, LogsIn, Moves, Opens, Stays}
 use Rattle.sn_model.specs.declared.outcome.Outcome.{Outcome}
 use Rattle.sn_model.specs.Seen.{listed, seen}
 use Rattle.sn_model.specs.Settling.{dropped}
 use Rattle.sn_model.specs.Steps.{Becomes, Comes, decision, filled, with_caller, with_live}
-use Rattle.sn_model.specs.Tests.{full, granted, is_open, logged_in, logged_out, mode_from_bits, path_argument, plain, prefix, read_path, there}
+use Rattle.sn_model.specs.Tests.{full, granted, logged_in, logged_out, mode_from_bits, path_argument, plain, prefix, read_path, there}
 use Rattle.sn_model.specs.Tree.{Tree, names_for}
 use Rattle.sn_model.specs.World.{Descriptor, Trees, World, trees_of, viewed_trees}
 use Rattle.sn_model.specs.Worlds.{IsFound}
@@ -64,7 +65,7 @@ never_refused : {A : Type 0} (reply : Reply) (refusal : Refusal) → reply ≡ a
 never_refused reply refusal e not_refused = absurd (true≢false (sym (ap is_refusal e) ∙ not_refused))
 
 answered : (world : World) (c : Call) (reply : Reply) (met : Option Mishap) (next : State) → EventStep limits_written (Running world) (event.Call 0 c) met reply next → is_refusal reply ≡ false
-    → IsAnswered limits_written world 0 c reply next
+    → CallStep limits_written world 0 c None reply next
 answered world c reply None next step not_refused = step
 answered world c reply (Some Write) next step not_refused = never_refused reply _ step.stops.told not_refused
 answered world c reply (Some Memory) next step not_refused = never_refused reply _ step.1.told not_refused
@@ -89,7 +90,11 @@ told_by world c reply Serves next (Ok outcome) e b not_refused serves = record {
 pub is_told : (world : World) (c : Call) (reply : Reply) (Serves : World → Type 0) → IsStepOf world 0 c reply Serves → is_refusal reply ≡ false → IsTold world c reply Serves
 is_told world c reply Serves s not_refused =
     let a = answered world c reply s.met s.next s.step not_refused in
-    told_by world c reply Serves a.next (decision limits_written world 0 c) refl a.becomes not_refused (subst (λ (state : State). InState Serves state) a.runs s.serves)
+    told_by world c reply Serves a.0 (decision limits_written world 0 c) refl a.1 not_refused (subst (λ (state : State). InState Serves state) a.2 s.serves)
+
+-- a descriptor at this offset
+abbrev pub at_offset : ℕ → Descriptor → Descriptor
+at_offset offset d = record d { offset = offset }
 
 -- ---- a call that changes no tree
 
@@ -116,7 +121,8 @@ module _ (trees : Trees) (are : AreFound trees) (world : World) (same : trees_of
 
 read_is : (r : Result (List (List ℕ)) PathFault) (names : List (List ℕ)) → read_path r ≡ Ok names → r ≡ Ok names
 read_is (Ok x) names e = ap (λ (n : List (List ℕ)). Ok n) (same_ok x names e)
-read_is (Err fault) names e = cc
+read_is (Err Misspelt) names e = cc
+read_is (Err TooLong) names e = cc
 
 -- what decides a call of the reader's whose first argument is a path
 record IsRead (trees : Trees) (world : World) (path : List ℕ) (more : Session → List (List ℕ) → Ready) (o : Outcome) : Type 0 where
@@ -317,13 +323,12 @@ module _ {Serves : World → Type 0} (trees : Trees) (r : Reads trees Serves) wh
       let many : m.0 ≡ count = sym (counted (nat_le count 65536) m.1) in
       let f : read_outcome r.world 0 fd m.0 ≡ Ok t.outcome = ap (λ (g : Ready). g limits_written r.world) (same_ok _ _ m.2) ∙ x.2 in
       let d : Descriptor = at_offset offset (descriptor_for to_read home number) in
-      let readable : readable_at r.world.descriptors 0 fd ≡ Ok d = ap (λ (o : Option Descriptor). ok_or o (plain Ebadf) >>= for_reading) at in
+      let readable : readable_at r.world.descriptors 0 fd ≡ Ok d = ap (λ (o : Option Descriptor). ok_or o (plain Ebadf) >>= (λ (d : Descriptor). cond d.readable (Ok d) (Err (plain Ebadf)))) at in
       let all = take m.0 (drop offset (open_bytes r.world d)) in
       let e : t.outcome ≡ reads fd d all = sym (same_ok _ _ (ap (λ (x : Result Descriptor Refusal). x >>= (λ (d : Descriptor). ok (reads fd d (take m.0 (drop d.offset (open_bytes r.world d)))))) (sym readable) ∙ f)) in
       let said : answer.Content bytes ≡ answer.Content all = sym is ∙ t.told ∙ ap (λ (o : Outcome). o.told) e in
       let same : bytes ≡ all = cc in
-      let moved = moved_reads t.outcome fd home number offset (offset + length all) _ t.next content at e t.comes t.serves has in
-      (
+      let moved = moved_reads t.outcome fd home number offset (offset + length all) _ t.next content at e t.comes t.serves has in (
         same ∙ ap (λ (n : ℕ). take n (drop offset (open_bytes r.world d))) many ∙ ap (λ (s : List ℕ). take count (drop offset s)) (ap (λ (t : Trees). bytes_at t (Node home number)) r.same ∙ sym has),
         subst (λ (s : List ℕ). ReadsFile trees fd content (offset + length s) Next) (sym same) moved,
       )
@@ -345,12 +350,12 @@ pub login_told : {Next : World → Type 0} (world : World) (reply : Reply) → I
 login_told {Next} world reply found step is =
     let t = is_told world (call.Login 0 0 []) reply Next step (ap is_refusal is) in
     let s = new_session 0 0 [] in
-    let x = bind_ok (logged_out world 0 >>= (λ _. ok (λ limits w. ok (opens s)))) (outcome_of limits_written world) t.outcome t.decided in
-    let l = bind_ok (logged_out world 0) (λ _. ok (λ limits w. ok (opens s))) x.0 x.1 in
-    let f : ok (opens s) ≡ Ok t.outcome = ap (λ (g : Ready). g limits_written world) (same_ok _ _ l.2) ∙ x.2 in
+    let x = bind_ok (logged_out world 0 >>= (λ _. ok (λ limits w. ok (asks (LogsIn s) answer.Done)))) (outcome_of limits_written world) t.outcome t.decided in
+    let l = bind_ok (logged_out world 0) (λ _. ok (λ limits w. ok (asks (LogsIn s) answer.Done))) x.0 x.1 in
+    let f : ok (asks (LogsIn s) answer.Done) ≡ Ok t.outcome = ap (λ (g : Ready). g limits_written world) (same_ok _ _ l.2) ∙ x.2 in
     let made = asked (trees_of world) (found_trees world found) world refl t.outcome (LogsIn s) answer.Done t.next (sym (same_ok _ _ f)) (λ n. refl) refl t.comes in
     let some : 0 < length world.sessions = omega (arith, found.whole.count) in
-    let seat : logged_in (with_caller world 0 (LogsIn s)) 0 ≡ Ok s = ap (λ (o : Option (Option Session)). is_open (option_flatten o)) (seated world.sessions s some) in
+    let seat : logged_in (with_caller world 0 (LogsIn s)) 0 ≡ Ok s = ap (λ (o : Option (Option Session)). ok_or (option_flatten o) (plain Ebadf)) (seated world.sessions s some) in
     record {
       are_found = found_trees world found;
       world = t.next;

@@ -1,5 +1,5 @@
 -- The names of a directory, and the visits to them.
-use Rattle.std.proofs.Common.{◌≡◌, ℕ, zero, suc, ◌==◌, Bool, true, false, cond, T, ◌&&◌, Option, Some, None, List, [], ◌∷◌, ◌++◌, map, filter, drop, refl, sym, ap, subst, ◌∙◌, eqb-true}
+use Rattle.std.proofs.Common.{◌≡◌, ℕ, zero, suc, ◌==◌, Bool, true, false, cond, T, ◌&&◌, Option, Some, None, List, [], ◌∷◌, map, filter, drop, refl, sym, ap, subst, ◌∙◌, eqb-true}
 use Rattle.std.specs.Prelude.{slice_get, IsSomeAnd}
 use Rattle.std.specs.List.{AllByRecursion}
 use Rattle.std.specs.Ordering.{is_eq, is_lt}
@@ -15,7 +15,7 @@ use Rattle.sn_model.specs.NameTree.{HasKind, IsTree}
 use Rattle.sn_model.specs.Seen.{names_of}
 use Rattle.sn_model.specs.Tree.{Node, Tree, link_cmp, link_to}
 use Rattle.sn_model.proofs.LinkLemmas.{links_total}
-use Rattle.sn_export.specs.Archives.{Visit, below, children, visits_in}
+use Rattle.sn_export.specs.Archives.{Visit, below, visits_in}
 
 -- ---- the entries of a map are found in it
 
@@ -50,8 +50,7 @@ module _ {K X : Type 0} {R : K → K → Ordering} (o : IsTotalOrder R) where
   all_found : (es : List (K × X)) → T (is_sorted R es) → AllByRecursion (λ (e : K × X). find R e.0 es ≡ Some e.1) es
   all_found [] h = tt
   all_found (e ∷ es) h =
-      let s = both (below_all R e.0 es) (is_sorted R es) h in
-      (
+      let s = both (below_all R e.0 es) (is_sorted R es) h in (
         ap (λ (r : Ordering). cond (is_eq r) (Some e.1) (find R e.0 es)) (tied_itself o e.0),
         all_weaker (λ (x : K × X). find R x.0 es ≡ Some x.1) (λ (x : K × X). find R x.0 (e ∷ es) ≡ Some x.1) es (λ x f. found_later e es x.0 x.1 s.0 f) (all_found es s.1),
       )
@@ -75,7 +74,7 @@ named_in tree directory (e ∷ es) are =
     elim (in_directory directory e) as (λ b. in_directory directory e ≡ b → AllByRecursion (IsNameIn tree directory) (cond b (e ∷ filter (in_directory directory) es) (filter (in_directory directory) es))) [
       | true ↦ λ k. (
         (let is : e.0.directory ≡ directory = same_number e.0.directory directory k in
-        ap (λ (d : ℕ). finite.get tree.links (link_to d e.0.name)) (sym is) ∙ are.0),
+            ap (λ (d : ℕ). finite.get tree.links (link_to d e.0.name)) (sym is) ∙ are.0),
         named_in tree directory es are.1,
       )
       | false ↦ λ k. named_in tree directory es are.1
@@ -126,8 +125,7 @@ pub name_left : (tree : Tree) (directory : ℕ) (path : List ℕ) (met : ℕ) (n
 name_left tree directory path met name e =
     let x = nth_some (IsNameIn tree directory) (λ (e : LinkEntry). e.0.name) (visit_to path) (links_in tree directory) met name (names_in_directory tree directory) e in
     let all = mapped_twice path (links_in tree directory) in
-    let named : visit_to path x.0 ≡ record { path = below path name; number = x.0.1 } = ap (λ (n : List ℕ). record { path = below path n; number = x.0.1 }) x.2 in
-    (
+    let named : visit_to path x.0 ≡ record { path = below path name; number = x.0.1 } = ap (λ (n : List ℕ). record { path = below path n; number = x.0.1 }) x.2 in (
       x.0.1,
       ap (λ (n : List ℕ). finite.get tree.links (link_to directory n)) (sym x.2) ∙ x.1,
       ap (drop met) all ∙ x.3 ∙ ap (λ (v : Visit). v ∷ drop (suc met) (map (visit_to path) (links_in tree directory))) named ∙ ap (λ (vs : List Visit). record { path = below path name; number = x.0.1 } ∷ drop (suc met) vs) (sym all),

@@ -1,7 +1,6 @@
 -- The next name of a level.
 use Rattle.std.proofs.Common.{◌≡◌, ◌∙◌, ◌≤◌, ◌<◌, ℕ, zero, suc, ◌+◌, true, length, Some, None, List, [], ◌∷◌, drop, refl, sym, ap, subst, arith}
 use Rattle.std.specs.Prelude.{slice_get, slice_index_or}
-use Rattle.std.specs.FinMap as finite
 use Rattle.sn_limits.specs.Names.{is_name}
 use Rattle.sn_limits.specs.Versions.{limits_written}
 use Rattle.sn_model.specs.Tree.{Tree}
@@ -9,7 +8,7 @@ use Rattle.sn_model.specs.World.{Trees}
 use Rattle.sn_walk.specs.declared.object.Home.{Home}
 use Rattle.sn_export.specs.Archives.{Visit, below, visits_in}
 use Rattle.sn_export_walk.specs.Serving.{AreFound, LeadsTo}
-use Rattle.sn_export_walk.specs.Visiting.{IsHere, IsLevel, IsNextIn, image_below}
+use Rattle.sn_export_walk.specs.Visiting.{IsLevel, IsNextIn, image_below}
 use Rattle.sn_export_walk.specs.declared.levels.Level.{Level}
 use Rattle.sn_export_walk.specs.declared.levels.Paths.{Paths}
 use Rattle.sn_export_walk.proofs.Below.{leads_below, name_is, tree_is_whole}
@@ -46,14 +45,13 @@ module _ (trees : Trees) (home : Home) (tree : Tree) (level : Level) (own : List
         tree_is = is.tree_is;
         names = is.names;
         own_is = ap (λ (k : ℕ). drop k all) one;
-      } in
-      (
+      } in (
         visit,
         drop (suc level.met) all,
         is.own_is ∙ n.2,
         record {
           leads = λ found on. leads_below limits_written tree whole is.directory name n.0 n.1 trees home level.paths.image.items is.found found (name_is name valid) is.tree_is is.object is.leads
-            (subst (λ (p : List ℕ). LeadsTo trees p found) image on);
+              (subst (λ (p : List ℕ). LeadsTo trees p found) image on);
           told = sym told;
           tree_is = is.tree_is;
         },

@@ -121,11 +121,7 @@ fn acl_of<C: Calls>(
     }
 }
 
-fn access_acl<C: Calls>(
-    alloc: Global,
-    calls: &mut C,
-    path: &[u8],
-) -> Result<StoredAcl, ExportFault>
+fn access_acl<C: Calls>(alloc: Global, calls: &mut C, path: &[u8]) -> Result<StoredAcl, ExportFault>
     ensures { (trees : Trees) → Reads trees (C.serves calls.old)
         → IfOk result (λ acl. (found : Found) × LeadsTo trees path.now found × (acl ≡ found.attributes.acl) × Reads trees (C.serves calls.new)) }
 {
@@ -173,9 +169,9 @@ pub(crate) fn directory_acls<C: Calls>(
     calls: &mut C,
     path: &[u8],
 ) -> Result<Acls, ExportFault>
-    ensures access { (trees : Trees) → Reads trees (C.serves calls.old)
+    ensures { (trees : Trees) → Reads trees (C.serves calls.old)
         → IfOk result (λ acls. (found : Found) × LeadsTo trees path.now found × (acls.access ≡ found.attributes.acl) × (acls.default ≡ default_acl_at (viewed_trees trees) found.object)
-            × Reads trees (C.serves calls.new)) }
+        × Reads trees (C.serves calls.new)) }
 {
     let access = access_acl(alloc, calls, path)?;
     let default = default_acl(alloc, calls, path)?;
@@ -186,11 +182,7 @@ pub(crate) fn directory_acls<C: Calls>(
 }
 
 /// Opens a file, and gives its descriptor.
-pub(crate) fn open<C: Calls>(
-    alloc: Global,
-    calls: &mut C,
-    path: &[u8],
-) -> Result<u32, ExportFault>
+pub(crate) fn open<C: Calls>(alloc: Global, calls: &mut C, path: &[u8]) -> Result<u32, ExportFault>
     ensures { (trees : Trees) → Reads trees (C.serves calls.old)
         → IfOk result (λ fd. (found : Found) × LeadsTo trees path.now found × ReadsFile trees fd (bytes_at trees found.object) 0 (C.serves calls.new)) }
 {

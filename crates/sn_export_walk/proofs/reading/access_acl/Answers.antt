@@ -1,4 +1,3 @@
-use Rattle.std.proofs.Common.{◌≡◌, Some}
 use Rattle.sn_export_walk.proofs.reading.access_acl.Goals as goal
 
 pub returns-in-Some : goal.returns-in-Some

@@ -1,12 +1,12 @@
-use Rattle.std.proofs.Common.{◌∙◌, ap, sym}
+use Rattle.std.proofs.Common.{◌∙◌, ap}
 use Rattle.sn_model.specs.AccessCalls.{default_acl_at}
 use Rattle.sn_model.specs.World.{viewed_trees}
 use Rattle.sn_walk.specs.declared.walking.Found.{Found}
 use Rattle.sn_export_walk.proofs.Below.{leads_once}
 use Rattle.sn_export_walk.proofs.reading.directory_acls.Goals as goal
 
-pub returns-clause-access : goal.returns-clause-access
-returns-clause-access g c = λ trees r.
+pub returns : goal.returns
+returns g c = λ trees r.
     (let k = c.in_ok-access.ensures trees r in
     let d = c.in_ok-default.ensures trees k.3 in
     let same = leads_once trees c.args.path.now d.0 k.0 d.1 k.1 in

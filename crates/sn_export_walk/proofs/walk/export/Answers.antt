@@ -37,3 +37,9 @@ returns-clause-begun g c = λ world serves found.
     (let b = c.in_ok-paths.ensures world serves found in
     let w = c.in_ok-walk.ensures.visited (trees_of world) b.0.home b.0.tree (first (trees_of world) c.args.path.now c.in_ok-paths.paths b.0) b.1 b.0.here in
     archived.begins_end (trees_of world) c.args.path.now c.in_ok-paths.paths b.0 _ _ _ _ w c.put_end.ensures.front)
+
+pub returns-in_err-vec-clause-front : goal.returns-in_err-vec-clause-front
+returns-in_err-vec-clause-front g c = ends.begins_nothing (g.W.Write.contents c.args.out.now)
+
+pub returns-in_err-vec-clause-begun : goal.returns-in_err-vec-clause-begun
+returns-in_err-vec-clause-begun g c = λ world serves found. begins_nothing (trees_of world) c.args.path.now (g.W.Write.contents c.args.out.now)

@@ -1,4 +1,4 @@
-use Rattle.std.proofs.Common.{◌≡◌, arith}
+use Rattle.std.proofs.Common.{arith}
 use Rattle.sn_model.specs.World.{trees_of}
 use Rattle.sn_export_walk.proofs.Archived.{begins_at}
 use Rattle.sn_export_walk.proofs.Placed.{if_ok_pair, if_ok_two}

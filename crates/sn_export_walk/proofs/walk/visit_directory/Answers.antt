@@ -1,6 +1,8 @@
-use Rattle.std.proofs.Common.{List, ℕ, [], inl, refl, subst, sym}
+use Rattle.std.proofs.Common.{◌∙◌, ◌++◌, ◌∷◌, List, ℕ, [], ap, inl, refl, subst, sym}
 use Rattle.std.proofs.lemmas.Result.{on_ok_weaker}
 use Rattle.sn_tar.specs.declared.kind.Kind.TheVariants as kinds
+use Rattle.sn_export.specs.Archives.{visits_in}
+use Rattle.sn_export_walk.specs.Serving.{LeadsTo}
 use Rattle.sn_export_walk.specs.Visiting.{AreLevels, entry_told}
 use Rattle.sn_export_walk.specs.Walks.{BeginsHeads, WritesHeads}
 use Rattle.sn_export_walk.specs.declared.levels.Level.{Level}
@@ -41,17 +43,17 @@ returns-clause-visited g c = λ trees at is kind r pending levels.
     (let a = c.in_ok-acls.ensures trees r in
     let n = c.in_ok-names.ensures trees a.4 in
     let level : Level = record { paths = c.args.paths; names = c.in_ok-names.names; met = 0 } in
-    let top = on_top trees at.home at.tree c.args.levels.now.items level _ pending levels (level_is trees at c.args.status.now level n.0 is n.1 n.2 refl) in
-    let path = c.in_ok-told.ensures in
+    let top = on_top trees at.home at.tree c.args.levels.now.items level _ pending levels (level_is trees at c.args.status.now level n.0 is (subst (λ (p : List ℕ). LeadsTo trees p n.0) c.as_slice-image.ensures.value n.1) n.2 refl) in
+    let path = c.as_slice-2.ensures.value ∙ c.in_ok-told.ensures ∙ ap (λ (p : List ℕ). p ++ 47 ∷ []) c.as_slice.ensures.value in
     on_ok_weaker c.put_directory.result (λ w. (
-      directory_written trees at c.args.paths.image.items c.args.paths.told.items c.args.status.now c.in_ok-acls.acls is a.0 a.1 a.2 a.3 _ _ _ _
-      (subst (λ (p : List ℕ). WritesHeads (entry_told kinds.Directory p [] 0 c.args.status.now) c.in_ok-acls.acls _ _ _ _) path w),
-      subst (λ (ls : List Level). AreLevels trees at.home at.tree ls _) (sym c.in_ok-push.ensures.items) top,
+      directory_written trees at c.args.paths.image.items c.args.paths.told.items c.args.status.now c.in_ok-acls.acls is a.0 (subst (λ (p : List ℕ). LeadsTo trees p a.0) c.as_slice-image.ensures.value a.1) a.2 a.3 _ _ _ _
+          (subst (λ (p : List ℕ). WritesHeads (entry_told kinds.Directory p [] 0 c.args.status.now) c.in_ok-acls.acls c.args.written.now.past c.put_directory.new.past (g.W.Write.contents c.args.out.now) (g.W.Write.contents c.put_directory.new.out)) path w),
+      subst (λ (ls : List Level). AreLevels trees at.home at.tree ls (visits_in at.tree at.visit ++ pending)) (sym c.in_ok-push.ensures.items) top,
       n.3,
     )) c.put_directory.ensures.heads)
 
 pub returns-clause-begun : goal.returns-clause-begun
 returns-clause-begun g c = λ trees at is kind r.
     (let a = c.in_ok-acls.ensures trees r in
-    directory_begun trees at c.args.paths.image.items c.args.paths.told.items c.args.status.now c.in_ok-acls.acls is a.0 a.1 a.2 a.3 _ _
-    (subst (λ (p : List ℕ). BeginsHeads (entry_told kinds.Directory p [] 0 c.args.status.now) c.in_ok-acls.acls _ _) c.in_ok-told.ensures c.put_directory.ensures.begun))
+    directory_begun trees at c.args.paths.image.items c.args.paths.told.items c.args.status.now c.in_ok-acls.acls is a.0 (subst (λ (p : List ℕ). LeadsTo trees p a.0) c.as_slice-image.ensures.value a.1) a.2 a.3 _ _
+    (subst (λ (p : List ℕ). BeginsHeads (entry_told kinds.Directory p [] 0 c.args.status.now) c.in_ok-acls.acls (g.W.Write.contents c.args.out.now) (g.W.Write.contents c.put_directory.new.out)) (c.as_slice-2.ensures.value ∙ c.in_ok-told.ensures ∙ ap (λ (p : List ℕ). p ++ 47 ∷ []) c.as_slice.ensures.value) c.put_directory.ensures.begun))
