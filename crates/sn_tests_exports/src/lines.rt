@@ -1,10 +1,8 @@
 //! The line of a name.
 
 use anyhow::Result;
+use sn_tests_tar::push_runs;
 use std::fmt::Write;
-
-// The shortest run of equal bytes that a line has by its length.
-const LONG_RUN: usize = 16;
 
 /// What lies under a name.
 #[derive(Drop)]
@@ -45,31 +43,6 @@ fn push_path(text: &mut String, path: &[u8]) -> Result<()> {
         } else {
             write!(text, "%{byte:02X}")?;
         }
-    }
-    Ok(())
-}
-
-/// How many bytes at the front are as the first.
-fn run_length(bytes: &[u8], first: u8) -> usize {
-    bytes
-        .iter()
-        .position(|byte| *byte != first)
-        .unwrap_or(bytes.len())
-}
-
-/// Appends hexadecimal digits, where a long run of equal bytes is `(BYTE*COUNT)`.
-fn push_runs(text: &mut String, bytes: &[u8]) -> Result<()> {
-    let mut rest = bytes;
-    while let Some(first) = rest.first() {
-        let count = run_length(rest, *first).max(1);
-        if count < LONG_RUN {
-            for byte in &rest[..count] {
-                write!(text, "{byte:02x}")?;
-            }
-        } else {
-            write!(text, "({first:02x}*{count})")?;
-        }
-        rest = &rest[count..];
     }
     Ok(())
 }

@@ -1,16 +1,16 @@
 //! A tree of a table, which answers the calls that read it.
 
-use anyhow::{Context, Result};
+use anyhow::{Context, Result, bail};
 use sn_acl::{Acl, Mode};
 use sn_export_walk::Calls;
 use sn_limits::Kind;
 use sn_model::{
     AclKind, Call, Errno, FileData, FileStatus, Names, Refusal, Reply, StoredAcl, Word,
 };
-use sn_testing_tables::number_of;
+use sn_testing_tables::{byte_of, number_of};
 use std::alloc::{AllocError, Global};
 
-/// A node of a table, with the words that tell it.
+/// A node of a table.
 #[derive(Drop)]
 pub struct Node<'a> {
     path: &'a str,
@@ -24,6 +24,14 @@ fn acl_of(word: &str) -> Result<Acl> {
     Acl::parse(word.as_bytes()).context("no ACL")
 }
 
+/// That of a default ACL, or `-` for none.
+fn default_of(word: &str) -> Result<Option<Acl>> {
+    match word {
+        "-" => Ok(None),
+        _ => Ok(Some(acl_of(word)?)),
+    }
+}
+
 fn kind_of(word: &str) -> Kind {
     match word {
         "d" => Kind::Directory,
@@ -35,49 +43,45 @@ fn small(word: &str) -> Result<u16> {
     u16::try_from(number_of(word)?).ok().context("no number")
 }
 
-/// The status that the words from the second one on tell.
-fn status_of<'a, I: Iterator<Item = &'a str>>(words: &mut I) -> Result<FileStatus> {
-    let number = small(words.next().context("no number")?)?;
-    let kind = kind_of(words.next().context("no kind")?);
-    let links = small(words.next().context("no links")?)?;
-    let bits = u16::from_str_radix(words.next().context("no mode")?, 8)
-        .ok()
-        .context("no mode")?;
-    Ok(FileStatus {
-        kind,
-        set_gid: bits & 0o2000 != 0,
-        sticky: bits & 0o1000 != 0,
-        mode: Mode::from_bits(bits & 0o777).context("no mode")?,
-        links,
-        owner: number_of(words.next().context("no owner")?)?,
-        group: number_of(words.next().context("no group")?)?,
-        size: 0,
-        number,
-    })
-}
-
 impl<'a> Node<'a> {
-    /// The node that a word tells: path, number, kind, links, mode, owner, group, access and default ACL, a byte, and how often the
+    /// The node that a word has: path, number, kind, links, mode, owner, group, access and default ACL, a byte, and how often the
     /// content has that.
-    pub fn parse(word: &'a str) -> Result<Self> {
-        let mut words = word.split('|');
-        let path = words.next().context("no path")?;
-        let mut status = status_of(&mut words)?;
-        let acl = acl_of(words.next().context("no ACL")?)?;
-        let default = match words.next().context("no default ACL")? {
-            "-" => None,
-            word => Some(acl_of(word)?),
+    pub fn parse(alloc: Global, word: &'a str) -> Result<Self> {
+        let words: Vec<&'a str> = word.split('|').collect(alloc)?;
+        let &[
+            path,
+            number,
+            kind,
+            links,
+            mode,
+            owner,
+            group,
+            access,
+            default,
+            byte,
+            size,
+        ] = words.as_slice()
+        else {
+            bail!("no node: {word}");
         };
-        let byte = u8::from_str_radix(words.next().context("no byte")?, 16)
-            .ok()
-            .context("no byte")?;
-        status.size = u64::from(number_of(words.next().context("no size")?)?);
+        let bits = u16::from_str_radix(mode, 8).ok().context("no mode")?;
+        let status = FileStatus {
+            kind: kind_of(kind),
+            set_gid: bits & 0o2000 != 0,
+            sticky: bits & 0o1000 != 0,
+            mode: Mode::from_bits(bits & 0o777).context("no mode")?,
+            links: small(links)?,
+            owner: number_of(owner)?,
+            group: number_of(group)?,
+            size: u64::from(number_of(size)?),
+            number: small(number)?,
+        };
         Ok(Node {
             path,
             status,
-            acl,
-            default,
-            byte,
+            acl: acl_of(access)?,
+            default: default_of(default)?,
+            byte: byte_of(byte)?,
         })
     }
 }

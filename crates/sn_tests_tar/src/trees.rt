@@ -1,14 +1,11 @@
 //! Whole trees that tables have.
 
 use crate::nodes::{Node, Tree};
+use crate::runs::push_runs;
 use anyhow::{Context, Result};
 use sn_export_walk::{ExportFault, export};
 use sn_testing_tables::{Case, Report};
 use std::alloc::Global;
-use std::fmt::Write;
-
-// The shortest run of equal bytes that an answer tells by its length.
-const LONG_RUN: usize = 16;
 
 /// Compares the streams of trees with those that are made of Python's heads and libacl's texts.
 pub fn run(report: &mut Report<'_>) -> Result<()> {
@@ -24,12 +21,16 @@ fn answer(alloc: Global, case: Case<'_>) -> Result<String> {
     };
     let mut nodes = Vec::new(alloc);
     for word in words {
-        nodes.push(Node::parse(word)?)?;
+        nodes.push(Node::parse(alloc, word)?)?;
     }
     let mut tree = Tree::new(alloc, nodes);
     let mut stream = Vec::new(alloc);
     match export(alloc, &mut tree, path.as_bytes(), &mut stream) {
-        Ok(()) => spelled(alloc, stream.as_slice()),
+        Ok(()) => {
+            let mut text = String::new(alloc);
+            push_runs(&mut text, stream.as_slice())?;
+            Ok(text)
+        }
         Err(fault) => Ok(String::from_str(alloc, name_of(fault))?),
     }
 }
@@ -41,30 +42,4 @@ fn name_of(fault: ExportFault) -> &'static str {
         ExportFault::Stopped => "stopped",
         ExportFault::Output(_) => "file",
     }
-}
-
-/// How many bytes at the front are as the first.
-fn run_length(bytes: &[u8], first: u8) -> usize {
-    bytes
-        .iter()
-        .position(|byte| *byte != first)
-        .unwrap_or(bytes.len())
-}
-
-/// Hexadecimal digits, where a long run of equal bytes is `(BYTE*COUNT)`.
-fn spelled(alloc: Global, bytes: &[u8]) -> Result<String> {
-    let mut text = String::new(alloc);
-    let mut rest = bytes;
-    while let Some(first) = rest.first() {
-        let count = run_length(rest, *first).max(1);
-        if count < LONG_RUN {
-            for byte in &rest[..count] {
-                write!(text, "{byte:02x}")?;
-            }
-        } else {
-            write!(text, "({first:02x}*{count})")?;
-        }
-        rest = &rest[count..];
-    }
-    Ok(text)
 }
