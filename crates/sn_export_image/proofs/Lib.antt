@@ -1,1 +1,2 @@
 pub mod ServingLemmas
+pub mod StreamLemmas
