@@ -3,7 +3,7 @@
 //! Decisions are made over a view (`TreeView`, `CallView` and `MoveView`), and changes are tried on a tree that
 //! is read (`NamedTree` of `sn_applies`). Here such a tree, with the table of its numbers (`sn_number_table`), is
 //! a view of the live tree: a root on disk, seen through what changed since, with the table of its directories.
-//! The frozen trees of snapshots are seen as they are beside it (`HasSnapshots` of `sn_frozen`).
+//! The frozen trees of snapshots are seen as they are beside it (`HasSnapshots` of `sn_live_files`).
 //!
 //! Each look-up of the view is one of the tree, in the live tree or in a frozen one, and whether a number is left is
 //! one of the table. Where the tree is told, it has to be a name tree, and the table has to describe its numbers
