@@ -34,7 +34,8 @@ impl<D: Device> Fs<D> {
         if self.has_stopped {
             return Err(LookFault::Read);
         }
-        self.world.look_up(self.alloc, &mut self.blocks, &self.base.root, sought)
+        self.world
+            .look_up(self.alloc, &mut self.blocks, &self.base.root, sought)
     }
 
     /// What a path leads user 0 to, with what is known of it, and `None` where it leads to nothing. No call is made and

@@ -46,9 +46,13 @@ fn look_along<V: TreeView>(view: &mut V, path: &Path<'_>) -> Result<Option<Known
     ensures cause { IfErr result (λ f. V.causes view.old view.new f) }
 {
     match full(view, &Cred::new(0, 0, &[]), PathNumber::FIRST, path) {
-        Ok(Found {
-            object, attributes, ..
-        }) => Ok(Some(Known { object, attributes })),
+        Ok(
+            Found {
+                object,
+                attributes,
+                ..
+            },
+        ) => Ok(Some(Known { object, attributes })),
         Err(Failure::Refused(_)) => Ok(None),
         Err(Failure::Fault(fault)) => Err(fault),
     }

@@ -50,7 +50,8 @@ pub fn line_of_node(alloc: Global, node: &Result<Option<Attributes>, LookFault>)
 fn tree_of(object: &Object) -> Result<&str> {
     match object {
         Object::Node {
-            home: Home::Live, ..
+            home: Home::Live,
+            ..
         } => Ok("live"),
         Object::Node {
             home: Home::Frozen(snapshot),
