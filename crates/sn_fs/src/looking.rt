@@ -43,7 +43,7 @@ impl<D: Device> Fs<D> {
     /// nothing changes but what the device counts of a read that failed.
     pub fn find(&mut self, path: Path<'_>) -> Result<Option<Known>, LookFault>
         requires { IsFs self.old }
-        ensures found { IsTrue D.tells_bytes → IfOk result (λ known. known ≡ known_by (viewed_trees (trees_of (held self.old).world)) path) }
+        ensures found { IsTrue D.tells_bytes → IfOk result (λ known. known ≡ known_by (viewed_trees (trees_of (held self.old).world)) path.entry) }
         ensures quiet { IsTrue D.tells_bytes → OnOk result (held self.new ≡ held self.old) }
         ensures unseen { IsTrue D.tells_bytes → has_stopped self.old ≡ false → IfErr result (λ fault. IsUnseen fault (held self.old) (held self.new)) }
         ensures stopped { has_stopped self.new ≡ has_stopped self.old }
