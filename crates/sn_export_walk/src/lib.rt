@@ -2,7 +2,7 @@
 //!
 //! The model. `Calls` has a predicate of worlds, and its reply to a call is that of a step of `sn_model`'s machine over each of them
 //! (`IsStepOf` of `specs/Serving`). Where there is one that a mount may find, what [`export`] writes is the archive of the tree that the
-//! path leads user 0 to (`IsArchive` of `sn_export`), or after an error the front of it. Of calls of which nothing is known a weaker
+//! path leads user 0 to (`IsArchive` of `sn_export`), or after an error the front of it; and the trees are still the same. Of calls of which nothing is known a weaker
 //! fact is left: `IsStream` of `specs/Streams` says that bytes are a stream of members, each with exactly the records and the head of what
 //! is told of it, as much content as its head says, filled up to a block, no default ACL but on a directory, and hard links only to files
 //! before them; and zeros at the end. [`export`] writes such a stream, or after an error the front of one.

@@ -67,7 +67,7 @@ pub returns-in_default-clause-visited : goal.returns-in_default-clause-visited
 returns-in_default-clause-visited g c = λ trees home tree first r here.
     (let v = c.loop-turn.invariant.2 trees home tree first r here in
     let n = subst (λ (o : Option Paths). IsNext trees home tree o v.1 c.enter_next.new.levels.items) c.in_default.is (c.in_ok-next.ensures trees home tree v.1 v.5.are_found v.3) in
-    visited_all tree first v.0 v.1 c.loop-turn.written.past (g.W.Write.contents c.args.out.now) (g.W.Write.contents c.loop-turn.out) n v.2)
+    (visited_all tree first v.0 v.1 c.loop-turn.written.past (g.W.Write.contents c.args.out.now) (g.W.Write.contents c.loop-turn.out) n v.2, v.5))
 
 pub returns-in_default-clause-begun : goal.returns-in_default-clause-begun
 returns-in_default-clause-begun g c = λ trees home tree first r here. (let v = c.loop-turn.invariant.2 trees home tree first r here in visited_begun tree first v.0 v.1 _ _ _ v.2)
