@@ -1,13 +1,14 @@
 //! One change, tried over what is shown.
 ghost use Rattle.std.specs.Prelude.{◌≡◌, ◌≤◌, ◌^◌, Some, IsTrue, IfErr, IfOk, IfSome, OnOk};
 ghost use Rattle.sn_block.specs.Lending.{device_of};
-ghost use Rattle.sn_check_log.specs.Trying.{HasNoPointIf, IsTried, KeepsNone, KeepsNoneIf, TriesChange, changes_if, tree_of};
+ghost use Rattle.sn_check_log.specs.Trying.{HasNoPointIf, IsTried, KeepsNone, KeepsNoneIf, MakesChange, TriesChange, changes_if, tree_of};
 ghost use Rattle.sn_examine.specs.Failing.{FailsAs, WritesNothing};
 ghost use Rattle.sn_examine.specs.Rooms.{IsNoDamage};
 ghost use Rattle.sn_limits.specs.Versions.{limits_of};
 ghost use Rattle.sn_limits.specs.declared.limits.Limits.{Limits as TheLimits};
 ghost use Rattle.sn_live.specs.Live.{HasNoPoint, IsLive, changes_of, point_of, shown_of};
-ghost use Rattle.sn_live.specs.Prepared.{CanBeMade, HasRoomFor, charge_of};
+ghost use Rattle.sn_live.specs.Prepared.{CanBeMade, HasRoomFor};
+ghost use Rattle.sn_model.specs.Charges.{charge_for};
 ghost use Rattle.sn_model.specs.Tree.{Tree};
 ghost use Rattle.sn_model.specs.declared.change.Change.{Change as TheChange};
 ghost use Rattle.sn_rooted.specs.Roots.{IsSoundOn, tree_on};
@@ -15,10 +16,13 @@ ghost use Rattle.sn_rooted.specs.Roots.{IsSoundOn, tree_on};
 use crate::opening::live_over;
 use sn_block::Blocks;
 use sn_device::Device;
+use sn_directories::KeepsNames;
 use sn_examine::fault_of_tree;
 use sn_layout::{Geometry, RootBody};
+use sn_limits::Limits;
 use sn_live::{LiveTree, PreparedLive};
 use sn_model::{Change, MountFault};
+use sn_overlay_change::LayerFault;
 use sn_rooted_tree::RootedTree;
 use std::alloc::Global;
 
@@ -32,19 +36,47 @@ pub struct CheckedRoot<'a> {
     pub geometry: Geometry,
 }
 
-// Makes a change that was prepared, and answers what it is charged.
-fn make_change(live: &mut LiveTree, prepared: PreparedLive) -> u128
+// Makes a change that was prepared.
+fn make_change(live: &mut LiveTree, prepared: PreparedLive)
     requires { HasRoomFor live.old prepared 0 }
     ensures live { (limits : TheLimits) (below : Tree) (change : TheChange) → limits_of limits.version ≡ Some limits → IsLive live.old below → CanBeMade limits prepared (shown_of live.old below) change → IsLive live.new below }
     ensures made { (limits : TheLimits) (below : Tree) (change : TheChange) → limits_of limits.version ≡ Some limits → IsLive live.old below → CanBeMade limits prepared (shown_of live.old below) change
-        → TriesChange limits (Some result) (Some live.old) below change (Some live.new) }
+        → MakesChange limits (charge_for limits (shown_of live.old below) change) (Some live.old) below change (Some live.new) }
     ensures keeps { (limits : TheLimits) (tree : Tree) (change : TheChange) → limits_of limits.version ≡ Some limits → CanBeMade limits prepared tree change → KeepsNone live.old → KeepsNone live.new }
     ensures point { point_of live.new ≡ point_of live.old }
-    ensures charge { result ≡ charge_of prepared }
 {
-    let charge = prepared.charge();
     live.commit(prepared);
-    charge
+}
+
+// Makes a change of what is shown of a tree below, where it can be applied under the limits, and answers what it is charged by
+// them. `None` where it can't be applied.
+fn try_over<B: KeepsNames>(
+    alloc: Global,
+    limits: &Limits,
+    live: &mut LiveTree,
+    below: &mut B,
+    change: &Change<'_>,
+) -> Result<Option<u128>, LayerFault<B::Fault>>
+    requires holds { B.holds below.old }
+    requires version { limits_of limits.now.version ≡ Some limits.now }
+    requires live { IsTrue B.is_told → IsLive live.old (B.shows below.old) }
+    ensures kept { B.holds below.new }
+    ensures follows { B.follows below.old below.new }
+    ensures live { IsTrue B.is_told → OnOk result (IsLive live.new (B.shows below.old)) }
+    ensures tries { IsTrue B.is_told → IfOk result (λ charge. TriesChange limits.now charge (Some live.old) (B.shows below.old) change.now (Some live.new)) }
+    ensures keeps { IsTrue B.is_told → OnOk result (KeepsNone live.old → KeepsNone live.new) }
+    ensures point { point_of live.new ≡ point_of live.old }
+    ensures few { IfOk result (λ charge. IfSome charge (λ n. n ≤ 2 ^ 64)) }
+{
+    let charge = match live.charge(limits, below, change) {
+        Ok(charge) => charge,
+        Err(fault) => return Err(LayerFault::Below(fault)),
+    };
+    let Some(prepared) = live.prepare(alloc, limits, below, change, 0)? else {
+        return Ok(None);
+    };
+    make_change(live, prepared);
+    Ok(Some(charge))
 }
 
 // Makes a change of what is shown of a root's tree, where it can be applied under the root's limits, and answers what it is
@@ -76,12 +108,11 @@ fn try_change<D: Device>(
         root: it.root,
         fault: None,
     };
-    let prepared = live.prepare(alloc, &it.root.limits, &mut tree, change, 0);
+    let made = try_over(alloc, &it.root.limits, live, &mut tree, change);
     match tree.fault {
         Some(fault) => Err(fault_of_tree(fault, it.body)),
-        None => match prepared {
-            Ok(Some(prepared)) => Ok(Some(make_change(live, prepared))),
-            Ok(None) => Ok(None),
+        None => match made {
+            Ok(charge) => Ok(charge),
             // No look-up has failed.
             Err(_) => Err(MountFault::Memory),
         },

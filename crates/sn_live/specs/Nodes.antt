@@ -6,7 +6,7 @@ use Rattle.sn_limits.specs.declared.kind.Kind.TheVariants.{File, Directory}
 use Rattle.sn_live.specs.declared.nodes.NodeMoves.{NodeMoves}
 use Rattle.sn_live.specs.declared.nodes.NodeMoves.TheVariants.{Stay, Come, Go, Name, Unname}
 use Rattle.sn_model.specs.declared.change.Change.{Change}
-use Rattle.sn_model.specs.declared.change.Change.TheVariants.{Make, AddLink, Remove, Rename, Write, SetSize, SetAttributes}
+use Rattle.sn_model.specs.declared.change.Change.TheVariants.{Make, AddLink, Remove, Rename}
 use Rattle.sn_model.specs.declared.link.Link.{Link}
 use Rattle.sn_model.specs.Changes.{put_node, same_number, take_node}
 use Rattle.sn_model.specs.Settling.{is_nameless}

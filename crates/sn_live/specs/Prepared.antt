@@ -11,10 +11,6 @@ use Rattle.sn_model.specs.Changes.{apply}
 use Rattle.sn_model.specs.Settling.{is_nameless}
 use Rattle.sn_model.specs.Tree.{Tree}
 
--- the blocks that are charged for it
-abbrev pub charge_of : PreparedLive → ℕ
-charge_of p = laid.charge_of p.change
-
 -- there is room for it, and for this many more drops
 abbrev pub HasRoomFor : LiveTree → PreparedLive → ℕ → Type 0
 HasRoomFor live p drops = laid.HasRoomFor live.top p.change drops

@@ -1,12 +1,13 @@
 //! The state of a live tree.
-ghost use Rattle.std.specs.Prelude.{◌≡◌, ℕ, ◌≤◌, ◌^◌, Some, IsTrue, IfOk, IfSome, OnOk};
+ghost use Rattle.std.specs.Prelude.{◌≡◌, ℕ, ◌≤◌, ◌^◌, Some, IsTrue, IfErr, IfOk, IfSome, OnOk};
 ghost use Rattle.std.specs.FinMap as map;
 ghost use Rattle.sn_directories.specs.Told.{IsShown, TellsDirectories};
 ghost use Rattle.sn_limits.specs.Versions.{limits_of, limits_written};
 ghost use Rattle.sn_limits.specs.declared.limits.Limits.{Limits as TheLimits};
 ghost use Rattle.sn_live.specs.Live.{HasDrops, HasNoPoint, IsLive, KeepsBack, ShowsAlike, changes_of, count_of, kept_back_of, kept_since_of, point_of, shown_of};
-ghost use Rattle.sn_live.specs.Prepared.{CanBeMade, HasRoomFor, IsPrepared, charge_of};
+ghost use Rattle.sn_live.specs.Prepared.{CanBeMade, HasRoomFor, IsPrepared};
 ghost use Rattle.sn_model.specs.Changes.{apply};
+ghost use Rattle.sn_model.specs.Charges.{charge_for};
 ghost use Rattle.sn_model.specs.NameTree.{IsTree};
 ghost use Rattle.sn_model.specs.Settling.{is_nameless};
 ghost use Rattle.sn_model.specs.Tree.{Tree};
@@ -22,7 +23,7 @@ ghost use Rattle.sn_overlay_change.specs.ChangeLayers.{layer_of_change};
 ghost use Rattle.sn_overlay_change.specs.Faults.{IfBelow};
 
 use crate::nodes::{nameless_after, note_names, note_nodes};
-use crate::preparing::{PreparedLive, prepare_through};
+use crate::preparing::{PreparedLive, charge_through, prepare_through};
 use sn_directories::{Directories, KeepsNames};
 use sn_limits::Limits;
 use sn_logged::commit_change;
@@ -139,6 +140,37 @@ impl LiveTree {
         &self.numbers
     }
 
+    /// The blocks that are charged for a change of what is shown, by limits of any version that is read. It looks a name up
+    /// at most; a fault is one of the tree below.
+    ///
+    /// Proved: A change is charged what the model charges it over what is shown, by the given limits, of any version that is
+    /// read.
+    pub fn charge<B: KeepsNames>(
+        &self,
+        limits: &Limits,
+        below: &mut B,
+        change: &Change<'_>,
+    ) -> Result<u128, B::Fault>
+        requires holds { B.holds below.old }
+        requires version { limits_of limits.now.version ≡ Some limits.now }
+        requires live { IsTrue B.is_told → IsLive self.now (B.shows below.old) }
+        ensures kept { B.holds below.new }
+        ensures follows { B.follows below.old below.new }
+        ensures same { IsTrue B.is_told → B.shows below.new ≡ B.shows below.old }
+        ensures exact { IsTrue B.is_told → IfOk result (λ n. n ≡ charge_for limits.now (shown_of self.now (B.shows below.old)) change.now) }
+        ensures few { IfOk result (λ n. n ≤ 2 ^ 64) }
+        ensures cause { IfErr result (λ f. B.causes below.old below.new f) }
+    {
+        charge_through(
+            limits,
+            below,
+            &self.bottom,
+            &self.top,
+            &self.directories,
+            change,
+        )
+    }
+
     /// Reads and grows all that a change of what is shown asks for, where it can be applied under the limits, with room
     /// for it and for so many drops besides. `None` where it can't be applied. Nothing that is shown changes, and no room
     /// for drops is lost, whatever the answer. A fault is one of the tree below, or of memory.
@@ -168,7 +200,6 @@ impl LiveTree {
         ensures room { IfOk result (λ p. IfSome p (λ prepared. HasRoomFor self.new prepared drops)) }
         ensures stays { (n : ℕ) → HasDrops self.old n → HasDrops self.new n }
         ensures counted { count_of self.new ≡ count_of self.old }
-        ensures few { IfOk result (λ p. IfSome p (λ prepared. charge_of prepared ≤ 2 ^ 64)) }
         ensures cause { IfBelow result (λ f. B.causes below.old below.new f) }
     {
         prepare_through(

@@ -4,9 +4,10 @@ ghost use Rattle.sn_directories.specs.Told.{IsShown};
 ghost use Rattle.sn_live.specs.Nodes.{node_moves_of};
 ghost use Rattle.sn_limits.specs.Versions.{limits_of};
 ghost use Rattle.sn_limits.specs.declared.limits.Limits.{Limits as TheLimits};
-ghost use Rattle.sn_live.specs.Prepared.{CanBeMade, IsPrepared, LosesAtMost, charge_of};
+ghost use Rattle.sn_live.specs.Prepared.{CanBeMade, IsPrepared, LosesAtMost};
 ghost use Rattle.sn_logged.specs.Laid as laid;
 ghost use Rattle.sn_model.specs.Changes.{apply};
+ghost use Rattle.sn_model.specs.Charges.{charge_for};
 ghost use Rattle.sn_model.specs.Tree.{Tree};
 ghost use Rattle.sn_model.specs.declared.change.Change.{Change as TheChange};
 ghost use Rattle.sn_overlay.specs.Layers.{through};
@@ -17,7 +18,7 @@ ghost use Rattle.sn_overlay_change.specs.Faults.{IfBelow};
 use crate::nodes::{NodeMoves, lost_of, node_moves_of};
 use sn_directories::{Directories, KeepsNames, LoggedTree};
 use sn_limits::Limits;
-use sn_logged::{PreparedChange, prepare_change};
+use sn_logged::{PreparedChange, change_charge, prepare_change};
 use sn_model::Change;
 use sn_overlay::{Overlay, Through};
 use sn_overlay_change::LayerFault;
@@ -31,13 +32,6 @@ pub struct PreparedLive {
 }
 
 impl PreparedLive {
-    /// The blocks that are charged for the change.
-    pub fn charge(&self) -> u128
-        ensures { result ≡ charge_of self.now }
-    {
-        self.change.charge()
-    }
-
     /// The file that loses its last name by the change, if one does.
     pub fn lost(&self) -> Option<u16>
         ensures { (limits : TheLimits) (tree after : Tree) (change : TheChange) → limits_of limits.version ≡ Some limits → CanBeMade limits self.now tree change → apply limits change tree ≡ Some after → LosesAtMost tree after result }
@@ -88,7 +82,6 @@ fn prepare_over<B: KeepsNames>(
     ensures prepared { IsTrue B.is_told → IfOk result (λ p. IsPrepared limits.now p (through (layer_of overlay.old) (B.shows below.old)) change.now) }
     ensures room { IfOk result (λ p. IfSome p (λ prepared. laid.HasRoomFor overlay.new prepared.change drops)) }
     ensures stays { TakesRoom overlay.old overlay.new (record { nodes = 0; names = 0; blocks = 0 }) }
-    ensures few { IfOk result (λ p. IfSome p (λ prepared. charge_of prepared ≤ 2 ^ 64)) }
     ensures cause { IfBelow result (λ f. B.causes below.old below.new f) }
 {
     let Some(laid) = prepare_change(alloc, limits, below, overlay, directories, change, drops)?
@@ -126,7 +119,6 @@ pub(crate) fn prepare_through<'x, B: KeepsNames>(
     ensures prepared { IsTrue B.is_told → IfOk result (λ p. IsPrepared limits.now p (through (layer_of top.old) (through (layer_of bottom.now) (B.shows below.old))) change.now) }
     ensures room { IfOk result (λ p. IfSome p (λ prepared. laid.HasRoomFor top.new prepared.change drops)) }
     ensures stays { TakesRoom top.old top.new (record { nodes = 0; names = 0; blocks = 0 }) }
-    ensures few { IfOk result (λ p. IfSome p (λ prepared. charge_of prepared ≤ 2 ^ 64)) }
     ensures cause { IfBelow result (λ f. B.causes below.old below.new f) }
 {
     let mut shown = Through {
@@ -134,4 +126,31 @@ pub(crate) fn prepare_through<'x, B: KeepsNames>(
         below,
     };
     prepare_over(alloc, limits, &mut shown, top, directories, change, drops)
+}
+
+/// What a change of what is seen through two overlays is charged.
+pub(crate) fn charge_through<'x, B: KeepsNames>(
+    limits: &Limits,
+    below: &'x mut B,
+    bottom: &'x Overlay,
+    top: &Overlay,
+    directories: &Directories,
+    change: &Change<'_>,
+) -> Result<u128, B::Fault>
+    requires holds { B.holds below.old }
+    requires version { limits_of limits.now.version ≡ Some limits.now }
+    requires lies { IsTrue B.is_told → LiesOver (layer_of bottom.now) (B.shows below.old) }
+    requires shown { IsTrue B.is_told → IsShown (layer_of top.now) (through (layer_of bottom.now) (B.shows below.old)) directories.now }
+    ensures kept { B.holds below.new }
+    ensures follows { B.follows below.old below.new }
+    ensures same { IsTrue B.is_told → B.shows below.new ≡ B.shows below.old }
+    ensures exact { IsTrue B.is_told → IfOk result (λ n. n ≡ charge_for limits.now (through (layer_of top.now) (through (layer_of bottom.now) (B.shows below.old))) change.now) }
+    ensures few { IfOk result (λ n. n ≤ 2 ^ 64) }
+    ensures cause { IfErr result (λ f. B.causes below.old below.new f) }
+{
+    let mut shown = Through {
+        overlay: bottom,
+        below,
+    };
+    change_charge(limits, &mut shown, top, directories, change)
 }

@@ -1,2 +1,3 @@
 pub mod Known
+pub mod Frozen
 pub mod Listing

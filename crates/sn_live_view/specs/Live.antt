@@ -1,6 +1,6 @@
 -- What is seen of the live tree and the frozen ones, and the table of the live one's numbers.
 use Rattle.sn_desc.specs.InUse.{InUse}
-use Rattle.sn_frozen.specs.Frozen.{FrozenTrees}
+use Rattle.sn_live_files.specs.Frozen.{FrozenTrees}
 use Rattle.sn_limits.specs.Versions.{limits_written}
 use Rattle.sn_model.specs.NameTree.{IsTree}
 use Rattle.sn_model.specs.Tree.{Tree}

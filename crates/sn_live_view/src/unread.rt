@@ -1,9 +1,9 @@
 use crate::Unread;
 use sn_acl::Acl;
 use sn_core_decide_rules::{CallView, FileFault, FileView, MoveView};
-use sn_frozen::HasSnapshots;
 use sn_limits::SnapshotName;
 use sn_live::LiveTree;
+use sn_live_files::HasSnapshots;
 use sn_model::{Names, Refusal};
 use sn_walk::{Attributes, Failure, Home, Object, TreeView};
 use std::alloc::Global;

@@ -1,5 +1,5 @@
 -- A change that is prepared, and laid over.
-use Rattle.std.proofs.Common.{◌≡◌, List, true, Option, Some, None, is_some, refl, sym, ap, subst, ◌∙◌, ℕ}
+use Rattle.std.proofs.Common.{◌≡◌, List, true, Option, Some, None, is_some, refl, sym, ap, subst, ◌∙◌}
 use Rattle.sn_directories.specs.Told.{IsShown, TellsDirectories}
 use Rattle.sn_directories.specs.declared.table.Counted.{Counted}
 use Rattle.sn_limits.proofs.VersionLemmas.{written_allows}
@@ -9,7 +9,6 @@ use Rattle.sn_model.proofs.AllowedLemmas.{change_stays}
 use Rattle.sn_model.specs.declared.change.Change.{Change}
 use Rattle.sn_model.specs.ChangeLaws.{ChangesKeepTheTree}
 use Rattle.sn_model.specs.Changes.{apply}
-use Rattle.sn_model.specs.Charges.{charge_for}
 use Rattle.sn_model.specs.NameTree.{IsHierarchy, IsTree}
 use Rattle.sn_model.specs.Tree.{Tree}
 use Rattle.sn_overlay.specs.Laws.{MergesLie, MergesShowBoth}
@@ -52,12 +51,12 @@ module _ (limits : Limits) (older : Layer) (below : Tree) (rows next : List Coun
 
 -- what was prepared over a tree that shows what was shown before
 module _ (limits : Limits) (now live : Tree) (same : now ≡ live) (change : Change) where
-  pub can_be_laid : (charge : ℕ) (moves : NameMoves) (newer : Overlay) → IsHierarchy live → (after : Tree) → apply limits change live ≡ Some after
+  pub can_be_laid : (moves : NameMoves) (newer : Overlay) → IsHierarchy live → (after : Tree) → apply limits change live ≡ Some after
       → ((a : Tree) → apply limits change now ≡ Some a → layer_of newer ≡ layer_of_change now change)
       → ((a : Tree) → IsHierarchy now → apply limits change now ≡ Some a → through (layer_of newer) now ≡ a)
       → ((a : Tree) → IsHierarchy now → apply limits change now ≡ Some a → LiesOver (layer_of newer) now)
-      → charge ≡ charge_for limits live change → moves ≡ moves_of live change → CanBeLaid limits (record { charge = charge; moves = moves; newer = newer }) live change
-  can_be_laid charge moves newer whole after applied layered shows lies charged moved =
+      → moves ≡ moves_of live change → CanBeLaid limits (record { moves = moves; newer = newer }) live change
+  can_be_laid moves newer whole after applied layered shows lies moved =
       let whole_now = subst IsHierarchy (sym same) whole in
       let applied_now = ap (apply limits change) same ∙ applied in
       record {
@@ -66,7 +65,6 @@ module _ (limits : Limits) (now live : Tree) (same : now ≡ live) (change : Cha
         layer = layered after applied_now ∙ ap (λ (t : Tree). layer_of_change t change) same;
         shows = subst (λ (t : Tree). through (layer_of newer) t ≡ after) same (shows after whole_now applied_now);
         lies = subst (LiesOver (layer_of newer)) same (lies after whole_now applied_now);
-        charged = charged;
         moves = moved;
       }
 

@@ -1,2 +1,3 @@
 pub mod MoveLemmas
 pub mod LaidLemmas
+pub mod ChargeLemmas

@@ -4,7 +4,7 @@ use Rattle.std.specs.FinMap as map
 use Rattle.sn_logged.specs.declared.moving.NameMoves.{NameMoves}
 use Rattle.sn_logged.specs.declared.moving.NameMoves.TheVariants.{Stay, Gain, Lose, Move}
 use Rattle.sn_model.specs.declared.change.Change.{Change}
-use Rattle.sn_model.specs.declared.change.Change.TheVariants.{Make, AddLink, Remove, Rename, Write, SetSize, SetAttributes}
+use Rattle.sn_model.specs.declared.change.Change.TheVariants.{Make, AddLink, Remove, Rename}
 use Rattle.sn_model.specs.declared.link.Link.{Link}
 use Rattle.sn_model.specs.Tree.{Tree, link_to}
 

@@ -1,17 +1,23 @@
 //! What a change is charged.
 ghost use Rattle.std.specs.Prelude.{◌≡◌, ◌+◌, ◌*◌, ◌≤◌, ◌^◌, Some, IsTrue, IfErr, IfOk, if◌then◌else◌};
 ghost use Rattle.std.specs.FinMap as map;
+ghost use Rattle.sn_directories.specs.Told.{IsShown};
+ghost use Rattle.sn_limits.specs.Versions.{limits_of};
 ghost use Rattle.sn_model.specs.Charges.{charge_for, file_under};
 ghost use Rattle.sn_model.specs.Tree.{link_to};
 ghost use Rattle.sn_model.specs.declared.link.Link.{Link};
+ghost use Rattle.sn_overlay.specs.Layers.{through};
+ghost use Rattle.sn_overlay.specs.Overlays.{layer_of};
 
 use sn_applies::NamedTree;
 use sn_core_decide_rules::{
     attributes_charge, blocks_spanned, name_charge, rename_charge, size_charge, unlink_charge,
     write_charge,
 };
+use sn_directories::{Directories, KeepsNames, LoggedTree};
 use sn_limits::{Kind, Limits};
 use sn_model::Change;
+use sn_overlay::{Overlay, Through};
 
 // Whether a number is a file's.
 fn is_file<T: NamedTree>(tree: &mut T, number: u16) -> Result<bool, T::Fault>
@@ -68,8 +74,8 @@ fn remove_charge<T: NamedTree>(
     Ok(u128::from(charge))
 }
 
-/// The blocks that are charged for a change of a tree. It looks a name up at most.
-pub(crate) fn charge<T: NamedTree>(
+// The blocks that are charged for a change of a tree. It looks a name up at most.
+fn charge<T: NamedTree>(
     limits: &Limits,
     tree: &mut T,
     change: &Change<'_>,
@@ -95,4 +101,32 @@ pub(crate) fn charge<T: NamedTree>(
         Change::SetSize { .. } => Ok(u128::from(size_charge(limits))),
         Change::SetAttributes { .. } => Ok(u128::from(attributes_charge(limits))),
     }
+}
+
+/// The blocks that are charged for a change of what is seen, by limits of any version that is read. It looks a name up at
+/// most; a fault is one of the tree below.
+///
+/// Proved: What a change of a tree that is read is charged is the model's, by the given limits, of any version that is read.
+pub fn change_charge<'x, B: KeepsNames>(
+    limits: &Limits,
+    below: &'x mut B,
+    overlay: &'x Overlay,
+    directories: &'x Directories,
+    change: &Change<'_>,
+) -> Result<u128, B::Fault>
+    requires holds { B.holds below.old }
+    requires version { limits_of limits.now.version ≡ Some limits.now }
+    requires shown { IsTrue B.is_told → IsShown (layer_of overlay.now) (B.shows below.old) directories.now }
+    ensures kept { B.holds below.new }
+    ensures follows { B.follows below.old below.new }
+    ensures same { IsTrue B.is_told → B.shows below.new ≡ B.shows below.old }
+    ensures exact { IsTrue B.is_told → IfOk result (λ n. n ≡ charge_for limits.now (through (layer_of overlay.now) (B.shows below.old)) change.now) }
+    ensures few { IfOk result (λ n. n ≤ 2 ^ 64) }
+    ensures cause { IfErr result (λ f. B.causes below.old below.new f) }
+{
+    let mut live = LoggedTree {
+        shown: Through { overlay, below },
+        directories,
+    };
+    charge(limits, &mut live, change)
 }

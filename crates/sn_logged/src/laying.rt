@@ -1,9 +1,9 @@
 //! A change laid over what is seen.
-ghost use Rattle.std.specs.Prelude.{◌≡◌, ℕ, ◌≤◌, ◌^◌, Some, IsTrue, IfOk, IfSome};
+ghost use Rattle.std.specs.Prelude.{◌≡◌, ℕ, Some, IsTrue, IfOk, IfSome};
 ghost use Rattle.sn_directories.specs.Told.{IsShown};
 ghost use Rattle.sn_limits.specs.Versions.{limits_of};
 ghost use Rattle.sn_limits.specs.declared.limits.Limits.{Limits as TheLimits};
-ghost use Rattle.sn_logged.specs.Laid.{CanBeLaid, HasRoomFor, IsPrepared, charge_of};
+ghost use Rattle.sn_logged.specs.Laid.{CanBeLaid, HasRoomFor, IsPrepared};
 ghost use Rattle.sn_model.specs.Changes.{apply};
 ghost use Rattle.sn_model.specs.Tree.{Tree};
 ghost use Rattle.sn_model.specs.declared.change.Change.{Change as TheChange};
@@ -38,7 +38,6 @@ fn prepare_over<'x, B: KeepsNames>(
     ensures follows { B.follows below.old below.new }
     ensures same { IsTrue B.is_told → B.shows below.new ≡ B.shows below.old }
     ensures found { IsTrue B.is_told → IfOk result (λ p. IsPrepared limits.now p (through (layer_of overlay.now) (B.shows below.old)) change.now) }
-    ensures few { IfOk result (λ p. IfSome p (λ prepared. prepared.charge ≤ 2 ^ 64)) }
     ensures cause { IfBelow result (λ f. B.causes below.old below.new f) }
 {
     let mut live = LoggedTree {
@@ -48,9 +47,9 @@ fn prepare_over<'x, B: KeepsNames>(
     prepare(alloc, limits, &mut live, change)
 }
 
-/// Reads and grows all that a change of what is seen asks for, where it can be applied under the limits: its layer, its
-/// charge, and room for it in the overlay, and for so many drops besides. `None` where it can't be applied. Nothing that is
-/// seen changes, and no room is lost, whatever the answer. A fault is one of the tree below, or of memory.
+/// Reads and grows all that a change of what is seen asks for, where it can be applied under the limits: its layer, and
+/// room for it in the overlay, and for so many drops besides. `None` where it can't be applied. Nothing that is seen changes,
+/// and no room is lost, whatever the answer. A fault is one of the tree below, or of memory.
 ///
 /// Proved, also of `commit_change`: All that reads, grows or may fail comes first, and leaves what is seen and the room that
 /// there was, whatever the answer; to lay over what was prepared takes no memory, can't fail, and leaves that room.
@@ -73,7 +72,6 @@ pub fn prepare_change<B: KeepsNames>(
     ensures prepared { IsTrue B.is_told → IfOk result (λ p. IsPrepared limits.now p (through (layer_of overlay.old) (B.shows below.old)) change.now) }
     ensures room { IfOk result (λ p. IfSome p (λ prepared. HasRoomFor overlay.new prepared drops)) }
     ensures stays { TakesRoom overlay.old overlay.new (record { nodes = 0; names = 0; blocks = 0 }) }
-    ensures few { IfOk result (λ p. IfSome p (λ prepared. charge_of prepared ≤ 2 ^ 64)) }
     ensures cause { IfBelow result (λ f. B.causes below.old below.new f) }
 {
     let Some(prepared) = prepare_over(alloc, limits, below, overlay, directories, change)? else {
@@ -88,8 +86,7 @@ pub fn prepare_change<B: KeepsNames>(
 /// there was besides the change. What the overlay makes different is then what it did, and what the change does besides.
 ///
 /// Proved, also of `prepare_change`: A change is laid over a tree that is read exactly where it can be applied, and what is
-/// seen and what it is charged are then the model's, by the given limits, of any version that is read; otherwise overlay and
-/// table are as they were.
+/// seen is then the model's, by the given limits, of any version that is read; otherwise overlay and table are as they were.
 /// Proved: What the overlay makes different after a change is what it did before, merged with exactly the layer of the
 /// change.
 /// Proved: Overlay and table are ready for the next change: the overlay lies over the tree, what is seen is a name tree, and

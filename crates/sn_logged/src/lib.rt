@@ -12,9 +12,10 @@
 //!
 //! 1. `specs/Moves`: what a change does to the names of directories. `specs/Laid`: what is prepared for a change, and the
 //!    result of a change that was laid over a tree.
-//! 2. `charging` reads what a change is charged, `moving` what it does to names, and notes it in the table.
+//! 2. `moving` reads what a change does to names, and notes it in the table.
 //! 3. [`prepare_change`] reads and grows all that a change asks for, and nothing that is seen changes; [`commit_change`] lays
 //!    it over, takes no memory and can't fail. Between the two a caller records the change.
+//! 4. [`change_charge`] reads what a change is charged. A replay asks for it; a call has it from its outcome.
 //!
 //! What the sources leave open is decided in `docs/DECISIONS.md`, under "What changed since a root".
 //!
@@ -31,5 +32,6 @@ mod laying;
 mod moving;
 mod preparing;
 
+pub use charging::change_charge;
 pub use laying::{commit_change, prepare_change};
 pub use preparing::PreparedChange;

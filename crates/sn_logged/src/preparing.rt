@@ -1,13 +1,12 @@
 //! What is read and grown for a change before it is laid over.
-ghost use Rattle.std.specs.Prelude.{◌≡◌, ◌≤◌, ◌^◌, Some, IsTrue, IfOk, IfSome};
+ghost use Rattle.std.specs.Prelude.{◌≡◌, Some, IsTrue, IfOk};
 ghost use Rattle.sn_limits.specs.Versions.{limits_of};
-ghost use Rattle.sn_logged.specs.Laid.{CanBeLaid, IsPrepared, charge_of};
+ghost use Rattle.sn_logged.specs.Laid.{CanBeLaid, IsPrepared};
 ghost use Rattle.sn_model.specs.Changes.{apply};
 ghost use Rattle.sn_model.specs.NameTree.{IsHierarchy};
 ghost use Rattle.sn_model.specs.Tree.{Tree};
 ghost use Rattle.sn_overlay_change.specs.Faults.{IfBelow};
 
-use crate::charging::charge;
 use crate::moving::{NameMoves, moves_of};
 use sn_applies::{NamedTree, applies};
 use sn_limits::Limits;
@@ -16,22 +15,12 @@ use sn_overlay::Overlay;
 use sn_overlay_change::{LayerFault, of_change};
 use std::alloc::Global;
 
-/// A change that can be applied to what is seen, with all that it asks of it: what it is charged, what it does to names,
-/// and what it makes different.
+/// A change that can be applied to what is seen, with all that it asks of it: what it does to names, and what it makes
+/// different.
 #[derive(Drop)]
 pub struct PreparedChange {
-    pub(crate) charge: u128,
     pub(crate) moves: NameMoves,
     pub(crate) newer: Overlay,
-}
-
-impl PreparedChange {
-    /// The blocks that are charged for the change.
-    pub fn charge(&self) -> u128
-        ensures { result ≡ charge_of self.now }
-    {
-        self.charge
-    }
 }
 
 // What is prepared for a change that can be applied.
@@ -48,23 +37,14 @@ fn prepare_possible<T: NamedTree>(
     ensures same { IsTrue T.is_told → T.shows tree.new ≡ T.shows tree.old }
     ensures found { IsTrue T.is_told → IsHierarchy (T.shows tree.old) → (after : Tree) → apply limits.now change.now (T.shows tree.old) ≡ Some after
         → IfOk result (λ p. CanBeLaid limits.now p (T.shows tree.old) change.now) }
-    ensures few { IfOk result (λ p. p.charge ≤ 2 ^ 64) }
     ensures cause { IfBelow result (λ f. T.causes tree.old tree.new f) }
 {
-    let charge = match charge(limits, tree, change) {
-        Ok(charge) => charge,
-        Err(fault) => return Err(LayerFault::Below(fault)),
-    };
     let moves = match moves_of(tree, change) {
         Ok(moves) => moves,
         Err(fault) => return Err(LayerFault::Below(fault)),
     };
     let newer = of_change(alloc, limits, tree, change)?;
-    Ok(PreparedChange {
-        charge,
-        moves,
-        newer,
-    })
+    Ok(PreparedChange { moves, newer })
 }
 
 /// What is prepared for a change, `None` where it can't be applied.
@@ -80,7 +60,6 @@ pub(crate) fn prepare<T: NamedTree>(
     ensures follows { T.follows tree.old tree.new }
     ensures same { IsTrue T.is_told → T.shows tree.new ≡ T.shows tree.old }
     ensures found { IsTrue T.is_told → IsHierarchy (T.shows tree.old) → IfOk result (λ p. IsPrepared limits.now p (T.shows tree.old) change.now) }
-    ensures few { IfOk result (λ p. IfSome p (λ prepared. prepared.charge ≤ 2 ^ 64)) }
     ensures cause { IfBelow result (λ f. T.causes tree.old tree.new f) }
 {
     match applies(limits, tree, change) {

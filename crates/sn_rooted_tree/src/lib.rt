@@ -15,7 +15,7 @@
 //! 2. `seeing` reads a node with its ACLs and a block of a file, as overlays show them.
 //! 3. [`RootedTree`], which is a `Below` of `sn_overlay`, and keeps names for `sn_directories`; `listing` reads bytes of a
 //!    file and lists the names of a directory for `sn_live_files`. `frozen` finds a snapshot by its name and looks up in
-//!    its tree, for `sn_frozen`; `specs/Frozen` says when that tree can be read.
+//!    its tree, for `sn_live_files`; `specs/Frozen` says when that tree can be read.
 //! 4. [`directories_of`] counts the names of each directory once, and notes which directory each is in.
 //! 5. [`numbers_of`] notes which numbers have a node, and which of these are files that have no name. [`nameless_of`] counts
 //!    these files alone.

@@ -20,7 +20,7 @@ pub trait HasSnapshots: Below {
     ghost use Rattle.std.specs.Prelude.{◌≡◌, ◌+◌, ◌<◌, ◌^◌, IsTrue, IfOk, IfErr, drop, length, take};
     ghost use Rattle.std.specs.FinMap as map;
     ghost use Rattle.sn_core_decide_rules.specs.Faults.{IfLookUp};
-    ghost use Rattle.sn_frozen.specs.Frozen.{FrozenTrees, bytes_at, seen_at};
+    ghost use Rattle.sn_live_files.specs.Frozen.{FrozenTrees, bytes_at, seen_at};
     ghost use Rattle.sn_model.specs.Seen.{names_if};
     ghost use Rattle.sn_model.specs.Settling.{nameless_if};
 
