@@ -1,3 +1,4 @@
+pub mod LookedLemmas
 pub mod MountedLemmas
 pub mod PointedLemmas
 pub mod ServedLemmas

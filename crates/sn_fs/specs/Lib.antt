@@ -1,1 +1,2 @@
 pub mod Filesystem
+pub mod Looking

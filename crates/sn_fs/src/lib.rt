@@ -40,6 +40,7 @@ mod calling;
 mod changing;
 mod fault;
 mod fs;
+mod looking;
 mod mounting;
 mod pointing;
 mod reading;

@@ -15,7 +15,8 @@
 //! The way through: `specs/Live` says which trees are seen, and when a table belongs to one; `reads` has what
 //! is made of one look-up, and `view` and `files` the view, [`LiveView`]. `deciding` decides a call over a live tree
 //! of `sn_live` and the root below it, [`decide_live`]. `unread` is a view of which nothing is read: by it
-//! [`decide_unread`] decides what needs no look-up, and says of each other call that its arguments have passed.
+//! [`decide_unread`] decides what needs no look-up, and says of each other call that its arguments have passed. `looking`
+//! finds what user 0 finds, beside the calls, [`look_up`].
 //!
 //! What the sources leave open is decided in `docs/DECISIONS.md`, under "Reading a root on demand".
 //!
@@ -28,10 +29,12 @@
 mod deciding;
 mod fault;
 mod files;
+mod looking;
 mod reads;
 mod unread;
 mod view;
 
 pub use deciding::{decide_live, decide_unread};
 pub use fault::Unread;
+pub use looking::{Known, Sought, look_up};
 pub use view::LiveView;

@@ -19,10 +19,12 @@
 //! files without names, and [`LiveWorld::restore`] puts it in the live tree's place once a consistency point has made it a
 //! root. The second takes no memory and can't fail.
 //!
+//! [`LiveWorld::look_up`] finds what user 0 finds, beside the calls.
+//!
 //! The way through: `specs/World` says which world is shown, `specs/Faults` what a fault does to the device, `specs/Turned` what
 //! a caller leaves, and `specs/Restored` what a snapshot is brought back as. `world` has the state, and `pointing`
 //! consistency points that begin and end; `deciding`, `choosing`, `changing` and `calling` have the parts of a call.
-//! `opening` makes the live tree of a root, and `restoring` brings a snapshot back.
+//! `opening` makes the live tree of a root, `restoring` brings a snapshot back, and `looking` looks at what is there.
 //!
 //! What the sources leave open is decided in `docs/DECISIONS.md`, under "Reading a root on demand".
 //!
@@ -37,6 +39,7 @@ mod changing;
 mod choosing;
 mod deciding;
 mod fault;
+mod looking;
 mod opening;
 mod pointing;
 mod restoring;

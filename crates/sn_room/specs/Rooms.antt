@@ -1,5 +1,5 @@
 -- Room: what calls are charged against the free blocks.
-use Rattle.std.specs.Prelude.{ℕ, ◌+◌, ◌*◌, ◌≤◌, Bool, true, false, nat_le, if◌then◌else◌}
+use Rattle.std.specs.Prelude.{ℕ, ◌+◌, ◌-◌, ◌*◌, ◌≤◌, Bool, true, false, nat_le, if◌then◌else◌}
 use Rattle.sn_limits.specs.declared.limits.Limits.{Limits}
 use Rattle.sn_model.specs.declared.change.Change.TheVariants.{Remove}
 use Rattle.sn_model.specs.declared.outcome.Outcome.{Outcome}
@@ -37,6 +37,10 @@ charged_behind limits room nameless o = room.charged + o.charge + limits.inode_c
 -- a call with this outcome fits, where so many live files have no name
 abbrev pub fits : Limits → RoomCounts → ℕ → Outcome → Bool
 fits limits room nameless o = nat_le (charged_behind limits room nameless o + (if gives_back o.change then 0 else limits.reserve)) room.free
+
+-- what is free beyond what is charged, with an inode's charge for each parked file; 0 where that is more
+abbrev pub left : Limits → RoomCounts → ℕ → ℕ
+left limits room nameless = room.free - (room.charged + limits.inode_charge * parked room nameless)
 
 -- what was charged, with an inode's charge for each file that was dropped, is no more than is free
 abbrev pub is_covered : Limits → RoomCounts → Bool

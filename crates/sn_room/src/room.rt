@@ -1,6 +1,6 @@
 //! What is kept of room.
 ghost use Rattle.std.specs.Prelude.{◌≡◌, ◌+◌, ◌<◌, ◌≤◌, ◌^◌, IfNone, IfSome, IsTrue, false, true};
-ghost use Rattle.sn_room.specs.Rooms.{begun, charged_behind, done, dropping, fits, fresh, gives_back, is_covered, logged, mounted};
+ghost use Rattle.sn_room.specs.Rooms.{begun, charged_behind, done, dropping, fits, fresh, gives_back, is_covered, left, logged, mounted};
 
 use sn_limits::Limits;
 use sn_model::{Change, Outcome, Pending};
@@ -79,6 +79,16 @@ impl Room {
         ensures { result ≡ self.now.free }
     {
         self.free
+    }
+
+    /// The blocks that calls can still be charged for: those that are free, less what is charged and an inode's charge for
+    /// each parked file. So many live files have no name. The reserve is among them.
+    pub fn left(&self, limits: &Limits, nameless: u32) -> u32
+        ensures { result ≡ left limits.now self.now nameless }
+    {
+        let parked = u128::from(nameless) + u128::from(self.dropped);
+        let charged = u128::from(self.charged) + u128::from(limits.inode_charge) * parked;
+        u128::from(self.free).saturating_sub(charged) as u32
     }
 
     /// Whether a call with this outcome fits, where so many live files have no name.

@@ -2,12 +2,14 @@
 
 use crate::asking::{event_of, getacl, line_of, mkdir, number_of, stat};
 use crate::devices::{least_device, new_device};
+use crate::looking::{line_of_known, line_of_node, object_of};
 use crate::mounted::Mounted;
 use crate::tears::crashed;
 use anyhow::{Result, bail, ensure};
 use sn_device::{Device, Fill, MemDevice, SECTOR_SIZE, Sector};
 use sn_mkfs::mkfs;
 use sn_model::{AclKind, Call, Event, FileData, MountFault, Reply};
+use sn_walk::Path;
 use std::alloc::Global;
 use std::mem;
 
@@ -202,6 +204,42 @@ impl Disk {
     pub fn free(&self) -> Result<u32> {
         match &self.state {
             State::Mounted(mounted) => Ok(mounted.free()),
+            State::Unmounted(_) => bail!("a disk that isn't mounted"),
+        }
+    }
+
+    /// The line of what a path leads user 0 to.
+    pub fn find(&mut self, path: &str) -> Result<String> {
+        let Ok(path) = Path::parse(path.as_bytes()) else {
+            bail!("no path");
+        };
+        match &mut self.state {
+            State::Mounted(mounted) => line_of_known(self.alloc, &mounted.find(path)),
+            State::Unmounted(_) => bail!("a disk that isn't mounted"),
+        }
+    }
+
+    /// The line of what is known of the node with this number in a tree, `live` or a snapshot's.
+    pub fn node(&mut self, tree: &str, number: u16) -> Result<String> {
+        let object = object_of(tree, number)?;
+        match &mut self.state {
+            State::Mounted(mounted) => line_of_node(self.alloc, &mounted.node(object)),
+            State::Unmounted(_) => bail!("a disk that isn't mounted"),
+        }
+    }
+
+    /// The blocks that calls can still be charged for.
+    pub fn left(&self) -> Result<u32> {
+        match &self.state {
+            State::Mounted(mounted) => Ok(mounted.left()),
+            State::Unmounted(_) => bail!("a disk that isn't mounted"),
+        }
+    }
+
+    /// The sectors that records can still take.
+    pub fn log_left(&self) -> Result<u64> {
+        match &self.state {
+            State::Mounted(mounted) => Ok(mounted.log_left()),
             State::Unmounted(_) => bail!("a disk that isn't mounted"),
         }
     }

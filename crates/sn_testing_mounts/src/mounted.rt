@@ -2,7 +2,10 @@
 
 use sn_device::MemDevice;
 use sn_fs::{Fs, Unmounted, mount};
+use sn_live_view::Known;
+use sn_live_world::LookFault;
 use sn_model::{Call, Reply};
+use sn_walk::{Attributes, Object, Path};
 use std::alloc::Global;
 use std::marker::Model;
 
@@ -39,6 +42,26 @@ impl Mounted {
     /// The free blocks of the root that counts.
     pub fn free(&self) -> u32 {
         self.fs.free()
+    }
+
+    /// What a path leads user 0 to.
+    pub fn find(&mut self, path: Path<'_>) -> Result<Option<Known>, LookFault> {
+        self.fs.find(path)
+    }
+
+    /// What is known of an object.
+    pub fn node(&mut self, object: Object) -> Result<Option<Attributes>, LookFault> {
+        self.fs.node(object)
+    }
+
+    /// The blocks that calls can still be charged for.
+    pub fn left(&self) -> u32 {
+        self.fs.left()
+    }
+
+    /// The sectors that records can still take.
+    pub fn log_left(&self) -> u64 {
+        self.fs.log_left()
     }
 
     /// Makes a whole consistency point.

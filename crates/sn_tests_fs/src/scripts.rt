@@ -12,13 +12,15 @@ const FILLING: u8 = 0x5a;
 pub fn run(report: &mut Report<'_>) -> Result<()> {
     report.script("fs/calls.txt", replies)?;
     report.script("fs/room.txt", replies_in_little_room)?;
-    report.script("fs/numbers.txt", replies_in_little_room)
+    report.script("fs/numbers.txt", replies_in_little_room)?;
+    report.script("fs/looks.txt", replies_in_little_room)
 }
 
 /// A line for each line of a script, of steps, calls, and lines that other scripts don't have: `crash` and a fill stand for
 /// a crash and a mount, `new` for a mount of the least disk, which was just formatted, `fill`, a descriptor and a count for a
 /// write of so many bytes by session 0, `number` and a path for the number of what is there, `free` for the blocks that the
-/// root that counts leaves free, and `point` for steps until one isn't followed by more.
+/// root that counts leaves free, `find` and a path, and `node`, a tree and a number, for what is there, `left` and `log` for the
+/// blocks and sectors that are left, and `point` for steps until one isn't followed by more.
 fn replies(alloc: Global, script: &str) -> Result<String> {
     let mut disk = Disk::large(alloc)?;
     replies_on(alloc, &mut disk, script)
@@ -46,6 +48,8 @@ fn push_answer(alloc: Global, disk: &mut Disk, line: &str, text: &mut String) ->
         "crash" => push_crash(disk, rest, text),
         "free" => push_number(disk.free()?, text),
         "number" => push_number_at(disk, rest, text),
+        "left" => push_number(disk.left()?, text),
+        "log" => push_number(disk.log_left()?.try_into()?, text),
         _ => push_reply(disk, line, text),
     }
 }
@@ -83,9 +87,11 @@ fn told(disk: &mut Disk, line: &str) -> Result<String> {
     if line == "point" {
         return last_step(disk);
     }
-    match line.strip_prefix("fill ") {
-        Some(words) => filled(disk, words),
-        None => disk.ask(line),
+    match line.split_once(' ') {
+        Some(("fill", words)) => filled(disk, words),
+        Some(("find", path)) => disk.find(path),
+        Some(("node", words)) => node(disk, words),
+        _ => disk.ask(line),
     }
 }
 
@@ -98,6 +104,12 @@ fn last_step(disk: &mut Disk) -> Result<String> {
         }
     }
     bail!("a point without an end")
+}
+
+/// What is known of a number in a tree.
+fn node(disk: &mut Disk, words: &str) -> Result<String> {
+    let (tree, number) = words.split_once(' ').context("no number")?;
+    disk.node(tree, number.parse()?)
 }
 
 /// What the write of a descriptor and a count is answered.
