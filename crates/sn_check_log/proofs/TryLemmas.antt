@@ -1,5 +1,5 @@
 -- What look-ups that failed make of a check.
-use Rattle.std.proofs.Common.{◌≡◌, ℕ, Bool, false, not, ◌&&◌, Option, Some, None, ap, ◌∙◌}
+use Rattle.std.proofs.Common.{◌≡◌, ℕ, Bool, false, not, ◌&&◌, Option, Some, None, ap, sym, ◌∙◌}
 use Rattle.sn_block.specs.declared.fault.ReadFault.TheVariants.{Device, Memory}
 use Rattle.sn_device.specs.Status.{has_ended}
 use Rattle.sn_device.specs.declared.status.Status.{Status}
@@ -10,19 +10,24 @@ use Rattle.sn_examine.specs.Replaying.{Breaks}
 use Rattle.sn_examine.proofs.ReplayLemmas.{fails_reading, idle}
 use Rattle.sn_limits.specs.Versions.{limits_written}
 use Rattle.sn_limits.specs.declared.limits.Limits.{Limits}
-use Rattle.sn_live.specs.Live.{kept_back_of, kept_since_of}
+use Rattle.sn_live.specs.Live.{changes_of, kept_back_of, kept_since_of, shown_of}
 use Rattle.sn_live.specs.declared.live.LiveTree.{LiveTree}
+use Rattle.sn_model.specs.Changes.{apply}
+use Rattle.sn_model.specs.Charges.{charge_for}
 use Rattle.sn_model.specs.NameTree.{IsTree}
 use Rattle.sn_model.specs.Tree.{Tree}
 use Rattle.sn_model.specs.declared.change.Change.{Change}
 use Rattle.sn_model.specs.declared.change.Change.TheVariants.{Make, AddLink, Remove, Rename, Write, SetSize, SetAttributes}
 use Rattle.sn_model.specs.declared.fault.MountFault.{MountFault}
 use Rattle.sn_model.specs.declared.fault.MountFault.TheVariants as fault
+use Rattle.sn_overlay.specs.Layers.{Layer}
+use Rattle.sn_overlay.specs.Merges.{merge}
+use Rattle.sn_overlay_change.specs.ChangeLayers.{layer_of_change}
 use Rattle.sn_number_table.specs.Numbers.{kept_after, since_after}
 use Rattle.sn_rooted_tree.specs.Looks.{Stands}
 use Rattle.sn_tree_read.specs.declared.fault.TreeFault.{TreeFault}
 use Rattle.sn_tree_read.specs.declared.fault.TreeFault.TheVariants.{Read, Damaged}
-use Rattle.sn_check_log.specs.Trying.{IsTried, KeepsNone, tree_of}
+use Rattle.sn_check_log.specs.Trying.{IsTried, KeepsNone, MakesChange, tree_of}
 
 -- nothing was written, whether a look-up failed or not
 pub looked_only : (told : Bool) (old new : Status) (fault : Option TreeFault) → Stands told old new None fault → WritesNothing old new
@@ -72,3 +77,13 @@ older_fails limits fault.Version c from n epoch b = b
 older_fails limits fault.NoRoot c from n epoch b = b
 older_fails limits fault.Memory c from n epoch b = tt
 older_fails limits fault.Device c from n epoch b = tt
+
+-- where another live tree shows the same, and the same changed of it
+pub same_change : (limits : Limits) (charge : ℕ) (old mid new : LiveTree) (below : Tree) (change : Change) → shown_of mid below ≡ shown_of old below → changes_of mid ≡ changes_of old
+    → charge ≡ charge_for limits (shown_of old below) change → MakesChange limits (charge_for limits (shown_of mid below) change) (Some mid) below change (Some new)
+    → MakesChange limits charge (Some old) below change (Some new)
+same_change limits charge old mid new below change shows changes charged m = record {
+  applied = ap (apply limits change) (sym shows) ∙ m.applied;
+  charged = charged;
+  merged = m.merged ∙ ap (λ (l : Layer). merge l (layer_of_change (shown_of mid below) change)) changes ∙ ap (λ (t : Tree). merge (changes_of old) (layer_of_change t change)) shows;
+}

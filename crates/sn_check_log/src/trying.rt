@@ -1,11 +1,16 @@
 //! One change, tried over what is shown.
 ghost use Rattle.std.specs.Prelude.{◌≡◌, ◌≤◌, ◌^◌, Some, IsTrue, IfErr, IfOk, IfSome, OnOk};
 ghost use Rattle.sn_block.specs.Lending.{device_of};
-ghost use Rattle.sn_check_log.specs.Trying.{HasNoPointIf, IsTried, KeepsNone, KeepsNoneIf, TriesChange, changes_if, tree_of};
+ghost use Rattle.sn_check_log.specs.Trying.{HasNoPointIf, IsTried, KeepsNone, KeepsNoneIf, MakesChange, TriesChange, changes_if, tree_of};
 ghost use Rattle.sn_examine.specs.Failing.{FailsAs, WritesNothing};
 ghost use Rattle.sn_examine.specs.Rooms.{IsNoDamage};
 ghost use Rattle.sn_limits.specs.Versions.{limits_of};
+ghost use Rattle.sn_limits.specs.declared.limits.Limits.{Limits as TheLimits};
 ghost use Rattle.sn_live.specs.Live.{HasNoPoint, IsLive, changes_of, point_of, shown_of};
+ghost use Rattle.sn_live.specs.Prepared.{CanBeMade, HasRoomFor};
+ghost use Rattle.sn_model.specs.Charges.{charge_for};
+ghost use Rattle.sn_model.specs.Tree.{Tree};
+ghost use Rattle.sn_model.specs.declared.change.Change.{Change as TheChange};
 ghost use Rattle.sn_rooted.specs.Roots.{IsSoundOn, tree_on};
 
 use crate::opening::live_over;
@@ -15,7 +20,7 @@ use sn_directories::KeepsNames;
 use sn_examine::fault_of_tree;
 use sn_layout::{Geometry, RootBody};
 use sn_limits::Limits;
-use sn_live::LiveTree;
+use sn_live::{LiveTree, PreparedLive};
 use sn_model::{Change, MountFault};
 use sn_overlay_change::LayerFault;
 use sn_rooted_tree::RootedTree;
@@ -31,9 +36,21 @@ pub struct CheckedRoot<'a> {
     pub geometry: Geometry,
 }
 
+// Makes a change that was prepared.
+fn make_change(live: &mut LiveTree, prepared: PreparedLive)
+    requires { HasRoomFor live.old prepared 0 }
+    ensures live { (limits : TheLimits) (below : Tree) (change : TheChange) → limits_of limits.version ≡ Some limits → IsLive live.old below → CanBeMade limits prepared (shown_of live.old below) change → IsLive live.new below }
+    ensures made { (limits : TheLimits) (below : Tree) (change : TheChange) → limits_of limits.version ≡ Some limits → IsLive live.old below → CanBeMade limits prepared (shown_of live.old below) change
+        → MakesChange limits (charge_for limits (shown_of live.old below) change) (Some live.old) below change (Some live.new) }
+    ensures keeps { (limits : TheLimits) (tree : Tree) (change : TheChange) → limits_of limits.version ≡ Some limits → CanBeMade limits prepared tree change → KeepsNone live.old → KeepsNone live.new }
+    ensures point { point_of live.new ≡ point_of live.old }
+{
+    live.commit(prepared);
+}
+
 // Makes a change of what is shown of a tree below, where it can be applied under the limits, and answers what it is charged by
 // them. `None` where it can't be applied.
-fn make_change<B: KeepsNames>(
+fn try_over<B: KeepsNames>(
     alloc: Global,
     limits: &Limits,
     live: &mut LiveTree,
@@ -58,7 +75,7 @@ fn make_change<B: KeepsNames>(
     let Some(prepared) = live.prepare(alloc, limits, below, change, 0)? else {
         return Ok(None);
     };
-    live.commit(prepared);
+    make_change(live, prepared);
     Ok(Some(charge))
 }
 
@@ -91,7 +108,7 @@ fn try_change<D: Device>(
         root: it.root,
         fault: None,
     };
-    let made = make_change(alloc, &it.root.limits, live, &mut tree, change);
+    let made = try_over(alloc, &it.root.limits, live, &mut tree, change);
     match tree.fault {
         Some(fault) => Err(fault_of_tree(fault, it.body)),
         None => match made {

@@ -46,8 +46,11 @@
 pub use sn_check::{Verdict, check};
 pub use sn_device::{Device, Fault, Fill, MemDevice};
 pub use sn_fs::{Fs, StillMounted, Unmounted, mount};
+pub use sn_live_view::Known;
+pub use sn_live_world::LookFault;
 pub use sn_mkfs::{MkfsFault, Unformatted, mkfs};
 pub use sn_model::{
     Call, Damage, End, Errno, Event, Groups, MountFault, OpenFlags, Progress, Refusal, Reply, Word,
 };
 pub use sn_run::{Ran, Unwatched, Watch, run};
+pub use sn_walk::{Attributes, Home, Object, Path};

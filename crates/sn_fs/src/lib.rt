@@ -15,6 +15,8 @@
 //!   point in progress is finished first (`HasFinished`), and a whole one comes where that isn't enough (`HasMadePoint`);
 //!   else none. Each failure has a cause: EIO where the device failed, ENOSPC where the call doesn't fit right after that point.
 //! - [`Fs::step`]: begins a point, continues it, or ends it (`LeavesStep`), which changes no world.
+//! - [`Fs::find`], [`Fs::node`]: what user 0 finds in the world, by a path or as an object, beside the calls; [`Fs::left`],
+//!   [`Fs::log_left`]: how much of the disk and of the log later calls can have.
 //! - [`Fs::unmount`]: makes a whole one of the tree without the files that have no name, and hands the device back; or
 //!   it is refused as a step is, and the file system is there still.
 //! - [`mount`]: where the contents are an image of a world, that world runs; from the first sync on every
@@ -24,7 +26,7 @@
 //! The way through: `sn_held` says what is meant, and of what the disk is an image, `sn_events` what each event leads to. A
 //! call is decided in `reading`, by `sn_live_world`; `serving` asks whether it lacks something and does it, `changing`
 //! reads and grows all that its change needs, then appends its record, and last makes it, `pointing` makes points of what
-//! changed since the root, whole or in steps, by `sn_cp_whole`, and `calling` puts them together; `unmounting` makes the
+//! changed since the root, whole or in steps, by `sn_cp_whole`, and `calling` puts them together; `looking` looks at what is there; `unmounting` makes the
 //! last one, and a mount is `sn_mount`'s.
 //!
 //! What the sources leave open is decided in `docs/DECISIONS.md`, under "Mount and calls over a device".
