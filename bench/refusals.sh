@@ -11,7 +11,7 @@
 # the unmount behind the last reply, `snapfs: stopped` alone is told.
 #
 # A check with one refusal, of an image with records in its log, gives the verdict that it gives without it, or
-# `snapfs: memory`, `snapfs: M5` or `snapfs: file`.
+# `snapfs: memory`, `snapfs: M5` or `snapfs: file`. An export of that image writes the archive or its front.
 #
 # A part of the test program with one refusal may say that it found no memory, or that the device in memory has come to its end for
 # want of it; that of builds makes one that was refused memory again, of the same root and overlay, and goes on. Each case that it finds wrong has to be so for
@@ -164,6 +164,20 @@ fresh
 "$program" check "$work/logged" > "$work/whole"
 judge=verdict before=:
 each_refused "$program" check "$work/logged"
+
+# An export with one refusal writes the whole archive, with status 0 or where only the unmount was refused, or the front of it.
+exported() {
+    if [ "$1" = 0 ]; then
+        cmp -s "$work/out" "$work/whole"
+    else
+        grep -qxE 'snapfs: (memory|M5|file)' "$work/err" && head -c "$(wc -c < "$work/out")" "$work/whole" | cmp -s - "$work/out"
+    fi
+}
+cp "$work/logged" "$work/kept"
+fresh_logged() { cp "$work/kept" "$work/logged"; }
+"$program" export "$work/logged" / > "$work/whole"
+judge=exported before=fresh_logged
+each_refused "$program" export "$work/logged" /
 
 judge=tested
 folder=$top/crates/sn_tests

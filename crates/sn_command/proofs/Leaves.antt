@@ -6,7 +6,7 @@ use Rattle.clap.specs.Simple.{App, Shape, built_leaf, inherited}
 use Rattle.clap.specs.Walk.{Held, Text, idle, rows_after}
 use Rattle.clap.specs.Words.{first_of}
 use Rattle.clap.proofs.OnLiterals.{clap_on_literals}
-use Rattle.sn_command.specs.Commands.{check, mkfs, run, stop_at, top}
+use Rattle.sn_command.specs.Commands.{check, export, mkfs, run, stop_at, top}
 use Rattle.sn_command.specs.Words.{is_misfit}
 use Rattle.sn_command.proofs.LeafLemmas.{is_none, leaf_fault, leaf_is, or_else_some, rows_are, start}
 use Rattle.sn_command.proofs.WalkLemmas.{IsOpen, OpenAlong, faults_along, front_fits}
@@ -190,3 +190,42 @@ pub check_words : (words : List Text) → list_any is_misfit words ≡ false →
 check_words [] fit e = absurd (true≢false (sym (ap is_none e) ∙ check_0))
 check_words (a ∷ []) fit e = (a, refl)
 check_words (a ∷ d ∷ more) fit e = absurd (true≢false (sym (ap is_none e) ∙ check_more a d more fit))
+
+-- ---- export
+
+export_open : (a b : Text) → OpenAlong (leaf export).rules start (a ∷ b ∷ [])
+export_open a b = (opened _ _, (opened _ _, tt))
+
+pub export_fits : (a b : Text) → list_any is_misfit (a ∷ b ∷ []) ≡ false → leaf_fault (leaf export) (a ∷ b ∷ []) ≡ []
+unfolding clap_on_literals
+export_fits a b fit = leaf_is (leaf export) (a ∷ b ∷ []) fit (export_open a b) ∙ refl
+
+pub export_image : (a b : Text) → list_any is_misfit (a ∷ b ∷ []) ≡ false → first_of (codes "IMAGE") (rows_after (leaf export).rules [] (a ∷ b ∷ [])) ≡ Some a
+unfolding clap_on_literals
+export_image a b fit = ap (first_of (codes "IMAGE")) (rows_are (leaf export) (a ∷ b ∷ []) fit (export_open a b)) ∙ refl
+
+pub export_path : (a b : Text) → list_any is_misfit (a ∷ b ∷ []) ≡ false → first_of (codes "PATH") (rows_after (leaf export).rules [] (a ∷ b ∷ [])) ≡ Some b
+unfolding clap_on_literals
+export_path a b fit = ap (first_of (codes "PATH")) (rows_are (leaf export) (a ∷ b ∷ []) fit (export_open a b)) ∙ refl
+
+export_0 : is_none (leaf_fault (leaf export) []) ≡ false
+unfolding clap_on_literals
+export_0 = refl
+
+export_1 : (a : Text) → list_any is_misfit (a ∷ []) ≡ false → is_none (leaf_fault (leaf export) (a ∷ [])) ≡ false
+unfolding clap_on_literals
+export_1 a fit = ap is_none (leaf_is (leaf export) (a ∷ []) fit (opened _ _, tt)) ∙ refl
+
+export_more : (a b d : Text) (more : List Text) → list_any is_misfit (a ∷ b ∷ d ∷ more) ≡ false → is_none (leaf_fault (leaf export) (a ∷ b ∷ d ∷ more)) ≡ false
+unfolding clap_on_literals
+export_more a b d more fit =
+    let front : list_any is_misfit (a ∷ b ∷ d ∷ []) ≡ false = front_fits (a ∷ b ∷ d ∷ []) more fit in
+    let opens : OpenAlong (leaf export).rules start (a ∷ b ∷ d ∷ []) = (opened _ _, (opened _ _, (opened _ _, tt))) in
+    or_else_some (walk_fault (leaf export) [] start (a ∷ b ∷ d ∷ more)) _ (ap is_none (faults_along (leaf export) start (a ∷ b ∷ d ∷ []) more front opens) ∙ refl)
+
+-- it takes 2 words
+pub export_words : (words : List Text) → list_any is_misfit words ≡ false → leaf_fault (leaf export) words ≡ [] → (a : Text) × (b : Text) × (words ≡ a ∷ b ∷ [])
+export_words [] fit e = absurd (true≢false (sym (ap is_none e) ∙ export_0))
+export_words (a ∷ []) fit e = absurd (true≢false (sym (ap is_none e) ∙ export_1 a fit))
+export_words (a ∷ b ∷ []) fit e = (a, b, refl)
+export_words (a ∷ b ∷ d ∷ more) fit e = absurd (true≢false (sym (ap is_none e) ∙ export_more a b d more fit))

@@ -9,7 +9,7 @@ use Rattle.clap.specs.Kinds.{Kinds, or_else}
 use Rattle.clap.specs.Walk.{Names, Text, Walk, finished, idle, nothing_held, rows_after, settled, subcommand_met, walk, walked}
 use Rattle.clap.proofs.OnLiterals.{clap_on_literals}
 use Rattle.clap.proofs.WalkLemmas.{walk_stopped}
-use Rattle.sn_command.specs.Commands.{check, mkfs, run, snapfs, stop_at}
+use Rattle.sn_command.specs.Commands.{check, export, mkfs, run, snapfs, stop_at}
 use Rattle.sn_command.specs.Words.{is_misfit}
 use Rattle.sn_command.proofs.LeafLemmas.{is_none, leaf_fault, or_else_some, start}
 use Rattle.sn_command.proofs.Leaves.{leaf}
@@ -109,6 +109,23 @@ check_faults words = ap₂ by_walk (check_walk_faults words) (check_walk words) 
 pub check_entered : (words : List Text) → subcommand_of snapfs (codes "check" ∷ words) ≡ Some (codes "check", rows_after (leaf check).rules [] words)
 check_entered words = ap (λ (w : Walk). entered whole w.stopped) (check_walk words)
 
+-- ---- export
+
+export_walk : (words : List Text) → walk whole.top.rules names nothing_held (codes "export" ∷ words) ≡ met (codes "export") words
+unfolding walked
+export_walk words = sym (walk_stopped whole.top.rules names start (codes "export") [] words)
+
+export_walk_faults : (words : List Text) → walk_fault whole.top names start (codes "export" ∷ words) ≡ []
+unfolding walk_fault walked
+export_walk_faults words = stopped_faults whole.top start (codes "export") [] words
+
+pub export_faults : (words : List Text) → fault_of snapfs (codes "export" ∷ words) ≡ leaf_fault (leaf export) words
+unfolding defaults_fault
+export_faults words = ap₂ by_walk (export_walk_faults words) (export_walk words) ∙ or_else_none (leaf_fault (leaf export) words)
+
+pub export_entered : (words : List Text) → subcommand_of snapfs (codes "export" ∷ words) ≡ Some (codes "export", rows_after (leaf export).rules [] words)
+export_entered words = ap (λ (w : Walk). entered whole w.stopped) (export_walk words)
+
 -- ---- no command
 
 pub none_faults : is_none (fault_of snapfs []) ≡ false
@@ -138,5 +155,6 @@ differs name word other = go (bytes_eq name word) (λ e. other ((bytes_eq-Decide
     go true never = absurd (never refl)
     go false never = refl
 
-pub unknown : (word : Text) → (codes "mkfs" ≡ word → ⊥) → (codes "run" ≡ word → ⊥) → (codes "stop-at" ≡ word → ⊥) → (codes "check" ≡ word → ⊥) → subcommand_met names idle word ≡ None
-unknown word one two three four = rw (differs (codes "mkfs") word one, differs (codes "run") word two, differs (codes "stop-at") word three, differs (codes "check") word four) refl
+pub unknown : (word : Text) → (codes "mkfs" ≡ word → ⊥) → (codes "run" ≡ word → ⊥) → (codes "stop-at" ≡ word → ⊥) → (codes "check" ≡ word → ⊥) → (codes "export" ≡ word → ⊥) → subcommand_met names idle word ≡ None
+unknown word one two three four five =
+    rw (differs (codes "mkfs") word one, differs (codes "run") word two, differs (codes "stop-at") word three, differs (codes "check") word four, differs (codes "export") word five) refl

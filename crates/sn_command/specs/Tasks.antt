@@ -23,6 +23,7 @@ Spells words (task.Run image script) = words ≡ codes "run" ∷ image.now ∷ s
 Spells words (task.StopAt cut how image script out) = (word : List ℕ) × (fill_word how ≡ Some word)
     × (words ≡ codes "stop-at" ∷ decimal cut ∷ word ∷ image.now ∷ script.now ∷ out.now ∷ []) × (cut < 2 ^ 32)
 Spells words (task.Check image) = words ≡ codes "check" ∷ image.now ∷ []
+Spells words (task.Export image path) = words ≡ codes "export" ∷ image.now ∷ path.now ∷ []
 
 -- and none of them is empty or begins with a dash
 abbrev pub AsksFor : List (List ℕ) → Task → Type 0
@@ -37,3 +38,4 @@ IsRead name read (task.StopAt cut how image script out) = (name ≡ codes "stop-
     × ((word : List ℕ) × (fill_word how ≡ Some word) × (read (codes "FILL") ≡ Some word))
     × (read (codes "IMAGE") ≡ Some image.now) × (read (codes "SCRIPT") ≡ Some script.now) × (read (codes "OUT") ≡ Some out.now)
 IsRead name read (task.Check image) = (name ≡ codes "check") × (read (codes "IMAGE") ≡ Some image.now)
+IsRead name read (task.Export image path) = (name ≡ codes "export") × (read (codes "IMAGE") ≡ Some image.now) × (read (codes "PATH") ≡ Some path.now)

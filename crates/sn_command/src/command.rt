@@ -38,6 +38,11 @@ pub enum Task<'a> {
     Check {
         image: &'a str,
     },
+    /// Writes the tree at a path of an image as an archive.
+    Export {
+        image: &'a str,
+        path: &'a str,
+    },
 }
 
 /// An empty word, or one that begins with a dash: there are no options.

@@ -88,6 +88,16 @@ fn check<'a>(found: &ArgMatches<'a>) -> Result<Task<'a>, WordsFault>
     })
 }
 
+fn export<'a>(found: &ArgMatches<'a>) -> Result<Task<'a>, WordsFault>
+    ensures read { IfOk result (IsRead (codes "export") (first_value (found_of found.now))) }
+    ensures unread { (task : Asked) → IsRead (codes "export") (first_value (found_of found.now)) task → IfErr result (λ why. why ≡ fault.Memory) }
+{
+    Ok(Task::Export {
+        image: text(found, "IMAGE")?,
+        path: text(found, "PATH")?,
+    })
+}
+
 /// The task of the command with this name, whose words were found.
 pub(crate) fn task_of<'a>(name: &str, found: &ArgMatches<'a>) -> Result<Task<'a>, WordsFault>
     ensures read { IfOk result (IsRead name.now (first_value (found_of found.now))) }
@@ -98,6 +108,7 @@ pub(crate) fn task_of<'a>(name: &str, found: &ArgMatches<'a>) -> Result<Task<'a>
         "run" => run(found),
         "stop-at" => stop_at(found),
         "check" => check(found),
+        "export" => export(found),
         _ => Err(WordsFault::Usage),
     }
 }

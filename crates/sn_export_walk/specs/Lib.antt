@@ -1,2 +1,4 @@
 pub mod Streams
 pub mod Walks
+pub mod Serving
+pub mod Visiting

@@ -1,4 +1,12 @@
 //! Where a walk is.
+ghost use Rattle.std.specs.Prelude.{◌≡◌, ◌++◌, true, IfOk, List, OnOk};
+ghost use Rattle.sn_export.specs.Archives.{Visit, below};
+ghost use Rattle.sn_limits.specs.Names.{is_name};
+ghost use Rattle.sn_model.specs.Tree.{Tree};
+ghost use Rattle.sn_model.specs.World.{Trees};
+ghost use Rattle.sn_walk.specs.declared.object.Home.{Home};
+ghost use Rattle.sn_export_walk.specs.Serving.{AreFound};
+ghost use Rattle.sn_export_walk.specs.Visiting.{IsLevel, IsNextIn, image_below};
 
 use crate::fault::ExportFault;
 use sn_host_names::to_host;
@@ -15,56 +23,72 @@ pub struct Paths {
     pub told: Vec<u8>,
 }
 
+// Bytes, one after the other.
+fn joined(alloc: Global, front: &[u8], middle: &[u8], rest: &[u8]) -> Result<Vec<u8>, ExportFault>
+    ensures { IfOk result (λ bytes. bytes.items ≡ front.now ++ (middle.now ++ rest.now)) }
+{
+    let mut bytes = Vec::from_slice(alloc, front)?;
+    bytes.extend_from_slice(middle)?;
+    bytes.extend_from_slice(rest)?;
+    Ok(bytes)
+}
+
+// The path of a name in a directory, as calls take it. That of the root ends with its slash.
+fn image_of(alloc: Global, directory: &[u8], name: &[u8]) -> Result<Vec<u8>, ExportFault>
+    ensures { IfOk result (λ image. image.items ≡ image_below directory.now name.now) }
+{
+    if directory.len() > 1 {
+        joined(alloc, directory, b"/", name)
+    } else {
+        joined(alloc, directory, b"", name)
+    }
+}
+
+// The same as the archive tells it.
+fn told_of(alloc: Global, directory: &[u8], name: &[u8]) -> Result<Vec<u8>, ExportFault>
+    requires { is_name name.now ≡ true }
+    ensures { IfOk result (λ told. told.items ≡ below directory.now name.now) }
+{
+    joined(alloc, directory, b"/", to_host(name).as_slice())
+}
+
 impl Paths {
-    /// Goes to a name of the directory.
-    pub fn enter(&mut self, name: &[u8]) -> Result<(), ExportFault> {
+    /// The path of a name in the directory.
+    fn below(&self, alloc: Global, name: &[u8]) -> Result<Paths, ExportFault>
+        ensures image { IfOk result (λ paths. paths.image.items ≡ image_below self.now.image.items name.now) }
+        ensures told { IfOk result (λ paths. paths.told.items ≡ below self.now.told.items name.now) }
+        ensures valid { OnOk result (is_name name.now ≡ true) }
+    {
         if !is_name(name) {
             return Err(ExportFault::Stopped);
         }
-        // The path of the root ends with its slash.
-        if self.image.len() > 1 {
-            self.image.push(b'/')?;
-        }
-        self.image.extend_from_slice(name)?;
-        self.told.push(b'/')?;
-        self.told.extend_from_slice(to_host(name).as_slice())?;
-        Ok(())
+        Ok(Paths {
+            image: image_of(alloc, self.image.as_slice(), name)?,
+            told: told_of(alloc, self.told.as_slice(), name)?,
+        })
     }
 }
 
 /// A directory whose names are walked.
 #[derive(Drop)]
 pub struct Level {
-    names: Names,
+    pub paths: Paths,
+    pub names: Names,
     /// How many of them were met.
-    met: usize,
-    /// How long the paths of the directory are.
-    image: usize,
-    told: usize,
+    pub met: usize,
 }
 
 impl Level {
-    /// The directory that a walk has come to.
-    pub fn new(names: Names, paths: &Paths) -> Level {
-        Level {
-            names,
-            met: 0,
-            image: paths.image.len(),
-            told: paths.told.len(),
-        }
-    }
-
-    /// Goes to its next name. False where all were met.
-    pub fn enter_next(&mut self, paths: &mut Paths) -> Result<bool, ExportFault> {
-        paths.image.truncate(self.image);
-        paths.told.truncate(self.told);
-        match self.names.as_slice().get(self.met) {
-            Some(name) => {
-                self.met += 1;
-                paths.enter(name.as_bytes())?;
-                Ok(true)
-            }
-            None => Ok(false),
-        }
+    /// The paths of its next name. `None` where all were met.
+    pub fn enter_next(&mut self, alloc: Global) -> Result<Option<Paths>, ExportFault>
+        ensures { (trees : Trees) (home : Home) (tree : Tree) (own : List Visit) → AreFound trees → IsLevel trees home tree self.old own
+            → IfOk result (λ next. IsNextIn trees home tree next own self.new) }
+    {
+        let Some(name) = self.names.as_slice().get(self.met) else {
+            return Ok(None);
+        };
+        let paths = self.paths.below(alloc, name.as_bytes())?;
+        self.met += 1;
+        Ok(Some(paths))
     }
 }

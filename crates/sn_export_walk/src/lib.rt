@@ -1,16 +1,18 @@
 //! Walks the tree at a path by calls of user 0, and writes it as a tar stream, as it goes.
 //!
-//! The model. What calls give isn't known here (`Calls` promises nothing of its replies), so the clauses speak of what is written:
-//! `IsStream` of `specs/Streams` says that bytes are a stream of members, each with exactly the records and the head of what is told of
-//! it, as much content as its head says, filled up to a block, no default ACL but on a directory, and hard links only to files before
-//! them; and zeros at the end. [`export`] writes such a stream, or after an error the front of one. That its members are those of the
-//! tree, which `IsArchive` of `sn_export` has, no clause says.
+//! The model. `Calls` has a predicate of worlds, and its reply to a call is that of a step of `sn_model`'s machine over each of them
+//! (`IsStepOf` of `specs/Serving`). Where there is one that a mount may find, what [`export`] writes is the archive of the tree that the
+//! path leads user 0 to (`IsArchive` of `sn_export`), or after an error the front of it; and the trees are still the same. Of calls of which nothing is known a weaker
+//! fact is left: `IsStream` of `specs/Streams` says that bytes are a stream of members, each with exactly the records and the head of what
+//! is told of it, as much content as its head says, filled up to a block, no default ACL but on a directory, and hard links only to files
+//! before them; and zeros at the end. [`export`] writes such a stream, or after an error the front of one.
 //!
 //! The way through: `walk` has the loop over names, by `levels`, `visits` writes what lies at a path, `content` the bytes of a file,
-//! `reading` makes the calls, and `output` counts what is written.
+//! `reading` makes the calls, and `output` counts what is written. What a walk knows of the tree is in `specs/Visiting`, and of the stream
+//! in `specs/Walks`.
 //!
-//! No call changes the tree. Memory: the path, a list of names for each directory above it, and for each file of more than one name
-//! the path where it was met first.
+//! No call changes the tree. Memory: the paths and names of each directory above, which numbers were met, and for each file of more
+//! than one name the path where it was met first.
 //!
 //! What the sources leave open is decided in `docs/DECISIONS.md`, under "Archives of trees".
 //!

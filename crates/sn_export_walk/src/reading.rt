@@ -1,7 +1,15 @@
 //! The calls that read a tree.
-ghost use Rattle.std.specs.Prelude.{◌≡◌, None, IfOk};
+ghost use Rattle.std.specs.Prelude.{◌≡◌, ◌+◌, ℕ, List, None, IfOk, OnOk, drop, length, take};
+ghost use Rattle.sn_limits.specs.Versions.{limits_written};
+ghost use Rattle.sn_model.specs.AccessCalls.{acl_at, default_acl_at};
+ghost use Rattle.sn_model.specs.Seen.{listed};
+ghost use Rattle.sn_model.specs.World.{Trees, World, trees_of, viewed_trees};
+ghost use Rattle.sn_model.specs.Worlds.{IsFound};
+ghost use Rattle.sn_walk.specs.declared.walking.Found.{Found};
+ghost use Rattle.sn_export_walk.specs.Serving.{HasStatus, IsStepOf, LeadsTo, Reads, ReadsFile, bytes_at};
 
 use crate::fault::ExportFault;
+use sn_acl::Acl;
 use sn_export::Acls;
 use sn_limits::Kind;
 use sn_model::{
@@ -9,10 +17,14 @@ use sn_model::{
 };
 use std::alloc::Global;
 
-/// What answers calls. It promises nothing of its replies.
+/// What answers calls.
 pub trait Calls {
-    /// The reply to a call of a session.
-    fn call(&mut self, session: u32, call: &Call) -> Reply;
+    /// Whether it is a machine that runs over a world. One of which that isn't known is over none.
+    ghost serves: { Self → World → Type 0 };
+
+    /// The reply to a call of a session: that of a step of the machine.
+    fn call(&mut self, session: u32, call: &Call) -> Reply
+        ensures { (world : World) → serves self.old world → IsStepOf world session call.now result (serves self.new) };
 }
 
 // The session of the walk.
@@ -40,7 +52,9 @@ fn fault_of(reply: &Reply) -> ExportFault {
 }
 
 /// Opens the session, as user 0.
-pub(crate) fn log_in<C: Calls>(alloc: Global, calls: &mut C) -> Result<(), ExportFault> {
+pub(crate) fn log_in<C: Calls>(alloc: Global, calls: &mut C) -> Result<(), ExportFault>
+    ensures { (world : World) → C.serves calls.old world → IsFound limits_written world → OnOk result (Reads (trees_of world) (C.serves calls.new)) }
+{
     let groups = Groups::new(alloc, &[])?;
     let login = Call::Login {
         uid: 0,
@@ -58,7 +72,9 @@ pub(crate) fn status_of<C: Calls>(
     alloc: Global,
     calls: &mut C,
     path: &[u8],
-) -> Result<FileStatus, ExportFault> {
+) -> Result<FileStatus, ExportFault>
+    ensures { (trees : Trees) → Reads trees (C.serves calls.old) → IfOk result (λ status. HasStatus trees path.now status × Reads trees (C.serves calls.new)) }
+{
     let stat = Call::Stat {
         path: Word::new(alloc, path)?,
     };
@@ -73,7 +89,10 @@ pub(crate) fn names_of<C: Calls>(
     alloc: Global,
     calls: &mut C,
     path: &[u8],
-) -> Result<Names, ExportFault> {
+) -> Result<Names, ExportFault>
+    ensures { (trees : Trees) → Reads trees (C.serves calls.old)
+        → IfOk result (λ names. (found : Found) × LeadsTo trees path.now found × (names ≡ listed trees found.object) × Reads trees (C.serves calls.new)) }
+{
     let readdir = Call::Readdir {
         path: Word::new(alloc, path)?,
     };
@@ -88,7 +107,10 @@ fn acl_of<C: Calls>(
     calls: &mut C,
     path: &[u8],
     kind: AclKind,
-) -> Result<Option<StoredAcl>, ExportFault> {
+) -> Result<Option<StoredAcl>, ExportFault>
+    ensures { (trees : Trees) → Reads trees (C.serves calls.old)
+        → IfOk result (λ acl. (found : Found) × LeadsTo trees path.now found × (acl ≡ acl_at (viewed_trees trees) kind found) × Reads trees (C.serves calls.new)) }
+{
     let getacl = Call::GetAcl {
         path: Word::new(alloc, path)?,
         kind,
@@ -99,11 +121,10 @@ fn acl_of<C: Calls>(
     }
 }
 
-fn access_acl<C: Calls>(
-    alloc: Global,
-    calls: &mut C,
-    path: &[u8],
-) -> Result<StoredAcl, ExportFault> {
+fn access_acl<C: Calls>(alloc: Global, calls: &mut C, path: &[u8]) -> Result<StoredAcl, ExportFault>
+    ensures { (trees : Trees) → Reads trees (C.serves calls.old)
+        → IfOk result (λ acl. (found : Found) × LeadsTo trees path.now found × (acl ≡ found.attributes.acl) × Reads trees (C.serves calls.new)) }
+{
     match acl_of(alloc, calls, path, AclKind::Access)? {
         Some(acl) => Ok(acl),
         None => Err(ExportFault::Stopped),
@@ -116,7 +137,9 @@ pub(crate) fn file_acls<C: Calls>(
     calls: &mut C,
     path: &[u8],
 ) -> Result<Acls, ExportFault>
-    ensures { IfOk result (λ acls. acls.default ≡ None) }
+    ensures plain { IfOk result (λ acls. acls.default ≡ None) }
+    ensures access { (trees : Trees) → Reads trees (C.serves calls.old)
+        → IfOk result (λ acls. (found : Found) × LeadsTo trees path.now found × (acls.access ≡ found.attributes.acl) × Reads trees (C.serves calls.new)) }
 {
     let access = access_acl(alloc, calls, path)?;
     Ok(Acls {
@@ -125,17 +148,33 @@ pub(crate) fn file_acls<C: Calls>(
     })
 }
 
+// The default ACL of a directory, if it has one.
+fn default_acl<C: Calls>(
+    alloc: Global,
+    calls: &mut C,
+    path: &[u8],
+) -> Result<Option<Acl>, ExportFault>
+    ensures { (trees : Trees) → Reads trees (C.serves calls.old)
+        → IfOk result (λ acl. (found : Found) × LeadsTo trees path.now found × (acl ≡ default_acl_at (viewed_trees trees) found.object) × Reads trees (C.serves calls.new)) }
+{
+    match acl_of(alloc, calls, path, AclKind::Default)? {
+        Some(acl) => Ok(Some(acl.to_acl())),
+        None => Ok(None),
+    }
+}
+
 /// The ACLs of a directory.
 pub(crate) fn directory_acls<C: Calls>(
     alloc: Global,
     calls: &mut C,
     path: &[u8],
-) -> Result<Acls, ExportFault> {
+) -> Result<Acls, ExportFault>
+    ensures { (trees : Trees) → Reads trees (C.serves calls.old)
+        → IfOk result (λ acls. (found : Found) × LeadsTo trees path.now found × (acls.access ≡ found.attributes.acl) × (acls.default ≡ default_acl_at (viewed_trees trees) found.object)
+        × Reads trees (C.serves calls.new)) }
+{
     let access = access_acl(alloc, calls, path)?;
-    let default = match acl_of(alloc, calls, path, AclKind::Default)? {
-        Some(acl) => Some(acl.to_acl()),
-        None => None,
-    };
+    let default = default_acl(alloc, calls, path)?;
     Ok(Acls {
         access: access.to_acl(),
         default,
@@ -143,11 +182,10 @@ pub(crate) fn directory_acls<C: Calls>(
 }
 
 /// Opens a file, and gives its descriptor.
-pub(crate) fn open<C: Calls>(
-    alloc: Global,
-    calls: &mut C,
-    path: &[u8],
-) -> Result<u32, ExportFault> {
+pub(crate) fn open<C: Calls>(alloc: Global, calls: &mut C, path: &[u8]) -> Result<u32, ExportFault>
+    ensures { (trees : Trees) → Reads trees (C.serves calls.old)
+        → IfOk result (λ fd. (found : Found) × LeadsTo trees path.now found × ReadsFile trees fd (bytes_at trees found.object) 0 (C.serves calls.new)) }
+{
     let open = Call::Open {
         path: Word::new(alloc, path)?,
         flags: TO_READ,
@@ -163,14 +201,22 @@ pub(crate) fn open<C: Calls>(
 }
 
 /// The next bytes of a file.
-pub(crate) fn read<C: Calls>(calls: &mut C, fd: u32, count: u64) -> Result<FileData, ExportFault> {
+pub(crate) fn read<C: Calls>(calls: &mut C, fd: u32, count: u64) -> Result<FileData, ExportFault>
+    ensures { (trees : Trees) (content : List ℕ) (offset : ℕ) → ReadsFile trees fd content offset (C.serves calls.old)
+        → IfOk result (λ bytes. (bytes ≡ take count (drop offset content)) × ReadsFile trees fd content (offset + length bytes) (C.serves calls.new)) }
+{
     match calls.call(SESSION, &Call::Read { fd, count }) {
         Reply::Content(bytes) => Ok(bytes),
         reply => Err(fault_of(&reply)),
     }
 }
 
-/// Closes a file. Where that is refused, it stays open up to the unmount.
-pub(crate) fn close<C: Calls>(calls: &mut C, fd: u32) {
-    let _ = calls.call(SESSION, &Call::Close { fd });
+/// Closes a file.
+pub(crate) fn close<C: Calls>(calls: &mut C, fd: u32) -> Result<(), ExportFault>
+    ensures { (trees : Trees) → Reads trees (C.serves calls.old) → OnOk result (Reads trees (C.serves calls.new)) }
+{
+    match calls.call(SESSION, &Call::Close { fd }) {
+        Reply::Done => Ok(()),
+        reply => Err(fault_of(&reply)),
+    }
 }

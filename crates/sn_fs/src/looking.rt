@@ -4,8 +4,6 @@ ghost use Rattle.sn_fs.specs.Filesystem.{IsFs, has_stopped, held};
 ghost use Rattle.sn_fs.specs.Looking.{IsUnseen};
 ghost use Rattle.sn_limits.specs.Versions.{limits_written};
 ghost use Rattle.sn_live_view.specs.Looking.{known_at, known_by};
-ghost use Rattle.sn_live_world.specs.World.{IsOver};
-ghost use Rattle.sn_fs.specs.Filesystem.{tree_of};
 ghost use Rattle.sn_model.specs.Settling.{nameless_in};
 ghost use Rattle.sn_model.specs.World.{trees_of, viewed_trees};
 ghost use Rattle.sn_room.specs.Rooms.{left};
@@ -45,7 +43,7 @@ impl<D: Device> Fs<D> {
     /// nothing changes but what the device counts of a read that failed.
     pub fn find(&mut self, path: Path<'_>) -> Result<Option<Known>, LookFault>
         requires { IsFs self.old }
-        ensures found { IsTrue D.tells_bytes → IfOk result (λ known. known ≡ known_by (viewed_trees (trees_of (held self.old).world)) path) }
+        ensures found { IsTrue D.tells_bytes → IfOk result (λ known. known ≡ known_by (viewed_trees (trees_of (held self.old).world)) path.entry) }
         ensures quiet { IsTrue D.tells_bytes → OnOk result (held self.new ≡ held self.old) }
         ensures unseen { IsTrue D.tells_bytes → has_stopped self.old ≡ false → IfErr result (λ fault. IsUnseen fault (held self.old) (held self.new)) }
         ensures stopped { has_stopped self.new ≡ has_stopped self.old }
@@ -72,11 +70,12 @@ impl<D: Device> Fs<D> {
 
     /// The data blocks that calls can still be charged for: the free ones of the root that counts, less what was charged
     /// since and an inode's charge for each file without names. The reserve, which only `unlink` and `rmdir` use, is among
-    /// them.
+    /// them. Of a mount that has stopped it says nothing.
     ///
     /// Proved: What is left is what is free less what is charged and parked.
     pub fn left(&self) -> u32
-        ensures { IsOver self.now.world (tree_of self.now) → result ≡ left limits_written (held self.now).room (nameless_in (held self.now).world.live) }
+        requires { IsFs self.now }
+        ensures { IsTrue D.tells_bytes → has_stopped self.now ≡ false → result ≡ left limits_written (held self.now).room (nameless_in (held self.now).world.live) }
     {
         self.room.left(&Limits::WRITTEN, self.world.nameless())
     }

@@ -7,7 +7,7 @@ use Rattle.sn_program.specs.Tasks.{BeginsToSayRun, BeginsToSayVerdict}
 use Rattle.sn_program.specs.declared.ending.Ending.{Ending}
 use Rattle.sn_program.specs.declared.ending.Ending.TheVariants.{Told}
 use Rattle.sn_program.specs.declared.fault.ProgramFault.{ProgramFault}
-use Rattle.sn_program.proofs.OutputLemmas.{appends_none}
+use Rattle.sn_output.proofs.OutputLemmas.{appends_none}
 
 pub on_err : {T E P : Type 0} (r : Result T E) → P → OnErr r P
 on_err (Ok x) h = tt

@@ -1,4 +1,3 @@
 pub mod AnswerLemmas
 pub mod CopyLemmas
-pub mod OutputLemmas
 pub mod ReaderLemmas

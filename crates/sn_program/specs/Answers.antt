@@ -1,7 +1,6 @@
 -- What the program makes of a script and of a device.
-use Rattle.std.specs.Prelude.{◌≡◌, ◌≤◌, ℕ, List, None, Some, length, take}
+use Rattle.std.specs.Prelude.{◌≡◌, ◌≤◌, ℕ, List, None, Some, length}
 use Rattle.std.specs.declared.option.Option.{Option}
-use Rattle.std.specs.Io.KnownBytes.{Appends}
 use Rattle.sn_device.specs.Disk.{Disk, reads}
 use Rattle.sn_device.specs.declared.status.Status.{Status}
 use Rattle.sn_limits.specs.Versions.{limits_written}
@@ -22,10 +21,6 @@ pub record IsRun (end : End) (events : List Event) (replies : List Reply) (disk 
   pub machine : (world : World) → IsImage (reads disk) world → IsRunOf world events replies end disk last_disk
   pub unfit : (fault : MountFault) → LacksRoot status.sectors (reads disk) fault → WholeRun Anything limits_written (Lacks fault) events replies end
   pub causes : last_status.failures ≡ status.failures → HasCauses end events replies disk status last_disk last_status runs
-
--- what an output had, and then the front of a text
-abbrev pub AppendsFront : Option (List ℕ) → Option (List ℕ) → List ℕ → Type 0
-AppendsFront old new text = (n : ℕ) × Appends old new (take n text)
 
 -- the script is what a reader had left, where that is known
 abbrev pub IsOf : Option (List ℕ) → List ℕ → Type 0

@@ -2,6 +2,9 @@
 use Rattle.std.specs.Prelude.{ℕ, ◌≡◌, ◌⊎◌, Option, None, Some, Result, Ok, Err}
 use Rattle.sn_model.specs.declared.end.End.{End}
 use Rattle.sn_model.specs.declared.end.End.TheVariants as end
+use Rattle.sn_export_image.specs.declared.fault.ImageFault.{ImageFault}
+use Rattle.sn_export_image.specs.declared.fault.ImageFault.TheVariants as image
+use Rattle.sn_export_walk.specs.declared.fault.ExportFault.TheVariants as export
 use Rattle.sn_script.specs.declared.fault.ScriptFault.TheVariants as reading
 use Rattle.sn_command.specs.declared.fault.WordsFault.{WordsFault}
 use Rattle.sn_command.specs.declared.fault.WordsFault.TheVariants as words
@@ -44,6 +47,14 @@ IsUnread given = IsOfFile given ⊎ (given ≡ fault.Script reading.Memory)
 -- a line of a script is bad, or there are too many bytes
 abbrev pub IsOfScript : ProgramFault → Type 0
 IsOfScript given = (n : ℕ) × (given ≡ fault.Script (reading.Line n))
+
+-- why a tree isn't written: there was no mount, nothing lies at the path, the output failed, memory was refused, or the mount stopped
+abbrev pub IsOfExport : ImageFault → ProgramFault → Type 0
+IsOfExport (image.Mount m) given = given ≡ fault.Mount m
+IsOfExport (image.Export export.Path) given = given ≡ fault.Path
+IsOfExport (image.Export export.Memory) given = given ≡ fault.Memory
+IsOfExport (image.Export export.Stopped) given = given ≡ fault.Stopped
+IsOfExport (image.Export (export.Output error)) given = IsOfFile given
 
 -- the words are no command, or there was no memory to read them
 abbrev pub fault_of_words : WordsFault → ProgramFault

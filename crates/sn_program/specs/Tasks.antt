@@ -20,7 +20,9 @@ use Rattle.sn_command.specs.Tasks.{AsksFor}
 use Rattle.sn_command.specs.declared.command.Task.{Task}
 use Rattle.sn_command.specs.declared.command.Task.TheVariants as task
 use Rattle.sn_replies.specs.Replies.{reply_line}
-use Rattle.sn_program.specs.Answers.{AppendsFront, AreEventsOf}
+use Rattle.sn_export_walk.specs.Streams.{BeginsStream, WritesStream}
+use Rattle.sn_output.specs.Outputs.{AppendsFront}
+use Rattle.sn_program.specs.Answers.{AreEventsOf}
 use Rattle.sn_program.specs.Copies.{IsCutShort}
 use Rattle.sn_program.specs.Fault.{IsOfFile, fault_of}
 use Rattle.sn_program.specs.declared.fault.ProgramFault.{ProgramFault}
@@ -99,6 +101,7 @@ Leaves (task.Run image script) came old new = (came ≡ Done) × SaysRun old new
 Leaves (task.Mkfs image blocks) came old new = (came ≡ Done) × Says (answer.Done ∷ []) old new
 Leaves (task.StopAt cut how image script out) came old new = ComesOfCopy how came old new
 Leaves (task.Check image) came old new = SaysVerdict came old new
+Leaves (task.Export image path) came old new = (came ≡ Done) × WritesStream old new
 
 -- with a reported fault, or without one
 abbrev pub came_of : Option ProgramFault → Ending
@@ -119,6 +122,7 @@ Begins (task.Run image script) old new = BeginsToSayRun old new
 Begins (task.Mkfs image blocks) old new = BeginsToSay (answer.Done ∷ []) old new
 Begins (task.StopAt cut how image script out) old new = BeginsOfCopy how old new
 Begins (task.Check image) old new = BeginsToSayVerdict old new
+Begins (task.Export image path) old new = BeginsStream old new
 
 -- nothing, or the front of what may be said to the words
 abbrev pub HasBegun : List (List ℕ) → Option (List ℕ) → Option (List ℕ) → Type 0

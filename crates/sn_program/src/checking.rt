@@ -11,9 +11,7 @@ ghost use Rattle.sn_sound.specs.Verdicts.{HasNoVerdict};
 use crate::fault::ProgramFault;
 use crate::output::write_verdict;
 use sn_block::Blocks;
-use sn_check::{Verdict, check};
-use sn_device::Device;
-use sn_model::MountFault;
+use sn_core::{Device, MountFault, Verdict, check};
 use std::alloc::Global;
 use std::io::Write;
 

@@ -4,6 +4,7 @@ ghost use Rattle.std.specs.declared.option.Option.{Option};
 ghost use Rattle.std.specs.Io.KnownBytes.{Keeps};
 ghost use Rattle.sn_device.specs.Memory.{contents_of, disk_of, first, status_of};
 ghost use Rattle.sn_device.specs.Status.{uncalled};
+ghost use Rattle.sn_export_walk.specs.Streams.{BeginsStream, WritesStream};
 ghost use Rattle.sn_layout.specs.Geometry.{IsDiskSize};
 ghost use Rattle.sn_mkfs.specs.declared.fault.MkfsFault.TheVariants as mkfs_fault;
 ghost use Rattle.sn_model.specs.declared.fault.Damage.{Damage as Kind};
@@ -19,6 +20,7 @@ ghost use Rattle.sn_program.specs.declared.ending.Ending.TheVariants as ended;
 use crate::checking::check_on;
 use crate::copy::{CutShort, answer_cut};
 use crate::ending::Ending;
+use crate::export::export_from;
 use crate::fault::{ProgramFault, Which, on_file, tell};
 use crate::output::write_replies;
 use crate::person::{advise, explain, show_commands};
@@ -26,14 +28,10 @@ use crate::progress::Progress;
 use crate::run::{Answered, answer, outcome};
 use crate::script::read_events;
 use crate::watched::{WatchReads, WatchedDevice};
-use sn_check::Verdict;
 use sn_command::{Task, parse};
-use sn_device::{Fill, MemDevice};
+use sn_core::{End, Event, Fill, MemDevice, MkfsFault, Reply, Verdict, Watch, mkfs};
 use sn_filedev::{FileDevice, LockFile};
 use sn_layout::Geometry;
-use sn_mkfs::{MkfsFault, mkfs};
-use sn_model::{End, Event, Reply};
-use sn_run::Watch;
 use std::alloc::Global;
 use std::convert::AsStr;
 use std::fs::{Files, OpenFile};
@@ -240,6 +238,20 @@ fn check_image<
     }
 }
 
+/// Writes the tree at a path of the image at another as an archive. The image is locked as long as that takes.
+fn export_on<
+    F: FileExt + OpenFile + LockFile + Read + Drop,
+    R: Files<File = F> + AllocGlobal,
+    W: Write,
+>(rt: &R, image: &str, path: &str, out: &mut W) -> Result<(), ProgramFault>
+    ensures done { OnOk result (WritesStream (W.contents out.old) (W.contents out.new)) }
+    ensures front { OnErr result (BeginsStream (W.contents out.old) (W.contents out.new)) }
+    ensures words { IfErr result (λ why. why ≢ fault.Usage) }
+{
+    let opened = FileDevice::open(rt.alloc(), rt, image);
+    export_from(rt.alloc(), on_file(Which::Image, opened)?, path, out)
+}
+
 /// Of what was done nothing is reported.
 fn quietly(done: Result<(), ProgramFault>) -> Result<Ending, ProgramFault>
     ensures done { IfOk result (λ came. (came ≡ ended.Done) × IsOk done) }
@@ -277,6 +289,7 @@ fn execute<
             Err(fault) => Err(fault),
         },
         Task::Check { image } => check_image(rt, image, out, watch),
+        Task::Export { image, path } => quietly(export_on(rt, image, path, out)),
     }
 }
 
@@ -348,6 +361,7 @@ pub fn refuse<E: Write, P: Write>(fault: ProgramFault, err: &mut E, person: &mut
 /// status 2 nothing is written, with status 1 nothing or the front of what the words may be answered.
 /// Proved: Status 3 comes only where the words ask for a check and one was made: one line with a fault is written then, and
 /// nothing on standard error.
+/// Proved: `export` writes a stream of members and its end, or with status 1 nothing or the front of one.
 /// Proved: K1 comes exactly where no disk has so many blocks.
 pub fn program<
     F: FileExt + OpenFile + LockFile + Read + Drop,

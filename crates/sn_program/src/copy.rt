@@ -2,16 +2,14 @@
 ghost use Rattle.std.specs.Prelude.{IfErr, OnOk};
 ghost use Rattle.std.specs.Io.KnownBytes.{Appends};
 ghost use Rattle.sn_device.specs.Memory.{contents_of, disk_of, status_of};
-ghost use Rattle.sn_program.specs.Answers.{AppendsFront};
+ghost use Rattle.sn_output.specs.Outputs.{AppendsFront};
 ghost use Rattle.sn_program.specs.Copies.{IsCutShort};
 ghost use Rattle.sn_program.specs.Fault.{IsOfFile};
 ghost use Rattle.sn_program.specs.Tasks.{lines_of};
 
 use crate::fault::ProgramFault;
 use crate::run::{Answered, answer};
-use sn_device::{Fill, MemDevice};
-use sn_model::{End, Event, Reply};
-use sn_run::{Ran, Watch};
+use sn_core::{End, Event, Fill, MemDevice, Ran, Reply, Watch};
 use std::alloc::Global;
 use std::io::Write;
 

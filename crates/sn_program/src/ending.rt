@@ -1,7 +1,7 @@
 //! What comes of a task.
 
 use crate::fault::ProgramFault;
-use sn_model::Damage;
+use sn_core::Damage;
 
 /// What came of a task that was done.
 #[derive(Clone, Copy)]

@@ -1,10 +1,11 @@
 ghost use Rattle.std.specs.Prelude.{◌≡◌, Ok, IfOk, IfErr};
-ghost use Rattle.sn_program.specs.Fault.{status_of, fault_of, fault_of_words, IsOfFile};
+ghost use Rattle.sn_program.specs.Fault.{status_of, fault_of, fault_of_words, IsOfExport, IsOfFile};
 ghost use Rattle.sn_program.specs.declared.fault.ProgramFault.TheVariants as fault;
 
 use sn_command::WordsFault;
-use sn_mkfs::MkfsFault;
-use sn_model::{End, MountFault};
+use sn_core::{End, MkfsFault, MountFault};
+use sn_export_image::ImageFault;
+use sn_export_walk::ExportFault;
 use sn_script::ScriptFault;
 use std::alloc::AllocError;
 use std::io;
@@ -35,6 +36,9 @@ pub enum ProgramFault {
     File { which: Which, error: io::Error },
     #[error("memory")]
     Memory,
+    /// Nothing lies at the path of the tree that is to be written, or a path in it has more bytes than a call takes.
+    #[error("path")]
+    Path,
     /// There was no mount.
     #[error("{0}")]
     Mount(MountFault),
@@ -116,6 +120,22 @@ impl From<WordsFault> for ProgramFault {
         match fault {
             WordsFault::Usage => ProgramFault::Usage,
             WordsFault::Memory => ProgramFault::Memory,
+        }
+    }
+}
+
+impl From<ImageFault> for ProgramFault {
+    ghost from_gives = { λ export given. IsOfExport export given };
+
+    fn from(fault: ImageFault) -> ProgramFault {
+        match fault {
+            ImageFault::Mount(fault) => ProgramFault::Mount(fault),
+            ImageFault::Export(ExportFault::Path) => ProgramFault::Path,
+            ImageFault::Export(ExportFault::Memory) => ProgramFault::Memory,
+            ImageFault::Export(ExportFault::Stopped) => ProgramFault::Stopped,
+            ImageFault::Export(ExportFault::Output(error)) => {
+                ProgramFault::of_file(Which::Output, error)
+            }
         }
     }
 }

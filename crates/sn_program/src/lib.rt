@@ -7,9 +7,10 @@
 //! bytes. The device over an image's file doesn't, so that of a run on one [`program`] says only that lines of replies were
 //! written. A run that is cut short runs on a copy in memory, by [`answer_cut`], and its clauses speak of that copy and of what a
 //! crash leaves of it (`specs/Copies`). An image is made by `sn_mkfs`, and checked by `sn_check`: [`check_on`] says
-//! what the result is over every device that tells its bytes. How much of an image a check has read is seen by `watched`, a
-//! device around another. Each fault is a [`ProgramFault`], whose text is the line on
-//! standard error and whose status the shell sees. `specs/Tasks` says what is left of what the words ask for.
+//! what the result is over every device that tells its bytes, and [`export_from`] the same of the archive of a tree, which
+//! `sn_export_image` writes. How much of an image a check has read is seen by `watched`, a device around another. Each fault is a
+//! [`ProgramFault`], whose text is the line on standard error and whose status the shell sees. `specs/Tasks` says what is left of
+//! what the words ask for.
 //!
 //! What the sources leave open is decided in `docs/DECISIONS.md`, under "Scripts and the program".
 //!
@@ -22,6 +23,7 @@ mod checking;
 mod command;
 mod copy;
 mod ending;
+mod export;
 mod fault;
 mod output;
 mod person;
@@ -34,6 +36,7 @@ pub use checking::check_on;
 pub use command::{program, refuse};
 pub use copy::{CutShort, answer_cut};
 pub use ending::Ending;
+pub use export::export_from;
 pub use fault::{ProgramFault, Which, tell};
 pub use person::Person;
 pub use run::{Answered, answer, outcome};

@@ -2,7 +2,7 @@
 
 use crate::fault::{ProgramFault, Which};
 use sn_command::Task;
-use sn_model::Damage;
+use sn_core::Damage;
 use std::io;
 use std::io::{IsTerminal, Write};
 
@@ -46,7 +46,8 @@ fn name_of<'a>(which: Which, task: Task<'a>) -> &'a str {
             Task::Mkfs { image, .. }
             | Task::Run { image, .. }
             | Task::StopAt { image, .. }
-            | Task::Check { image },
+            | Task::Check { image }
+            | Task::Export { image, .. },
         ) => image,
         (Which::Script, Task::Run { script, .. } | Task::StopAt { script, .. }) => script,
         (Which::Saved, Task::StopAt { out, .. }) => out,
@@ -85,12 +86,13 @@ pub(crate) fn advise<P: Write>(damage: Damage, block: u32, task: Task<'_>, perso
 }
 
 /// The commands, a line each, and where more is said.
-const COMMANDS: [&str; 5] = [
+const COMMANDS: [&str; 6] = [
     "snapfs mkfs IMAGE BLOCKS: formats IMAGE with 256 to 1048576 blocks of 4096 bytes, over what it has",
     "snapfs run IMAGE SCRIPT: mounts IMAGE and makes the calls of SCRIPT, with a reply for each line",
     "snapfs check IMAGE: tells whether all of IMAGE is sound, or its first fault, and only reads",
     "snapfs stop-at K FILL IMAGE SCRIPT OUT: runs SCRIPT on a copy that crashes after K writes, and saves it to OUT; \
      FILL is old, new, zero, one or junk",
+    "snapfs export IMAGE PATH: writes the tree at PATH of IMAGE to standard output, as a tar stream",
     "README.md tells more, docs/SCRIPT.md has the calls, and docs/FAULTS.md what to do about a fault",
 ];
 

@@ -1,7 +1,7 @@
 //! What a person sees of a long run, and of a long check.
 
 use crate::watched::WatchReads;
-use sn_run::Watch;
+use sn_core::Watch;
 use std::io::Write;
 use std::time::{Clock, Instant};
 

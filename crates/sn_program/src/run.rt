@@ -2,15 +2,14 @@
 ghost use Rattle.std.specs.Prelude.{◌≡◌, IsTrue, OnOk, IfErr, length};
 ghost use Rattle.std.specs.Io.KnownBytes.{Appends};
 ghost use Rattle.sn_model.specs.declared.end.End.TheVariants as ending;
-ghost use Rattle.sn_program.specs.Answers.{AppendsFront, IsRun};
+ghost use Rattle.sn_output.specs.Outputs.{AppendsFront};
+ghost use Rattle.sn_program.specs.Answers.{IsRun};
 ghost use Rattle.sn_program.specs.Fault.{IsOfFile, outcome_of};
 ghost use Rattle.sn_program.specs.Tasks.{lines_of};
 
 use crate::fault::ProgramFault;
 use crate::output::write_replies;
-use sn_device::Device;
-use sn_model::{End, Event};
-use sn_run::{Ran, Watch, run};
+use sn_core::{Device, End, Event, Ran, Watch, run};
 use std::alloc::Global;
 use std::io::Write;
 

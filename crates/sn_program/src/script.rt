@@ -7,7 +7,7 @@ ghost use Rattle.sn_program.specs.Fault.{IsOfFile, IsOfScript, IsUnread};
 ghost use Rattle.sn_program.specs.declared.fault.ProgramFault.TheVariants as fault;
 
 use crate::fault::{ProgramFault, Which, on_file};
-use sn_model::Event;
+use sn_core::Event;
 use sn_script::{SCRIPT_MAX, read_script};
 use std::alloc::Global;
 use std::io;

@@ -1,6 +1,7 @@
 //! A device that somebody looks on at is a device.
 
-use sn_device::{Device, Fault, Status};
+use sn_core::{Device, Fault};
+use sn_device::Status;
 
 /// Who looks on while a device is read. It has no say in it, and nothing is promised of what it is shown.
 pub(crate) trait WatchReads {

@@ -8,7 +8,7 @@ use sn_tests_commands::staying;
 use std::io::{ErrorKind, Write};
 use std::{fs, io, str};
 
-const FAULTS: [(ProgramFault, &str, u8); 8] = [
+const FAULTS: [(ProgramFault, &str, u8); 9] = [
     (ProgramFault::Usage, "snapfs: usage\n", 2),
     (
         ProgramFault::Script(ScriptFault::Line(7)),
@@ -31,6 +31,7 @@ const FAULTS: [(ProgramFault, &str, u8); 8] = [
         1,
     ),
     (ProgramFault::Format(MkfsFault::Device), "snapfs: K3\n", 1),
+    (ProgramFault::Path, "snapfs: path\n", 1),
     (ProgramFault::Stopped, "snapfs: stopped\n", 1),
 ];
 

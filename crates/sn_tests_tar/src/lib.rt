@@ -1,16 +1,21 @@
-//! Cases of archives: heads that are written and read, what needs a pax record, pax records, and texts of ACLs.
+//! Cases of archives: heads that are written and read, what needs a pax record, pax records, texts of ACLs, and streams of
+//! whole trees.
 //!
 //! The tables of the cases are in the data of `sn_tests_messages`: their head lines say where the answers come from. `heads`,
-//! `records` and `acls` have their words.
+//! `records`, `acls` and `trees` have their words, `nodes` the tree that is written, and `runs` spells bytes.
 //!
 //! No clause promises what comes out, since it is compared: `sn_tests_messages` runs it.
 #![tactic(auto)]
 
 mod acls;
 mod heads;
+mod nodes;
 mod records;
+mod runs;
+mod trees;
 
 use anyhow::{Context, Result};
+pub use runs::push_runs;
 use sn_testing_tables::Report;
 use std::alloc::Global;
 
@@ -18,7 +23,8 @@ use std::alloc::Global;
 pub fn run(report: &mut Report<'_>) -> Result<()> {
     heads::run(report)?;
     records::run(report)?;
-    acls::run(report)
+    acls::run(report)?;
+    trees::run(report)
 }
 
 /// The bytes that a word spells in hexadecimal, or `-` for none.

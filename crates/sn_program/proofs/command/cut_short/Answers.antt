@@ -4,7 +4,7 @@ use Rattle.sn_model.specs.declared.call.Event.{Event}
 use Rattle.sn_program.specs.Answers.{AreEventsOf}
 use Rattle.sn_program.proofs.AnswerLemmas.{on_err}
 use Rattle.sn_program.proofs.CopyLemmas.{leaves}
-use Rattle.sn_program.proofs.OutputLemmas.{keeps_same}
+use Rattle.sn_output.proofs.OutputLemmas.{keeps_same}
 use Rattle.sn_program.proofs.command.cut_short.Goals as goal
 
 pub returns-in_err-events-clause-front : goal.returns-in_err-events-clause-front

@@ -1,5 +1,5 @@
 use Rattle.std.proofs.Common.{◌∙◌}
-use Rattle.sn_program.proofs.OutputLemmas.{appends_none, front_kept, front_of}
+use Rattle.sn_output.proofs.OutputLemmas.{appends_none, front_kept, front_of}
 use Rattle.sn_program.proofs.output.write_verdict.Goals as goal
 
 pub returns-in_err-text-clause-front : goal.returns-in_err-text-clause-front
