@@ -1,0 +1,110 @@
+-- The content of a file, as it comes.
+use Rattle.std.proofs.Common.{◌≡◌, ℕ, ◌+◌, ◌-◌, ◌<◌, ◌≤◌, min, Bool, true, false, List, [], ◌∷◌, ◌++◌, length, take, drop, ⊎_elim, refl, sym, ap, subst, ◌∙◌, append_assoc, length-append, take-take, arith}
+use Rattle.std.specs.Prelude.{◌⊎◌, Option, Some, None, Result, Ok, Err, IsErrAnd}
+use Rattle.std.proofs.Math.Seq.{take-append-add}
+use Rattle.std.proofs.lemmas.List.{append-nil, length-take-le, take-append-le}
+use Rattle.std.proofs.lemmas.Bool.{cases_lt}
+use Rattle.sn_import.specs.Writes.{Unwritten, writes}
+use Rattle.sn_import.specs.declared.object.What.{What}
+use Rattle.sn_model.specs.declared.call.Call.{Call}
+use Rattle.sn_untar.specs.Steps.{State}
+use Rattle.sn_import_run.specs.Acts.{Act, calls_in}
+use Rattle.sn_import_run.specs.Carried.{Adds, AreMade, Goes, IsStopped, is_outside, stop_of}
+use Rattle.sn_import_run.specs.Files.{Arrives, Came, Comes, IsWritten}
+use Rattle.sn_import_run.specs.Streams.{Part, Takes, with_content}
+use Rattle.sn_import_run.specs.declared.stop.Stop.{Stop}
+use Rattle.sn_import_run.specs.declared.stop.Stop.TheVariants.{Refused, Memory, Damaged, Ended, Unread}
+use Rattle.sn_import_run.proofs.Made.{broken_at, made_as, made_more, stopped_after, stopped_as}
+use Rattle.sn_import_run.proofs.Parts.{content_more, content_of_none, takes_more, takes_none}
+
+-- ---- what came
+
+pub arrives_none : (s : State) (i : Option (List ℕ)) → Arrives s i [] s i
+arrives_none s i parts = subst (λ (ps : List Part). Takes s parts i ps s i) (sym (content_of_none parts)) (takes_none s parts i)
+
+pub arrives_more : (s : State) (i : Option (List ℕ)) (a : List ℕ) (t : State) (j : Option (List ℕ)) (b : List ℕ) (u : State) (k : Option (List ℕ))
+    → Arrives s i a t j → Arrives t j b u k → Arrives s i (a ++ b) u k
+arrives_more s i a t j b u k g h parts =
+    subst (λ (ps : List Part). Takes s parts i ps u k) (content_more parts a b) (takes_more s parts i (with_content parts a) t j (with_content (with_content parts a) b) u k (g parts) (h (with_content parts a)))
+
+pub came_any : (s : State) (i : Option (List ℕ)) (content : List ℕ) (t : State) (j : Option (List ℕ)) (stop : Option Stop) → Arrives s i content t j → Came s i content t j stop
+came_any s i content t j None h = h
+came_any s i content t j (Some (Refused errno)) h = h
+came_any s i content t j (Some Memory) h = (t, j, h)
+came_any s i content t j (Some Damaged) h = (t, j, h)
+came_any s i content t j (Some Ended) h = (t, j, h)
+came_any s i content t j (Some (Unread e)) h = (t, j, h)
+
+came_stop : (s : State) (i : Option (List ℕ)) (content : List ℕ) (t : State) (j : Option (List ℕ)) (stop : Stop) → is_outside stop ≡ true → Comes s i content → Came s i content t j (Some stop)
+came_stop s i content t j (Refused errno) is h = let never : false ≡ true = is in cc
+came_stop s i content t j Memory is h = h
+came_stop s i content t j Damaged is h = h
+came_stop s i content t j Ended is h = h
+came_stop s i content t j (Unread e) is h = h
+
+pub came_outside : {A : Type 0} (s : State) (i : Option (List ℕ)) (content : List ℕ) (t : State) (j : Option (List ℕ)) (e : Stop) (r : Result A Stop)
+    → IsErrAnd r (λ other. other ≡ e) → is_outside e ≡ true → Comes s i content → Came s i content t j (stop_of r)
+came_outside s i content t j e (Ok a) is out h = absurd is
+came_outside s i content t j e (Err stop) is out h = came_stop s i content t j stop (ap is_outside is ∙ out) h
+
+-- ---- what is written
+
+-- the content that is left begins with a block's
+pub take_front : (left n : ℕ) (block rest : List ℕ) → n ≤ length block → take left (take n block ++ rest) ≡ take (min left n) block ++ take (left - min left n) rest
+take_front left n block rest within = ⊎_elim
+    (λ (few : left < n).
+      (let front : length (take n block) ≡ n = length-take-le n block within in
+      let same : min left n ≡ left = omega arith in
+      let none : left - min left n ≡ 0 = omega arith in
+      take-append-le left (take n block) rest (omega arith) ∙ take-take left n block (omega arith) ∙ sym (append-nil (take left block))
+      ∙ ap (λ (k : ℕ). take k block ++ []) (sym same) ∙ ap (λ (k : ℕ). take (min left n) block ++ take k rest) (sym none)))
+    (λ (more : n ≤ left).
+      (let front : length (take n block) ≡ n = length-take-le n block within in
+      let same : min left n ≡ n = omega arith in
+      let whole : length (take n block) + (left - n) ≡ left = omega arith in
+      ap (λ (k : ℕ). take k (take n block ++ rest)) (sym whole) ∙ take-append-add (take n block) rest (left - n)
+      ∙ ap (λ (k : ℕ). take k block ++ take (left - k) rest) (sym same)))
+    (cases_lt left n)
+
+-- the writes of a content that begins so
+abbrev pub Feeds : What → Unwritten → ℕ → List ℕ → Unwritten → ℕ → List Act → Type 0
+Feeds what before size came after left acts = (rest : List ℕ) → AreMade what (writes before (take size (came ++ rest))) (writes after (take left rest)) acts
+
+-- the same before a block's bytes are taken
+pub fed : (what : What) (before after : Unwritten) (size left n : ℕ) (came block : List ℕ) (acts : List Act) → n ≤ length block → Feeds what before size came after left acts
+    → (rest : List ℕ) → AreMade what (writes before (take size ((came ++ take n block) ++ rest))) (writes after (take (min left n) block ++ take (left - min left n) rest)) acts
+fed what before after size left n came block acts within feeds rest =
+    let m = feeds (take n block ++ rest) in
+    let plan : take size (came ++ (take n block ++ rest)) ≡ take size ((came ++ take n block) ++ rest) = ap (take size) (sym (append_assoc came (take n block) rest)) in
+    record {
+      plan_is = ap (writes before) (sym plan) ∙ m.plan_is ∙ ap (λ (bytes : List ℕ). calls_in acts ++ writes after bytes) (take_front left n block rest within);
+      fine = m.fine;
+    }
+
+pub fed_more : (what : What) (before between after : Unwritten) (size left n : ℕ) (came block : List ℕ) (a b : List Act) → n ≤ length block → Feeds what before size came between left a
+    → ((rest : List ℕ) → AreMade what (writes between (take (min left n) block ++ rest)) (writes after rest) b)
+    → Feeds what before size (came ++ take n block) after (left - min left n) (a ++ b)
+fed_more what before between after size left n came block a b within feeds more rest =
+    made_more what _ _ _ a b (fed what before between size left n came block a within feeds rest) (more (take (left - min left n) rest))
+
+pub fed_stopped : (what : What) (before between : Unwritten) (size left n : ℕ) (came block : List ℕ) (a b : List Act) (stop : Stop) → n ≤ length block → Feeds what before size came between left a
+    → ((rest : List ℕ) → IsStopped what (writes between (take (min left n) block ++ rest)) b stop)
+    → (rest : List ℕ) → IsStopped what (writes before (take size ((came ++ take n block) ++ rest))) (a ++ b) stop
+fed_stopped what before between size left n came block a b stop within feeds stopped rest =
+    stopped_after what _ _ a b stop (fed what before between size left n came block a within feeds rest) (stopped (take (left - min left n) rest))
+
+pub fed_size : (size left n : ℕ) (came block : List ℕ) → n ≤ length block → size ≤ length came + left → size ≤ length (came ++ take n block) + (left - min left n)
+fed_size size left n came block within enough = omega (arith, length-append came (take n block), length-take-le n block within)
+
+-- all of it came
+pub fed_whole : (what : What) (before after : Unwritten) (size left : ℕ) (came : List ℕ) (acts : List Act) → left ≡ 0 → size ≤ length came + left → Feeds what before size came after left acts
+    → IsWritten what before after size came acts None
+fed_whole what before after size left came acts none enough feeds =
+    let m = feeds [] in
+    (
+      omega arith,
+      record {
+        plan_is = ap (λ (bytes : List ℕ). writes before (take size bytes)) (sym (append-nil came)) ∙ m.plan_is;
+        fine = m.fine;
+      },
+    )
