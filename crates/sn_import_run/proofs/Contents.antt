@@ -4,17 +4,20 @@ use Rattle.std.specs.Prelude.{◌⊎◌, Option, Some, None, Result, Ok, Err, Is
 use Rattle.std.proofs.Math.Seq.{take-append-add}
 use Rattle.std.proofs.lemmas.List.{append-nil, length-take-le, take-append-le}
 use Rattle.std.proofs.lemmas.Bool.{cases_lt}
-use Rattle.sn_import.specs.Writes.{Unwritten, writes}
+use Rattle.sn_import.specs.Calls.{closing_calls}
+use Rattle.sn_import.specs.Writes.{Unwritten, writes, writes_of}
+use Rattle.sn_import.specs.declared.object.Object.{Object}
 use Rattle.sn_import.specs.declared.object.What.{What}
 use Rattle.sn_model.specs.declared.call.Call.{Call}
 use Rattle.sn_untar.specs.Steps.{State}
 use Rattle.sn_import_run.specs.Acts.{Act, calls_in}
 use Rattle.sn_import_run.specs.Carried.{Adds, AreMade, Goes, IsStopped, is_outside, stop_of}
+use Rattle.sn_import_run.specs.Entries.{IsFilled, filling}
 use Rattle.sn_import_run.specs.Files.{Arrives, Came, Comes, IsWritten}
 use Rattle.sn_import_run.specs.Streams.{Part, Takes, with_content}
 use Rattle.sn_import_run.specs.declared.stop.Stop.{Stop}
 use Rattle.sn_import_run.specs.declared.stop.Stop.TheVariants.{Refused, Memory, Damaged, Ended, Unread}
-use Rattle.sn_import_run.proofs.Made.{broken_at, made_as, made_more, stopped_after, stopped_as}
+use Rattle.sn_import_run.proofs.Made.{broken_at, made_as, made_more, made_with, stopped_after, stopped_as, stopped_with}
 use Rattle.sn_import_run.proofs.Parts.{content_more, content_of_none, takes_more, takes_none}
 
 -- ---- what came
@@ -104,7 +107,57 @@ fed_whole what before after size left came acts none enough feeds =
     (
       omega arith,
       record {
-        plan_is = ap (λ (bytes : List ℕ). writes before (take size bytes)) (sym (append-nil came)) ∙ m.plan_is;
+        plan_is = ap (λ (bytes : List ℕ). writes before (take size bytes)) (sym (append-nil came)) ∙ m.plan_is ∙ ap (λ (k : ℕ). calls_in acts ++ writes after (take k [])) none;
         fine = m.fine;
       },
     )
+
+pub written_outside : {A : Type 0} (what : What) (before between after : Unwritten) (size left : ℕ) (came : List ℕ) (acts : List Act) (e : Stop) (r : Result A Stop)
+    → IsErrAnd r (λ other. other ≡ e) → is_outside e ≡ true → Feeds what before size came between left acts → IsWritten what before after size came acts (stop_of r)
+written_outside what before between after size left came acts e (Ok a) is out feeds = absurd is
+written_outside what before between after size left came acts e (Err stop) is out feeds = λ rest. broken_at what _ _ acts stop (ap is_outside is ∙ out) (feeds rest)
+
+pub written_stopped : {A : Type 0} (what : What) (before between after : Unwritten) (size left n : ℕ) (came block : List ℕ) (a b : List Act) (e : Stop) (r : Result A Stop)
+    → IsErrAnd r (λ other. other ≡ e) → n ≤ length block → Feeds what before size came between left a
+    → ((rest : List ℕ) → IsStopped what (writes between (take (min left n) block ++ rest)) b e)
+    → IsWritten what before after size (came ++ take n block) (a ++ b) (stop_of r)
+written_stopped what before between after size left n came block a b e (Ok x) is within feeds stopped = absurd is
+written_stopped what before between after size left n came block a b e (Err stop) is within feeds stopped = λ rest.
+    subst (λ (s : Stop). IsStopped what (writes before (take size ((came ++ take n block) ++ rest))) (a ++ b) s) (sym is)
+    (fed_stopped what before between size left n came block a b e within feeds stopped rest)
+
+pub came_same : {A : Type 0} (s : State) (i : Option (List ℕ)) (content : List ℕ) (t : State) (j : Option (List ℕ)) (e : Stop) (r : Result A Stop)
+    → IsErrAnd r (λ other. other ≡ e) → Came s i content t j (Some e) → Came s i content t j (stop_of r)
+came_same s i content t j e (Ok a) is h = absurd is
+came_same s i content t j e (Err stop) is h = subst (λ (other : Stop). Came s i content t j (Some other)) (sym is) h
+
+-- ---- a file
+
+-- a write stops it
+pub filled_stopped : {A : Type 0} (object : Object) (fd size : ℕ) (before after : Unwritten) (came : List ℕ) (acts : List Act) (e : Stop) (r : Result A Stop)
+    → before ≡ record { fd = fd; held = [] } → IsErrAnd r (λ other. other ≡ e) → IsWritten object.what before after size came acts (Some e) → IsFilled fd object size came acts (stop_of r)
+filled_stopped object fd size before after came acts e (Ok a) start is stopped = absurd is
+filled_stopped object fd size before after came acts e (Err stop) start is stopped = λ rest.
+    (let bytes = take size (came ++ rest) in
+    let same : writes before bytes ≡ writes_of fd bytes = ap (λ (u : Unwritten). writes u bytes) start in
+    let s : IsStopped object.what (writes_of fd bytes) acts stop =
+        subst (λ (other : Stop). IsStopped object.what (writes_of fd bytes) acts other) (sym is) (stopped_as object.what (writes before bytes) (writes_of fd bytes) acts e same (stopped rest)) in
+    stopped_with object.what (writes_of fd bytes) (closing_calls fd object) acts stop s)
+
+filled_made : (object : Object) (fd size : ℕ) (before after : Unwritten) (came : List ℕ) (a : List Act)
+    → before ≡ record { fd = fd; held = [] } → IsWritten object.what before after size came a None
+    → AreMade object.what (filling fd object (take size came)) (writes after [] ++ closing_calls fd object) a
+filled_made object fd size before after came a start written =
+    made_with object.what (writes_of fd (take size came)) (writes after []) (closing_calls fd object) a
+    (made_as object.what (writes before (take size came)) (writes_of fd (take size came)) (writes after []) a (ap (λ (u : Unwritten). writes u (take size came)) start) written.1)
+
+-- all is written, and then the calls after the content are made, or stopped
+pub filled_after : {A : Type 0} (object : Object) (fd size : ℕ) (before after : Unwritten) (came : List ℕ) (a b : List Act) (r : Result A Stop)
+    → before ≡ record { fd = fd; held = [] } → IsWritten object.what before after size came a None → Goes object.what (writes after [] ++ closing_calls fd object) [] b r
+    → IsFilled fd object size came (a ++ b) (stop_of r)
+filled_after object fd size before after came a b (Ok x) start written goes =
+    (written.0, made_more object.what _ _ [] a b (filled_made object fd size before after came a start written) goes)
+filled_after object fd size before after came a b (Err stop) start written goes = λ rest.
+    (let same : take size came ≡ take size (came ++ rest) = sym (take-append-le size came rest written.0) in
+    subst (λ (bytes : List ℕ). IsStopped object.what (filling fd object bytes) (a ++ b) stop) same
+    (stopped_after object.what _ _ a b stop (filled_made object fd size before after came a start written) goes))

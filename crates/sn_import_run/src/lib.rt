@@ -19,6 +19,7 @@
 mod answers;
 mod blocks;
 mod calls;
+mod entries;
 mod files;
 mod making;
 mod stop;

@@ -1,0 +1,170 @@
+//! One entry of an archive.
+ghost use Rattle.std.specs.Prelude.{◌≡◌, ◌++◌, ◌∷◌, ℕ, List, [], Some, IfErr, IfOk, true, false};
+ghost use Rattle.sn_import.specs.declared.object.Object.{Object as Made};
+ghost use Rattle.sn_untar.specs.Steps.{state_of};
+ghost use Rattle.sn_import_run.specs.Acts.{Act};
+ghost use Rattle.sn_import_run.specs.Carried.{Adds, stop_of};
+ghost use Rattle.sn_import_run.specs.Entries as entries;
+ghost use Rattle.sn_import_run.specs.Entries.{IsDone, IsMade, kept};
+ghost use Rattle.sn_import_run.specs.Files.{Came};
+ghost use Rattle.sn_import_run.specs.Streams.{begun, longer};
+
+use crate::calls::Calls;
+use crate::files::fill;
+use crate::making::open;
+use crate::stop::Stop;
+use crate::why::Why;
+use sn_import::{Object, What};
+use sn_import_entry::{Names, ObjectFault, has_set_uid, object_of};
+use sn_untar::{Member, Untar};
+use std::alloc::Global;
+use std::io::Read;
+
+fn rights_wait(what: &What) -> bool
+    ensures { result ≡ entries.rights_wait what.now }
+{
+    matches!(what, What::Directory(_) | What::Top(_))
+}
+
+// Makes the calls after those that opened an object, and keeps a directory.
+fn follow<R: Read, C: Calls>(
+    alloc: Global,
+    archive: &mut R,
+    untar: &mut Untar,
+    to: &mut C,
+    object: &Object,
+    fd: u32,
+    size: u64,
+) -> Result<(), Stop>
+    ensures { (came : List ℕ) × Came (state_of untar.old) (R.remaining archive.old) came (state_of untar.new) (R.remaining archive.new) (stop_of result)
+        × Adds (C.acts to.old) (C.acts to.new) (λ acts. entries.IsFinished object.now.what fd object.now size came acts (stop_of result)) }
+{
+    match &object.what {
+        What::File(_) => fill(alloc, archive, untar, to, object, fd, size),
+        _ => Ok(()),
+    }
+}
+
+// Makes the calls of an object, with the content that follows.
+fn carry<R: Read, C: Calls>(
+    alloc: Global,
+    archive: &mut R,
+    untar: &mut Untar,
+    to: &mut C,
+    object: &Object,
+    size: u64,
+) -> Result<(), Stop>
+    ensures { (came : List ℕ) × Came (state_of untar.old) (R.remaining archive.old) came (state_of untar.new) (R.remaining archive.new) (stop_of result)
+        × Adds (C.acts to.old) (C.acts to.new) (λ acts. IsMade object.now size came acts (stop_of result)) }
+{
+    let fd = open(alloc, to, object)?;
+    follow(alloc, archive, untar, to, object, fd, size)
+}
+
+// The same, and keeps a directory until the end.
+fn carry_kept<R: Read, C: Calls>(
+    alloc: Global,
+    archive: &mut R,
+    untar: &mut Untar,
+    to: &mut C,
+    object: Object,
+    size: u64,
+    directories: &mut Vec<Object>,
+) -> Result<(), Stop>
+    ensures kept { directories.new.items ≡ directories.old.items ++ kept object (stop_of result) }
+    ensures made { (came : List ℕ) × Came (state_of untar.old) (R.remaining archive.old) came (state_of untar.new) (R.remaining archive.new) (stop_of result)
+        × Adds (C.acts to.old) (C.acts to.new) (λ acts. IsMade object size came acts (stop_of result)) }
+{
+    carry(alloc, archive, untar, to, &object, size)?;
+    if rights_wait(&object.what) {
+        directories.push(object)?;
+    }
+    Ok(())
+}
+
+pub fn report<C: Calls>(to: &mut C, place: u64, member: &Member, why: Why)
+    ensures { C.acts to.new ≡ C.acts to.old ++ entries.report place member.now why ∷ [] }
+{
+    to.report(Some(place), member.path.as_slice(), why);
+}
+
+fn report_set_uid<C: Calls>(to: &mut C, place: u64, member: &Member)
+    ensures { C.acts to.new ≡ C.acts to.old ++ entries.set_uid_told place member.now }
+{
+    if has_set_uid(member) {
+        report(to, place, member, Why::SetUid);
+    }
+}
+
+// Makes what an entry makes.
+fn make_object<R: Read, C: Calls>(
+    alloc: Global,
+    archive: &mut R,
+    untar: &mut Untar,
+    to: &mut C,
+    place: u64,
+    member: &Member,
+    object: Object,
+    directories: &mut Vec<Object>,
+) -> Result<(), Stop>
+    ensures kept { directories.new.items ≡ directories.old.items ++ kept object (stop_of result) }
+    ensures made { (came : List ℕ) × Came (state_of untar.old) (R.remaining archive.old) came (state_of untar.new) (R.remaining archive.new) (stop_of result)
+        × Adds (C.acts to.old) (C.acts to.new) (λ acts. (made : List Act) × (acts ≡ entries.set_uid_told place member.now ++ made ++ entries.stop_told place member.now (stop_of result))
+            × IsMade object member.now.size came made (stop_of result)) }
+{
+    report_set_uid(to, place, member);
+    match carry_kept(
+        alloc,
+        archive,
+        untar,
+        to,
+        object,
+        member.size,
+        directories,
+    ) {
+        Ok(()) => Ok(()),
+        Err(stop) => {
+            report(to, place, member, Why::Stop(stop));
+            Err(stop)
+        }
+    }
+}
+
+/// Makes an entry at this place of the archive, with the content that follows, and keeps a directory until the end. What stops it, or why it
+/// isn't made, is reported.
+pub fn make_entry<R: Read, C: Calls>(
+    alloc: Global,
+    archive: &mut R,
+    untar: &mut Untar,
+    to: &mut C,
+    names: &Names<'_>,
+    directory: &[u8],
+    place: u64,
+    member: &Member,
+    directories: &mut Vec<Object>,
+) -> Result<(), Stop>
+    ensures { (came : List ℕ) × Came (state_of untar.old) (R.remaining archive.old) came (state_of untar.new) (R.remaining archive.new) (stop_of result)
+        × Adds (C.acts to.old) (C.acts to.new) (λ acts. (own : List Made) × (directories.new.items ≡ directories.old.items ++ own)
+            × IsDone names.now directory.now place (longer (begun member.now false) came) acts own (stop_of result)) }
+{
+    match object_of(alloc, names, directory, member) {
+        Ok(object) => make_object(
+            alloc,
+            archive,
+            untar,
+            to,
+            place,
+            member,
+            object,
+            directories,
+        ),
+        Err(ObjectFault::Entry(fault)) => {
+            report(to, place, member, Why::Fault(fault));
+            Ok(())
+        }
+        Err(ObjectFault::Memory) => {
+            report(to, place, member, Why::Stop(Stop::Memory));
+            Err(Stop::Memory)
+        }
+    }
+}
