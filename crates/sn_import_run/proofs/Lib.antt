@@ -2,3 +2,6 @@ pub mod Made
 pub mod Parts
 pub mod Filled
 pub mod Contents
+pub mod Entry
+pub mod Granted
+pub mod Done

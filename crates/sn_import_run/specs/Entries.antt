@@ -9,6 +9,8 @@ use Rattle.sn_import.specs.declared.object.What.TheVariants.{File, Directory, To
 use Rattle.sn_import_entry.specs.Entries.{object_of}
 use Rattle.sn_import_entry.specs.Forms.{has_set_uid}
 use Rattle.sn_import_entry.specs.declared.fault.EntryFault.{EntryFault}
+use Rattle.sn_import_entry.specs.declared.fault.ObjectFault.{ObjectFault}
+use Rattle.sn_import_entry.specs.declared.fault.ObjectFault.TheVariants as missing
 use Rattle.sn_import_entry.specs.declared.names.Names.{Names}
 use Rattle.sn_untar.specs.declared.members.Member.{Member}
 use Rattle.sn_import_run.specs.Acts.{Act, Called, Told}
@@ -68,6 +70,15 @@ set_uid_told place member = if has_set_uid member then report place member why.S
 abbrev pub stop_told : ℕ → Member → Option Stop → List Act
 stop_told place member None = []
 stop_told place member (Some stop) = report place member (why.Stop stop) ∷ []
+
+-- why there is no object, and whether that ends the import
+abbrev pub fault_told : ObjectFault → Why
+fault_told (missing.Entry fault) = why.Fault fault
+fault_told missing.Memory = why.Stop Memory
+
+abbrev pub fault_stop : ObjectFault → Option Stop
+fault_stop (missing.Entry fault) = None
+fault_stop missing.Memory = Some Memory
 
 abbrev pub rights_wait : What → Bool
 rights_wait (Directory rights) = true

@@ -1,5 +1,5 @@
 -- What an import does: its entries in their order, and the rights of directories after them.
-use Rattle.std.specs.Prelude.{◌≡◌, ℕ, ◌+◌, Bool, true, false, List, [], ◌∷◌, ◌++◌, length, Option, Some, None}
+use Rattle.std.specs.Prelude.{◌≡◌, ℕ, ◌+◌, Bool, true, false, not, List, [], ◌∷◌, ◌++◌, length, Option, Some, None}
 use Rattle.std.specs.Bool.{MatchBool}
 use Rattle.sn_import.specs.Calls.{closing_from}
 use Rattle.sn_import.specs.Depths.{AreDeepestFirst}
@@ -17,7 +17,7 @@ use Rattle.sn_import_run.specs.declared.why.Why.TheVariants as why
 
 abbrev pub goes_on : Option Stop → Bool
 goes_on None = true
-goes_on (Some stop) = elim (ends_reading stop) [ true ↦ false | false ↦ true ]
+goes_on (Some stop) = not (ends_reading stop)
 
 -- Entries from a place on are done, one after the other, and none ends the reading.
 abbrev pub AreDone : Names → List ℕ → ℕ → List Part → List Act → List Object → Type 0
@@ -41,7 +41,7 @@ pub data AreRead (names : Names) (into : List ℕ) (parts : List Part) : List Ac
   -- in an entry
   within : (front : List Part) (last : Part) (acts more : List Act) (directories own : List Object) (stop : Stop) → parts ≡ front ++ last ∷ []
       → AreDone names into 1 front acts directories → IsDone names into (length front + 1) last more own (Some stop) → ends_reading stop ≡ true
-      → AreRead names into parts (acts ++ more) directories (Some stop)
+      → AreRead names into parts (acts ++ more) (directories ++ own) (Some stop)
 
 -- ---- the rights of directories
 

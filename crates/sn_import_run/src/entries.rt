@@ -8,6 +8,7 @@ ghost use Rattle.sn_import_run.specs.Entries as entries;
 ghost use Rattle.sn_import_run.specs.Entries.{IsDone, IsMade, kept};
 ghost use Rattle.sn_import_run.specs.Files.{Came};
 ghost use Rattle.sn_import_run.specs.Streams.{begun, longer};
+ghost use Rattle.sn_import_run.specs.declared.stop.Stop.TheVariants.{Memory as no_memory};
 
 use crate::calls::Calls;
 use crate::files::fill;
@@ -61,6 +62,18 @@ fn carry<R: Read, C: Calls>(
     follow(alloc, archive, untar, to, object, fd, size)
 }
 
+// Keeps a directory until the end.
+fn keep(object: Object, directories: &mut Vec<Object>) -> Result<(), Stop>
+    ensures kept { directories.new.items ≡ directories.old.items ++ kept object (stop_of result) }
+    ensures memory { IfErr result (λ stop. (stop ≡ no_memory) × (entries.rights_wait object.what ≡ true)) }
+{
+    if rights_wait(&object.what) {
+        directories.push(object)?;
+        return Ok(());
+    }
+    Ok(())
+}
+
 // The same, and keeps a directory until the end.
 fn carry_kept<R: Read, C: Calls>(
     alloc: Global,
@@ -76,10 +89,7 @@ fn carry_kept<R: Read, C: Calls>(
         × Adds (C.acts to.old) (C.acts to.new) (λ acts. IsMade object size came acts (stop_of result)) }
 {
     carry(alloc, archive, untar, to, &object, size)?;
-    if rights_wait(&object.what) {
-        directories.push(object)?;
-    }
-    Ok(())
+    keep(object, directories)
 }
 
 pub fn report<C: Calls>(to: &mut C, place: u64, member: &Member, why: Why)
@@ -93,6 +103,15 @@ fn report_set_uid<C: Calls>(to: &mut C, place: u64, member: &Member)
 {
     if has_set_uid(member) {
         report(to, place, member, Why::SetUid);
+    }
+}
+
+// Reports what stopped an entry, if something did.
+fn report_stop<C: Calls>(to: &mut C, place: u64, member: &Member, outcome: &Result<(), Stop>)
+    ensures { C.acts to.new ≡ C.acts to.old ++ entries.stop_told place member.now (stop_of outcome.now) }
+{
+    if let Err(stop) = outcome {
+        report(to, place, member, Why::Stop(*stop));
     }
 }
 
@@ -113,19 +132,25 @@ fn make_object<R: Read, C: Calls>(
             × IsMade object member.now.size came made (stop_of result)) }
 {
     report_set_uid(to, place, member);
-    match carry_kept(
-        alloc,
-        archive,
-        untar,
-        to,
-        object,
-        member.size,
-        directories,
-    ) {
-        Ok(()) => Ok(()),
-        Err(stop) => {
-            report(to, place, member, Why::Stop(stop));
-            Err(stop)
+    let size = member.size;
+    let outcome = carry_kept(alloc, archive, untar, to, object, size, directories);
+    report_stop(to, place, member, &outcome);
+    outcome
+}
+
+// Reports why an entry has no object.
+fn refuse<C: Calls>(to: &mut C, place: u64, member: &Member, fault: ObjectFault) -> Result<(), Stop>
+    ensures told { C.acts to.new ≡ C.acts to.old ++ entries.report place member.now (entries.fault_told fault) ∷ [] }
+    ensures stop { stop_of result ≡ entries.fault_stop fault }
+{
+    match fault {
+        ObjectFault::Entry(fault) => {
+            report(to, place, member, Why::Fault(fault));
+            Ok(())
+        }
+        ObjectFault::Memory => {
+            report(to, place, member, Why::Stop(Stop::Memory));
+            Err(Stop::Memory)
         }
     }
 }
@@ -158,13 +183,6 @@ pub fn make_entry<R: Read, C: Calls>(
             object,
             directories,
         ),
-        Err(ObjectFault::Entry(fault)) => {
-            report(to, place, member, Why::Fault(fault));
-            Ok(())
-        }
-        Err(ObjectFault::Memory) => {
-            report(to, place, member, Why::Stop(Stop::Memory));
-            Err(Stop::Memory)
-        }
+        Err(fault) => refuse(to, place, member, fault),
     }
 }

@@ -22,6 +22,7 @@ mod calls;
 mod entries;
 mod files;
 mod making;
+mod rights;
 mod stop;
 mod why;
 

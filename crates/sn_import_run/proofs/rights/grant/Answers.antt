@@ -1,0 +1,20 @@
+use Rattle.std.proofs.Common.{◌≡◌, ◌++◌, ◌∷◌, [], Some, List, ℕ, None, ap, refl, ◌∙◌}
+use Rattle.sn_import_run.specs.Acts.{Told}
+use Rattle.sn_import_run.specs.Imports.{stop_told}
+use Rattle.sn_import_run.specs.declared.why.Why.TheVariants.{Stop}
+use Rattle.sn_import_run.proofs.Made.{adds_more}
+use Rattle.sn_import_run.proofs.rights.grant.Goals as goal
+
+pub returns-in-Err : goal.returns-in-Err
+returns-in-Err g c =
+    let k = c.in-Err.ensures in
+    let told = stop_told c.args.object.now (Some c.in-Err.stop) in
+    (
+      Some c.in-Err.stop,
+      c.ends_import.ensures,
+      (
+        k.0 ++ told,
+        adds_more _ _ _ k.0 told k.1 (c.report.ensures ∙ ap (λ (name : List ℕ). g.C.Calls.acts c.close.new.to ++ Told None name (Stop c.in-Err.stop) ∷ []) c.as_bytes.ensures),
+        (k.0, refl, k.2),
+      ),
+    )
