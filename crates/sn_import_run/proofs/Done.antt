@@ -1,7 +1,8 @@
 -- Entries that are done, one after the other.
-use Rattle.std.proofs.Common.{◌≡◌, ℕ, ◌+◌, Bool, true, false, List, [], ◌∷◌, ◌++◌, length, take, refl, sym, ap, subst, ◌∙◌, append_assoc, length-append, arith}
-use Rattle.std.specs.Prelude.{Option, Some, None, not}
+use Rattle.std.proofs.Common.{◌≡◌, ℕ, suc, ◌+◌, ◌≤◌, Bool, true, false, List, [], ◌∷◌, ◌++◌, length, take, refl, sym, ap, subst, ◌∙◌, append_assoc, length-append, arith}
+use Rattle.std.specs.Prelude.{Option, Some, None, Result, Ok, Err, IsErrAnd, not}
 use Rattle.std.proofs.lemmas.List.{append-nil}
+use Rattle.std.specs.Bool.{MatchBool}
 use Rattle.std.specs.Io.KnownBytes.{Consumes}
 use Rattle.sn_import.specs.declared.object.Object.{Object}
 use Rattle.sn_import_entry.specs.declared.names.Names.{Names}
@@ -10,15 +11,16 @@ use Rattle.sn_untar.specs.declared.members.Member.{Member}
 use Rattle.sn_untar.specs.declared.told.Told.{Told}
 use Rattle.sn_untar.specs.declared.told.Told.TheVariants as told
 use Rattle.sn_import_run.specs.Acts.{Act}
+use Rattle.sn_import_run.specs.Carried.{stop_of}
 use Rattle.sn_import_run.specs.Entries.{IsDone, IsTaken}
 use Rattle.sn_import_run.specs.Files.{Arrives, Came, Comes}
-use Rattle.sn_import_run.specs.Imports.{AreDone, AreRead, goes_on, within}
+use Rattle.sn_import_run.specs.Imports.{AreDone, AreRead, IsImport, SetsRights, all, broken, end_told, goes_on, is_over, within}
 use Rattle.sn_import_run.specs.Stops.{ends_reading}
 use Rattle.sn_import_run.specs.Streams.{Begins, Part, Takes, begun, longer, parts_after, with_content}
 use Rattle.sn_import_run.specs.declared.stop.Stop.{Stop}
 use Rattle.sn_import_run.specs.declared.stop.Stop.TheVariants.{Refused, Memory, Damaged, Ended, Unread}
 use Rattle.sn_import_run.proofs.Entry.{done_longer}
-use Rattle.sn_import_run.proofs.Parts.{content_last, takes_more, takes_one}
+use Rattle.sn_import_run.proofs.Parts.{content_last, content_of_none, takes_more, takes_one}
 
 -- one entry more
 pub done_snoc : (names : Names) (into : List ℕ) (place n : ℕ) (parts : List Part) (part : Part) (acts a : List Act) (directories own : List Object) (stop : Option Stop)
@@ -91,4 +93,167 @@ pub record Progress (names : Names) (into : List ℕ) (input : Option (List ℕ)
 no_content : (parts : List Part) (bytes : List ℕ) → length (with_content parts bytes) ≡ length parts
 no_content [] bytes = refl
 no_content (part ∷ []) bytes = refl
-no_content (part ∷ next ∷ parts) bytes = ap (λ n. n + 1) (no_content (next ∷ parts) bytes)
+no_content (part ∷ next ∷ parts) bytes = ap suc (no_content (next ∷ parts) bytes)
+
+came_none : (t u : State) (k l : Option (List ℕ)) (came : List ℕ) → came ≡ [] → Arrives t k came u l → (parts : List Part) → Takes t parts k parts u l
+came_none t u k l came none arrives parts =
+    subst (λ (ps : List Part). Takes t parts k ps u l) (ap (with_content parts) none ∙ content_of_none parts) (arrives parts)
+
+-- no entry begins with a block
+passed : (names : Names) (into : List ℕ) (says : Told) (block : List ℕ) (s t u : State) (i j k l : Option (List ℕ)) (count next : ℕ) (came : List ℕ) (acts a : List Act) (ds own : List Object) (stop : Option Stop)
+    (p : Progress names into i s j count acts ds) → length block ≡ 512 → Steps s block says t → Consumes j k block → Arrives t k came u l
+    → AreDone names into 1 (parts_after p.parts block says) acts ds → length (parts_after p.parts block says) ≡ length p.parts
+    → (a ≡ []) × (own ≡ []) × (stop ≡ None) × (next ≡ count) × (came ≡ []) → Progress names into i u l next (acts ++ a) (ds ++ own)
+passed names into says block s t u i j k l count next came acts a ds own stop p long step taken arrives done same h =
+    let after = parts_after p.parts block says in
+    let first = takes_more start [] i p.parts s j after t k p.takes (takes_one s p.parts j block says t k after long step taken refl) in
+    let acts_are : acts ≡ acts ++ a = sym (ap (λ (xs : List Act). acts ++ xs) h.0 ∙ append-nil acts) in
+    let ds_are : ds ≡ ds ++ own = sym (ap (λ (os : List Object). ds ++ os) h.1 ∙ append-nil ds) in
+    record {
+      parts = after;
+      takes = takes_more start [] i after t k after u l first (came_none t u k l came h.4 arrives after);
+      count_is = h.3 ∙ p.count_is ∙ sym same;
+      done = subst (λ (os : List Object). AreDone names into 1 after (acts ++ a) os) ds_are (subst (λ (xs : List Act). AreDone names into 1 after xs ds) acts_are done);
+    }
+
+one_longer : (parts : List Part) (part : Part) → length (parts ++ part ∷ []) ≡ length parts + 1
+one_longer parts part = length-append parts (part ∷ [])
+
+-- after a block, and what is done of the entry that it begins
+pub taken_next : (names : Names) (into : List ℕ) (says : Told) (block : List ℕ) (s t u : State) (i j k l : Option (List ℕ)) (count next : ℕ) (came : List ℕ) (acts a : List Act) (ds own : List Object) (stop : Option Stop)
+    → Progress names into i s j count acts ds → length block ≡ 512 → Steps s block says t → Consumes j k block → Came t k came u l stop
+    → IsTaken names into count says came a own stop next → goes_on stop ≡ true → Progress names into i u l next (acts ++ a) (ds ++ own)
+taken_next names into (told.Entry member) block s t u i j k l count next came acts a ds own stop p long step taken c h goes =
+    let entry = begun member false in
+    let between = p.parts ++ entry ∷ [] in
+    let after = p.parts ++ longer entry came ∷ [] in
+    let first = takes_more start [] i p.parts s j between t k p.takes (takes_one s p.parts j block (told.Entry member) t k between long step taken refl) in
+    let content = subst (λ (ps : List Part). Takes t between k ps u l) (content_last p.parts entry came) (came_goes t k came u l stop goes c between) in
+    record {
+      parts = after;
+      takes = takes_more start [] i between t k after u l first content;
+      count_is = omega (arith, h.1, p.count_is, one_longer p.parts (longer entry came));
+      done = done_snoc names into 1 (count + 1) p.parts (longer entry came) acts a ds own stop (omega (arith, p.count_is)) p.done h.0 goes;
+    }
+taken_next names into (told.Cut member) block s t u i j k l count next came acts a ds own stop p long step taken c h goes =
+    let entry = begun member true in
+    let after = p.parts ++ entry ∷ [] in
+    let first = takes_more start [] i p.parts s j after t k p.takes (takes_one s p.parts j block (told.Cut member) t k after long step taken refl) in
+    record {
+      parts = after;
+      takes = takes_more start [] i after t k after u l first (came_none t u k l came h.2 (came_goes t k came u l stop goes c) after);
+      count_is = omega (arith, h.1, p.count_is, one_longer p.parts entry);
+      done = done_snoc names into 1 (count + 1) p.parts entry acts a ds own stop (omega (arith, p.count_is)) p.done h.0 goes;
+    }
+taken_next names into (told.Content size) block s t u i j k l count next came acts a ds own stop p long step taken c h goes =
+    passed names into (told.Content size) block s t u i j k l count next came acts a ds own stop p long step taken (came_goes t k came u l stop goes c)
+    (done_content names into 1 p.parts (take size block) acts ds p.done) (no_content p.parts (take size block)) h
+taken_next names into told.Nothing block s t u i j k l count next came acts a ds own stop p long step taken c h goes =
+    passed names into told.Nothing block s t u i j k l count next came acts a ds own stop p long step taken (came_goes t k came u l stop goes c) p.done refl h
+taken_next names into told.TooLong block s t u i j k l count next came acts a ds own stop p long step taken c h goes =
+    passed names into told.TooLong block s t u i j k l count next came acts a ds own stop p long step taken (came_goes t k came u l stop goes c) p.done refl h
+taken_next names into told.End block s t u i j k l count next came acts a ds own stop p long step taken c h goes =
+    passed names into told.End block s t u i j k l count next came acts a ds own stop p long step taken (came_goes t k came u l stop goes c) p.done refl h
+
+-- what is made in all, where an entry ends the reading
+abbrev pub IsEnded : Names → List ℕ → Option (List ℕ) → List Act → List Object → Stop → Type 0
+IsEnded names into input acts ds stop = (parts : List Part) × Begins start [] input parts × AreRead names into parts acts ds (Some stop)
+
+none_ended : {X : Type 0} (stop : Stop) → Some stop ≡ None → X
+none_ended stop is = absurd (let no : ⊥ = cc in no)
+
+pub taken_last : (names : Names) (into : List ℕ) (says : Told) (block : List ℕ) (s t u : State) (i j k l : Option (List ℕ)) (count next : ℕ) (came : List ℕ) (acts a : List Act) (ds own : List Object) (stop : Stop)
+    → Progress names into i s j count acts ds → length block ≡ 512 → Steps s block says t → Consumes j k block → Came t k came u l (Some stop)
+    → IsTaken names into count says came a own (Some stop) next → ends_reading stop ≡ true → IsEnded names into i (acts ++ a) (ds ++ own) stop
+taken_last names into (told.Entry member) block s t u i j k l count next came acts a ds own stop p long step taken c h ends =
+    let entry = begun member false in
+    let between = p.parts ++ entry ∷ [] in
+    let after = p.parts ++ longer entry came ∷ [] in
+    let first = takes_more start [] i p.parts s j between t k p.takes (takes_one s p.parts j block (told.Entry member) t k between long step taken refl) in
+    let comes = came_comes t k came u l (Some stop) c in
+    let content = subst (λ (ps : List Part). Takes t between k ps comes.0 comes.1) (content_last p.parts entry came) (comes.2 between) in
+    (
+      after,
+      (comes.0, comes.1, takes_more start [] i between t k after comes.0 comes.1 first content),
+      within p.parts (longer entry came) acts a ds own stop refl p.done (subst (λ (n : ℕ). IsDone names into (n + 1) (longer entry came) a own (Some stop)) p.count_is h.0) ends,
+    )
+taken_last names into (told.Cut member) block s t u i j k l count next came acts a ds own stop p long step taken c h ends =
+    let entry = begun member true in
+    let after = p.parts ++ entry ∷ [] in
+    let first = takes_more start [] i p.parts s j after t k p.takes (takes_one s p.parts j block (told.Cut member) t k after long step taken refl) in
+    (
+      after,
+      (t, k, first),
+      within p.parts entry acts a ds own stop refl p.done (subst (λ (n : ℕ). IsDone names into (n + 1) entry a own (Some stop)) p.count_is h.0) ends,
+    )
+taken_last names into (told.Content size) block s t u i j k l count next came acts a ds own stop p long step taken c h ends = none_ended stop h.2
+taken_last names into told.Nothing block s t u i j k l count next came acts a ds own stop p long step taken c h ends = none_ended stop h.2
+taken_last names into told.TooLong block s t u i j k l count next came acts a ds own stop p long step taken c h ends = none_ended stop h.2
+taken_last names into told.End block s t u i j k l count next came acts a ds own stop p long step taken c h ends = none_ended stop h.2
+
+-- ---- the end
+
+pub taken_count : (names : Names) (into : List ℕ) (count : ℕ) (says : Told) (came : List ℕ) (acts : List Act) (own : List Object) (stop : Option Stop) (next : ℕ)
+    → IsTaken names into count says came acts own stop next → next ≤ count + 1
+taken_count names into count (told.Entry member) came acts own stop next h = omega (arith, h.1)
+taken_count names into count (told.Cut member) came acts own stop next h = omega (arith, h.1)
+taken_count names into count (told.Content size) came acts own stop next h = omega (arith, h.3)
+taken_count names into count told.Nothing came acts own stop next h = omega (arith, h.3)
+taken_count names into count told.TooLong came acts own stop next h = omega (arith, h.3)
+taken_count names into count told.End came acts own stop next h = omega (arith, h.3)
+
+-- what is made in all, and what ended the reading
+abbrev pub IsRead : Names → List ℕ → Option (List ℕ) → List Act → List Object → Option Stop → Type 0
+IsRead names into input acts ds stop = (parts : List Part) × Begins start [] input parts × AreRead names into parts acts ds stop
+
+read_all : (names : Names) (into : List ℕ) (i j : Option (List ℕ)) (s : State) (count : ℕ) (acts : List Act) (ds : List Object) → Progress names into i s j count acts ds → IsRead names into i acts ds None
+read_all names into i j s count acts ds p = (p.parts, (s, j, p.takes), all acts ds p.done)
+
+-- between two entries
+pub read_end : (names : Names) (into : List ℕ) (i j : Option (List ℕ)) (s : State) (count : ℕ) (acts : List Act) (ds : List Object) (stop : Option Stop)
+    → Progress names into i s j count acts ds → IsRead names into i (acts ++ end_told count stop) ds stop
+read_end names into i j s count acts ds None p = subst (λ (xs : List Act). IsRead names into i xs ds None) (sym (append-nil acts)) (read_all names into i j s count acts ds p)
+read_end names into i j s count acts ds (Some stop) p =
+    subst (λ (n : ℕ). IsRead names into i (acts ++ end_told n (Some stop)) ds (Some stop)) (sym p.count_is)
+    (p.parts, (s, j, p.takes), broken acts ds stop p.done)
+
+-- after the two blocks of zeros
+pub read_whole : (names : Names) (into : List ℕ) (i j : Option (List ℕ)) (s : State) (count : ℕ) (acts : List Act) (ds more : List Object)
+    → Progress names into i s j count acts ds → more ≡ ds → IsRead names into i acts more None
+read_whole names into i j s count acts ds more p is = subst (λ (os : List Object). IsRead names into i acts os None) (sym is) (read_all names into i j s count acts ds p)
+
+-- in an entry
+pub read_within : {A : Type 0} (names : Names) (into : List ℕ) (i : Option (List ℕ)) (acts : List Act) (ds more : List Object) (e : Stop) (r : Result A Stop)
+    → IsErrAnd r (λ other. other ≡ e) → IsEnded names into i acts ds e → more ≡ ds → IsRead names into i acts more (stop_of r)
+read_within names into i acts ds more e (Ok a) is ended same = absurd is
+read_within names into i acts ds more e (Err stop) is ended same =
+    subst (λ (os : List Object). IsRead names into i acts os (Some stop)) (sym same)
+    (subst (λ (other : Stop). IsRead names into i acts ds (Some other)) (sym is) ended)
+
+-- ---- the whole
+
+pub import_over : (names : Names) (into : List ℕ) (i : Option (List ℕ)) (acts : List Act) (ds : List Object) (stop : Option Stop) (r : IsRead names into i acts ds stop) → is_over stop ≡ true
+    → IsImport names into r.0 acts
+import_over names into i acts ds stop r over =
+    let none : List Act = [] in
+    record {
+      reading = acts;
+      after = [];
+      directories = ds;
+      stop = stop;
+      acts_are = sym (append-nil acts);
+      are_read = r.2;
+      rights = subst (λ (b : Bool). MatchBool b (none ≡ []) (SetsRights ds none)) (sym over) refl;
+    }
+
+pub import_goes : (names : Names) (into : List ℕ) (i : Option (List ℕ)) (acts more : List Act) (ds : List Object) (stop : Option Stop) (r : IsRead names into i acts ds stop) → is_over stop ≡ false
+    → SetsRights ds more → IsImport names into r.0 (acts ++ more)
+import_goes names into i acts more ds stop r over sets = record {
+  reading = acts;
+  after = more;
+  directories = ds;
+  stop = stop;
+  acts_are = refl;
+  are_read = r.2;
+  rights = subst (λ (b : Bool). MatchBool b (more ≡ []) (SetsRights ds more)) (sym over) sets;
+}

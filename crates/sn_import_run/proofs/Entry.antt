@@ -12,9 +12,12 @@ use Rattle.sn_import_entry.specs.declared.fault.EntryFault.{EntryFault}
 use Rattle.sn_import_entry.specs.declared.fault.ObjectFault.{ObjectFault}
 use Rattle.sn_import_entry.specs.declared.fault.ObjectFault.TheVariants as missing
 use Rattle.sn_import_entry.specs.declared.names.Names.{Names}
+use Rattle.sn_untar.specs.declared.members.Member.{Member}
+use Rattle.sn_untar.specs.declared.told.Told.{Told}
+use Rattle.sn_untar.specs.declared.told.Told.TheVariants as told
 use Rattle.sn_import_run.specs.Acts.{Act}
 use Rattle.sn_import_run.specs.Carried.{AreMade, IsStopped, last_descriptor, stop_of}
-use Rattle.sn_import_run.specs.Entries.{IsDone, IsFilled, IsFinished, IsMade, IsOpened, IsUnopened, cut, fault_stop, fault_told, faulty, filling, made, report, rights_wait, unmade}
+use Rattle.sn_import_run.specs.Entries.{IsDone, IsFilled, IsFinished, IsMade, IsOpened, IsTaken, IsUnopened, cut, fault_stop, fault_told, faulty, filling, made, report, rights_wait, unmade}
 use Rattle.sn_import_run.specs.Streams.{Part, longer}
 use Rattle.sn_import_run.specs.declared.stop.Stop.{Stop}
 use Rattle.sn_import_run.specs.declared.stop.Stop.TheVariants.{Memory}
@@ -107,3 +110,13 @@ pub refused_done : (names : Names) (into : List ℕ) (place : ℕ) (part : Part)
     → IsDone names into place part (report place part.member (fault_told fault) ∷ []) [] (fault_stop fault)
 refused_done names into place part (missing.Entry f) whole is = faulty f whole (is f refl)
 refused_done names into place part missing.Memory whole is = unmade
+
+-- nothing is made where no entry begins
+pub taken_other : (names : Names) (into : List ℕ) (count : ℕ) (says : Told) → ((member : Member) → says ≡ told.Entry member → ⊥) → ((member : Member) → says ≡ told.Cut member → ⊥)
+    → IsTaken names into count says [] [] [] None count
+taken_other names into count (told.Entry member) no_entry no_cut = absurd (no_entry member refl)
+taken_other names into count (told.Cut member) no_entry no_cut = absurd (no_cut member refl)
+taken_other names into count (told.Content size) no_entry no_cut = (refl, refl, refl, refl, refl)
+taken_other names into count told.Nothing no_entry no_cut = (refl, refl, refl, refl, refl)
+taken_other names into count told.TooLong no_entry no_cut = (refl, refl, refl, refl, refl)
+taken_other names into count told.End no_entry no_cut = (refl, refl, refl, refl, refl)

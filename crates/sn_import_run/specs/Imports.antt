@@ -1,5 +1,5 @@
 -- What an import does: its entries in their order, and the rights of directories after them.
-use Rattle.std.specs.Prelude.{◌≡◌, ℕ, ◌+◌, Bool, true, false, not, List, [], ◌∷◌, ◌++◌, length, Option, Some, None}
+use Rattle.std.specs.Prelude.{◌≡◌, ℕ, ◌+◌, Bool, true, false, not, List, [], ◌∷◌, ◌++◌, length, Option, Some, None, Result, Ok, Err}
 use Rattle.std.specs.Bool.{MatchBool}
 use Rattle.sn_import.specs.Calls.{closing_from}
 use Rattle.sn_import.specs.Depths.{AreDeepestFirst}
@@ -18,6 +18,11 @@ use Rattle.sn_import_run.specs.declared.why.Why.TheVariants as why
 abbrev pub goes_on : Option Stop → Bool
 goes_on None = true
 goes_on (Some stop) = not (ends_reading stop)
+
+-- only what ends the reading stays an error
+abbrev pub IsPassed : {A : Type 0} → Result A Stop → Option Stop → Type 0
+IsPassed (Ok a) stop = goes_on stop ≡ true
+IsPassed (Err e) stop = (stop ≡ Some e) × (ends_reading e ≡ true)
 
 -- Entries from a place on are done, one after the other, and none ends the reading.
 abbrev pub AreDone : Names → List ℕ → ℕ → List Part → List Act → List Object → Type 0

@@ -21,11 +21,13 @@ mod blocks;
 mod calls;
 mod entries;
 mod files;
+mod imports;
 mod making;
 mod rights;
 mod stop;
 mod why;
 
 pub use calls::Calls;
+pub use imports::import;
 pub use stop::Stop;
 pub use why::Why;
