@@ -1,6 +1,6 @@
 -- The content of a file, as it comes.
-use Rattle.std.proofs.Common.{◌≡◌, ℕ, ◌+◌, ◌-◌, ◌<◌, ◌≤◌, min, Bool, true, false, List, [], ◌∷◌, ◌++◌, length, take, drop, ⊎_elim, refl, sym, ap, subst, ◌∙◌, append_assoc, length-append, take-take, arith}
-use Rattle.std.specs.Prelude.{◌⊎◌, Option, Some, None, Result, Ok, Err, IsErrAnd}
+use Rattle.std.proofs.Common.{◌≡◌, ℕ, ◌+◌, ◌-◌, ◌<◌, ◌≤◌, min, true, false, List, [], ◌++◌, length, take, ⊎_elim, inl, sym, ap, subst, ◌∙◌, append_assoc, length-append, take-take, arith}
+use Rattle.std.specs.Prelude.{Option, Some, None, Result, Ok, Err, IfErr, IsErrAnd}
 use Rattle.std.proofs.Math.Seq.{take-append-add}
 use Rattle.std.proofs.lemmas.List.{append-nil, length-take-le, take-append-le}
 use Rattle.std.proofs.lemmas.Bool.{cases_lt}
@@ -8,12 +8,12 @@ use Rattle.sn_import.specs.Calls.{closing_calls}
 use Rattle.sn_import.specs.Writes.{Unwritten, writes, writes_of}
 use Rattle.sn_import.specs.declared.object.Object.{Object}
 use Rattle.sn_import.specs.declared.object.What.{What}
-use Rattle.sn_model.specs.declared.call.Call.{Call}
 use Rattle.sn_untar.specs.Steps.{State}
 use Rattle.sn_import_run.specs.Acts.{Act, calls_in}
-use Rattle.sn_import_run.specs.Carried.{Adds, AreMade, Goes, IsStopped, is_outside, stop_of}
+use Rattle.sn_import_run.specs.Carried.{AreMade, Goes, IsStopped, is_outside, stop_of}
 use Rattle.sn_import_run.specs.Entries.{IsFilled, filling}
 use Rattle.sn_import_run.specs.Files.{Arrives, Came, Comes, IsWritten}
+use Rattle.sn_import_run.specs.Stops.{is_call}
 use Rattle.sn_import_run.specs.Streams.{Part, Takes, with_content}
 use Rattle.sn_import_run.specs.declared.stop.Stop.{Stop}
 use Rattle.sn_import_run.specs.declared.stop.Stop.TheVariants.{Refused, Memory, Damaged, Ended, Unread}
@@ -30,15 +30,23 @@ pub arrives_more : (s : State) (i : Option (List ℕ)) (a : List ℕ) (t : State
 arrives_more s i a t j b u k g h parts =
     subst (λ (ps : List Part). Takes s parts i ps u k) (content_more parts a b) (takes_more s parts i (with_content parts a) t j (with_content (with_content parts a) b) u k (g parts) (h (with_content parts a)))
 
-pub came_any : (s : State) (i : Option (List ℕ)) (content : List ℕ) (t : State) (j : Option (List ℕ)) (stop : Option Stop) → Arrives s i content t j → Came s i content t j stop
-came_any s i content t j None h = h
-came_any s i content t j (Some (Refused errno)) h = h
-came_any s i content t j (Some Memory) h = (t, j, h)
-came_any s i content t j (Some Damaged) h = (t, j, h)
-came_any s i content t j (Some Ended) h = (t, j, h)
-came_any s i content t j (Some (Unread e)) h = (t, j, h)
+-- a call is the reason, so that the archive can be read on
+pub came_call : {A : Type 0} (s : State) (i : Option (List ℕ)) (content : List ℕ) (t : State) (j : Option (List ℕ)) (r : Result A Stop) → IfErr r (λ stop. is_call stop ≡ true)
+    → Arrives s i content t j → Came s i content t j (stop_of r)
+came_call s i content t j (Ok a) is h = h
+came_call s i content t j (Err (Refused errno)) is h = h
+came_call s i content t j (Err Memory) is h = (t, j, h, inl tt)
+came_call s i content t j (Err Damaged) is h = let never : false ≡ true = is in cc
+came_call s i content t j (Err Ended) is h = let never : false ≡ true = is in cc
+came_call s i content t j (Err (Unread e)) is h = let never : false ≡ true = is in cc
 
-came_stop : (s : State) (i : Option (List ℕ)) (content : List ℕ) (t : State) (j : Option (List ℕ)) (stop : Stop) → is_outside stop ≡ true → Comes s i content → Came s i content t j (Some stop)
+-- the same, where the error is another's
+pub came_error : {A : Type 0} (s : State) (i : Option (List ℕ)) (content : List ℕ) (t : State) (j : Option (List ℕ)) (e : Stop) (r : Result A Stop)
+    → IsErrAnd r (λ other. other ≡ e) → is_call e ≡ true → Arrives s i content t j → Came s i content t j (stop_of r)
+came_error s i content t j e (Ok a) is call h = absurd is
+came_error s i content t j e (Err stop) is call h = came_call {A = ℕ} s i content t j (Err stop) (ap is_call is ∙ call) h
+
+came_stop : (s : State) (i : Option (List ℕ)) (content : List ℕ) (t : State) (j : Option (List ℕ)) (stop : Stop) → is_outside stop ≡ true → Comes s i content stop → Came s i content t j (Some stop)
 came_stop s i content t j (Refused errno) is h = let never : false ≡ true = is in cc
 came_stop s i content t j Memory is h = h
 came_stop s i content t j Damaged is h = h
@@ -46,9 +54,9 @@ came_stop s i content t j Ended is h = h
 came_stop s i content t j (Unread e) is h = h
 
 pub came_outside : {A : Type 0} (s : State) (i : Option (List ℕ)) (content : List ℕ) (t : State) (j : Option (List ℕ)) (e : Stop) (r : Result A Stop)
-    → IsErrAnd r (λ other. other ≡ e) → is_outside e ≡ true → Comes s i content → Came s i content t j (stop_of r)
+    → IsErrAnd r (λ other. other ≡ e) → is_outside e ≡ true → Comes s i content e → Came s i content t j (stop_of r)
 came_outside s i content t j e (Ok a) is out h = absurd is
-came_outside s i content t j e (Err stop) is out h = came_stop s i content t j stop (ap is_outside is ∙ out) h
+came_outside s i content t j e (Err stop) is out h = came_stop s i content t j stop (ap is_outside is ∙ out) (subst (λ (other : Stop). Comes s i content other) (sym is) h)
 
 -- ---- what is written
 
@@ -56,17 +64,17 @@ came_outside s i content t j e (Err stop) is out h = came_stop s i content t j s
 pub take_front : (left n : ℕ) (block rest : List ℕ) → n ≤ length block → take left (take n block ++ rest) ≡ take (min left n) block ++ take (left - min left n) rest
 take_front left n block rest within = ⊎_elim
     (λ (few : left < n).
-      (let front : length (take n block) ≡ n = length-take-le n block within in
-      let same : min left n ≡ left = omega arith in
-      let none : left - min left n ≡ 0 = omega arith in
-      take-append-le left (take n block) rest (omega arith) ∙ take-take left n block (omega arith) ∙ sym (append-nil (take left block))
-      ∙ ap (λ (k : ℕ). take k block ++ []) (sym same) ∙ ap (λ (k : ℕ). take (min left n) block ++ take k rest) (sym none)))
+    (let front : length (take n block) ≡ n = length-take-le n block within in
+    let same : min left n ≡ left = omega arith in
+    let none : left - min left n ≡ 0 = omega arith in
+    take-append-le left (take n block) rest (omega arith) ∙ take-take left n block (omega arith) ∙ sym (append-nil (take left block))
+    ∙ ap (λ (k : ℕ). take k block ++ []) (sym same) ∙ ap (λ (k : ℕ). take (min left n) block ++ take k rest) (sym none)))
     (λ (more : n ≤ left).
-      (let front : length (take n block) ≡ n = length-take-le n block within in
-      let same : min left n ≡ n = omega arith in
-      let whole : length (take n block) + (left - n) ≡ left = omega arith in
-      ap (λ (k : ℕ). take k (take n block ++ rest)) (sym whole) ∙ take-append-add (take n block) rest (left - n)
-      ∙ ap (λ (k : ℕ). take k block ++ take (left - k) rest) (sym same)))
+    (let front : length (take n block) ≡ n = length-take-le n block within in
+    let same : min left n ≡ n = omega arith in
+    let whole : length (take n block) + (left - n) ≡ left = omega arith in
+    ap (λ (k : ℕ). take k (take n block ++ rest)) (sym whole) ∙ take-append-add (take n block) rest (left - n)
+    ∙ ap (λ (k : ℕ). take k block ++ take (left - k) rest) (sym same)))
     (cases_lt left n)
 
 -- the writes of a content that begins so
@@ -103,8 +111,7 @@ fed_size size left n came block within enough = omega (arith, length-append came
 pub fed_whole : (what : What) (before after : Unwritten) (size left : ℕ) (came : List ℕ) (acts : List Act) → left ≡ 0 → size ≤ length came + left → Feeds what before size came after left acts
     → IsWritten what before after size came acts None
 fed_whole what before after size left came acts none enough feeds =
-    let m = feeds [] in
-    (
+    let m = feeds [] in (
       omega arith,
       record {
         plan_is = ap (λ (bytes : List ℕ). writes before (take size bytes)) (sym (append-nil came)) ∙ m.plan_is ∙ ap (λ (k : ℕ). calls_in acts ++ writes after (take k [])) none;
@@ -141,7 +148,7 @@ filled_stopped object fd size before after came acts e (Err stop) start is stopp
     (let bytes = take size (came ++ rest) in
     let same : writes before bytes ≡ writes_of fd bytes = ap (λ (u : Unwritten). writes u bytes) start in
     let s : IsStopped object.what (writes_of fd bytes) acts stop =
-        subst (λ (other : Stop). IsStopped object.what (writes_of fd bytes) acts other) (sym is) (stopped_as object.what (writes before bytes) (writes_of fd bytes) acts e same (stopped rest)) in
+    subst (λ (other : Stop). IsStopped object.what (writes_of fd bytes) acts other) (sym is) (stopped_as object.what (writes before bytes) (writes_of fd bytes) acts e same (stopped rest)) in
     stopped_with object.what (writes_of fd bytes) (closing_calls fd object) acts stop s)
 
 filled_made : (object : Object) (fd size : ℕ) (before after : Unwritten) (came : List ℕ) (a : List Act)

@@ -1,22 +1,21 @@
 -- Entries that are done, one after the other.
-use Rattle.std.proofs.Common.{◌≡◌, ℕ, suc, ◌+◌, ◌≤◌, Bool, true, false, List, [], ◌∷◌, ◌++◌, length, take, refl, sym, ap, subst, ◌∙◌, append_assoc, length-append, arith}
-use Rattle.std.specs.Prelude.{Option, Some, None, Result, Ok, Err, IsErrAnd, not}
+use Rattle.std.proofs.Common.{◌≡◌, ℕ, suc, ◌+◌, ◌≤◌, Bool, true, false, List, [], ◌∷◌, ◌++◌, length, take, inl, inr, refl, sym, ap, subst, ◌∙◌, append_assoc, length-append, arith}
+use Rattle.std.specs.Prelude.{Option, Some, None, Result, Ok, Err, IfErr, IsErrAnd, OnOk}
 use Rattle.std.proofs.lemmas.List.{append-nil}
 use Rattle.std.specs.Bool.{MatchBool}
 use Rattle.std.specs.Io.KnownBytes.{Consumes}
 use Rattle.sn_import.specs.declared.object.Object.{Object}
 use Rattle.sn_import_entry.specs.declared.names.Names.{Names}
 use Rattle.sn_untar.specs.Steps.{State, Steps, start}
-use Rattle.sn_untar.specs.declared.members.Member.{Member}
 use Rattle.sn_untar.specs.declared.told.Told.{Told}
 use Rattle.sn_untar.specs.declared.told.Told.TheVariants as told
 use Rattle.sn_import_run.specs.Acts.{Act}
 use Rattle.sn_import_run.specs.Carried.{stop_of}
 use Rattle.sn_import_run.specs.Entries.{IsDone, IsTaken}
-use Rattle.sn_import_run.specs.Files.{Arrives, Came, Comes}
+use Rattle.sn_import_run.specs.Files.{Arrives, Came}
 use Rattle.sn_import_run.specs.Imports.{AreDone, AreRead, IsImport, SetsRights, all, broken, end_told, goes_on, is_over, within}
 use Rattle.sn_import_run.specs.Stops.{ends_reading}
-use Rattle.sn_import_run.specs.Streams.{Begins, Part, Takes, begun, longer, parts_after, with_content}
+use Rattle.sn_import_run.specs.Streams.{Breaks, EndsAt, IsReadTo, Part, Takes, begun, longer, parts_after, with_content}
 use Rattle.sn_import_run.specs.declared.stop.Stop.{Stop}
 use Rattle.sn_import_run.specs.declared.stop.Stop.TheVariants.{Refused, Memory, Damaged, Ended, Unread}
 use Rattle.sn_import_run.proofs.Entry.{done_longer}
@@ -27,8 +26,7 @@ pub done_snoc : (names : Names) (into : List ℕ) (place n : ℕ) (parts : List 
     → n ≡ place + length parts → AreDone names into place parts acts directories → IsDone names into n part a own stop → goes_on stop ≡ true
     → AreDone names into place (parts ++ part ∷ []) (acts ++ a) (directories ++ own)
 done_snoc names into place n [] part acts a directories own stop at done one goes =
-    let here : n ≡ place = omega arith in
-    (
+    let here : n ≡ place = omega arith in (
       a,
       [],
       own,
@@ -40,19 +38,18 @@ done_snoc names into place n [] part acts a directories own stop at done one goe
       subst (λ (k : ℕ). IsDone names into k part a own stop) here one,
       (refl, refl),
     )
-done_snoc names into place n (first ∷ parts) part acts a directories own stop at done one goes =
-    (
-      done.0,
-      done.1 ++ a,
-      done.2,
-      done.3 ++ own,
-      done.4,
-      ap (λ (xs : List Act). xs ++ a) done.5 ∙ append_assoc done.0 done.1 a,
-      ap (λ (os : List Object). os ++ own) done.6 ∙ append_assoc done.2 done.3 own,
-      done.7,
-      done.8,
-      done_snoc names into (place + 1) n parts part done.1 a done.3 own stop (omega arith) done.9 one goes,
-    )
+done_snoc names into place n (first ∷ parts) part acts a directories own stop at done one goes = (
+  done.0,
+  done.1 ++ a,
+  done.2,
+  done.3 ++ own,
+  done.4,
+  ap (λ (xs : List Act). xs ++ a) done.5 ∙ append_assoc done.0 done.1 a,
+  ap (λ (os : List Object). os ++ own) done.6 ∙ append_assoc done.2 done.3 own,
+  done.7,
+  done.8,
+  done_snoc names into (place + 1) n parts part done.1 a done.3 own stop (omega arith) done.9 one goes,
+)
 
 -- more content of the last one
 pub done_content : (names : Names) (into : List ℕ) (place : ℕ) (parts : List Part) (bytes : List ℕ) (acts : List Act) (directories : List Object)
@@ -65,13 +62,16 @@ done_content names into place (part ∷ next ∷ parts) bytes acts directories d
 
 -- ---- what came
 
-pub came_comes : (s : State) (i : Option (List ℕ)) (content : List ℕ) (t : State) (j : Option (List ℕ)) (stop : Option Stop) → Came s i content t j stop → Comes s i content
-came_comes s i content t j None h = (t, j, h)
-came_comes s i content t j (Some (Refused errno)) h = (t, j, h)
-came_comes s i content t j (Some Memory) h = h
-came_comes s i content t j (Some Damaged) h = h
-came_comes s i content t j (Some Ended) h = h
-came_comes s i content t j (Some (Unread e)) h = h
+-- what came of an entry that ends the reading
+abbrev pub ComesTo : State → Option (List ℕ) → List ℕ → Stop → Type 0
+ComesTo s i content stop = (new : State) × (rest : Option (List ℕ)) × Arrives s i content new rest × ((parts : List Part) → EndsAt parts new rest (Some stop))
+
+came_ends : (s : State) (i : Option (List ℕ)) (content : List ℕ) (t : State) (j : Option (List ℕ)) (stop : Stop) → Came s i content t j (Some stop) → ComesTo s i content stop
+came_ends s i content t j (Refused errno) h = (t, j, h, λ parts. tt)
+came_ends s i content t j Memory h = (h.0, h.1, h.2, λ parts. tt)
+came_ends s i content t j Damaged h = (h.0, h.1, h.2, λ parts. h.3)
+came_ends s i content t j Ended h = (h.0, h.1, h.2, λ parts. h.3)
+came_ends s i content t j (Unread e) h = (h.0, h.1, h.2, λ parts. h.3)
 
 pub came_goes : (s : State) (i : Option (List ℕ)) (content : List ℕ) (t : State) (j : Option (List ℕ)) (stop : Option Stop) → goes_on stop ≡ true → Came s i content t j stop → Arrives s i content t j
 came_goes s i content t j None goes h = h
@@ -157,7 +157,7 @@ taken_next names into told.End block s t u i j k l count next came acts a ds own
 
 -- what is made in all, where an entry ends the reading
 abbrev pub IsEnded : Names → List ℕ → Option (List ℕ) → List Act → List Object → Stop → Type 0
-IsEnded names into input acts ds stop = (parts : List Part) × Begins start [] input parts × AreRead names into parts acts ds (Some stop)
+IsEnded names into input acts ds stop = (parts : List Part) × IsReadTo input parts (Some stop) × AreRead names into parts acts ds (Some stop)
 
 none_ended : {X : Type 0} (stop : Stop) → Some stop ≡ None → X
 none_ended stop is = absurd (let no : ⊥ = cc in no)
@@ -170,20 +170,19 @@ taken_last names into (told.Entry member) block s t u i j k l count next came ac
     let between = p.parts ++ entry ∷ [] in
     let after = p.parts ++ longer entry came ∷ [] in
     let first = takes_more start [] i p.parts s j between t k p.takes (takes_one s p.parts j block (told.Entry member) t k between long step taken refl) in
-    let comes = came_comes t k came u l (Some stop) c in
-    let content = subst (λ (ps : List Part). Takes t between k ps comes.0 comes.1) (content_last p.parts entry came) (comes.2 between) in
-    (
+    let comes = came_ends t k came u l stop c in
+    let content = subst (λ (ps : List Part). Takes t between k ps comes.0 comes.1) (content_last p.parts entry came) (comes.2 between) in (
       after,
-      (comes.0, comes.1, takes_more start [] i between t k after comes.0 comes.1 first content),
+      (comes.0, comes.1, takes_more start [] i between t k after comes.0 comes.1 first content, comes.3 after),
       within p.parts (longer entry came) acts a ds own stop refl p.done (subst (λ (n : ℕ). IsDone names into (n + 1) (longer entry came) a own (Some stop)) p.count_is h.0) ends,
     )
 taken_last names into (told.Cut member) block s t u i j k l count next came acts a ds own stop p long step taken c h ends =
     let entry = begun member true in
     let after = p.parts ++ entry ∷ [] in
     let first = takes_more start [] i p.parts s j after t k p.takes (takes_one s p.parts j block (told.Cut member) t k after long step taken refl) in
-    (
+    let comes = came_ends t k came u l stop c in (
       after,
-      (t, k, first),
+      (comes.0, comes.1, takes_more start [] i after t k after comes.0 comes.1 first (came_none t comes.0 k comes.1 came h.2 comes.2 after), comes.3 after),
       within p.parts entry acts a ds own stop refl p.done (subst (λ (n : ℕ). IsDone names into (n + 1) entry a own (Some stop)) p.count_is h.0) ends,
     )
 taken_last names into (told.Content size) block s t u i j k l count next came acts a ds own stop p long step taken c h ends = none_ended stop h.2
@@ -204,23 +203,34 @@ taken_count names into count told.End came acts own stop next h = omega (arith, 
 
 -- what is made in all, and what ended the reading
 abbrev pub IsRead : Names → List ℕ → Option (List ℕ) → List Act → List Object → Option Stop → Type 0
-IsRead names into input acts ds stop = (parts : List Part) × Begins start [] input parts × AreRead names into parts acts ds stop
+IsRead names into input acts ds stop = (parts : List Part) × IsReadTo input parts stop × AreRead names into parts acts ds stop
 
-read_all : (names : Names) (into : List ℕ) (i j : Option (List ℕ)) (s : State) (count : ℕ) (acts : List Act) (ds : List Object) → Progress names into i s j count acts ds → IsRead names into i acts ds None
-read_all names into i j s count acts ds p = (p.parts, (s, j, p.takes), all acts ds p.done)
+-- after the two blocks of zeros, or without a block
+pub read_whole : (names : Names) (into : List ℕ) (i j : Option (List ℕ)) (s : State) (count : ℕ) (acts : List Act) (ds more : List Object)
+    (p : Progress names into i s j count acts ds) → EndsAt p.parts s j None → more ≡ ds → IsRead names into i acts more None
+read_whole names into i j s count acts ds more p ends is =
+    subst (λ (os : List Object). IsRead names into i acts os None) (sym is) (p.parts, (s, j, p.takes, ends), all acts ds p.done)
+
+broken_ends : (parts : List Part) (s : State) (j : Option (List ℕ)) (stop : Stop) → Breaks s j stop → EndsAt parts s j (Some stop)
+broken_ends parts s j (Refused errno) h = tt
+broken_ends parts s j Memory h = tt
+broken_ends parts s j Damaged h = inl h
+broken_ends parts s j Ended h = inl h
+broken_ends parts s j (Unread e) h = inl h
 
 -- between two entries
-pub read_end : (names : Names) (into : List ℕ) (i j : Option (List ℕ)) (s : State) (count : ℕ) (acts : List Act) (ds : List Object) (stop : Option Stop)
-    → Progress names into i s j count acts ds → IsRead names into i (acts ++ end_told count stop) ds stop
-read_end names into i j s count acts ds None p = subst (λ (xs : List Act). IsRead names into i xs ds None) (sym (append-nil acts)) (read_all names into i j s count acts ds p)
-read_end names into i j s count acts ds (Some stop) p =
-    subst (λ (n : ℕ). IsRead names into i (acts ++ end_told n (Some stop)) ds (Some stop)) (sym p.count_is)
-    (p.parts, (s, j, p.takes), broken acts ds stop p.done)
-
--- after the two blocks of zeros
-pub read_whole : (names : Names) (into : List ℕ) (i j : Option (List ℕ)) (s : State) (count : ℕ) (acts : List Act) (ds more : List Object)
-    → Progress names into i s j count acts ds → more ≡ ds → IsRead names into i acts more None
-read_whole names into i j s count acts ds more p is = subst (λ (os : List Object). IsRead names into i acts os None) (sym is) (read_all names into i j s count acts ds p)
+pub read_end : {A : Type 0} (names : Names) (into : List ℕ) (i j : Option (List ℕ)) (s : State) (count : ℕ) (acts : List Act) (ds : List Object) (is_empty : Bool) (stop : Stop) (r : Result A Stop)
+    (p : Progress names into i s j count acts ds) → Breaks s j stop → (is_empty ≡ true → (p.parts ≡ []) × (s ≡ start)) → OnOk r ((is_empty ≡ true) × (stop ≡ Ended)) → IfErr r (λ other. other ≡ stop)
+    → IsRead names into i (acts ++ end_told count (stop_of r)) ds (stop_of r)
+read_end names into i j s count acts ds is_empty stop (Ok a) p breaks empty whole same =
+    let none : (is_empty ≡ true) × (stop ≡ Ended) = whole in
+    let fresh = empty none.0 in
+    let spent : Breaks s j Ended = subst (λ (e : Stop). Breaks s j e) none.1 breaks in
+    subst (λ (xs : List Act). IsRead names into i xs ds None) (sym (append-nil acts)) (read_whole names into i j s count acts ds ds p (inr (fresh.0, fresh.1, spent)) refl)
+read_end names into i j s count acts ds is_empty stop (Err e) p breaks empty whole same =
+    let is : e ≡ stop = same in
+    subst (λ (n : ℕ). IsRead names into i (acts ++ end_told n (Some e)) ds (Some e)) (sym p.count_is)
+    (p.parts, (s, j, p.takes, broken_ends p.parts s j e (subst (λ (other : Stop). Breaks s j other) (sym is) breaks)), broken acts ds e p.done)
 
 -- in an entry
 pub read_within : {A : Type 0} (names : Names) (into : List ℕ) (i : Option (List ℕ)) (acts : List Act) (ds more : List Object) (e : Stop) (r : Result A Stop)
@@ -232,28 +242,26 @@ read_within names into i acts ds more e (Err stop) is ended same =
 
 -- ---- the whole
 
-pub import_over : (names : Names) (into : List ℕ) (i : Option (List ℕ)) (acts : List Act) (ds : List Object) (stop : Option Stop) (r : IsRead names into i acts ds stop) → is_over stop ≡ true
-    → IsImport names into r.0 acts
-import_over names into i acts ds stop r over =
+pub import_over : (names : Names) (into : List ℕ) (parts : List Part) (acts : List Act) (ds : List Object) (stop : Option Stop) → AreRead names into parts acts ds stop → is_over stop ≡ true
+    → IsImport names into parts stop acts
+import_over names into parts acts ds stop are over =
     let none : List Act = [] in
     record {
       reading = acts;
       after = [];
       directories = ds;
-      stop = stop;
       acts_are = sym (append-nil acts);
-      are_read = r.2;
+      are_read = are;
       rights = subst (λ (b : Bool). MatchBool b (none ≡ []) (SetsRights ds none)) (sym over) refl;
     }
 
-pub import_goes : (names : Names) (into : List ℕ) (i : Option (List ℕ)) (acts more : List Act) (ds : List Object) (stop : Option Stop) (r : IsRead names into i acts ds stop) → is_over stop ≡ false
-    → SetsRights ds more → IsImport names into r.0 (acts ++ more)
-import_goes names into i acts more ds stop r over sets = record {
+pub import_goes : (names : Names) (into : List ℕ) (parts : List Part) (acts more : List Act) (ds : List Object) (stop : Option Stop) → AreRead names into parts acts ds stop → is_over stop ≡ false
+    → SetsRights ds more → IsImport names into parts stop (acts ++ more)
+import_goes names into parts acts more ds stop are over sets = record {
   reading = acts;
   after = more;
   directories = ds;
-  stop = stop;
   acts_are = refl;
-  are_read = r.2;
+  are_read = are;
   rights = subst (λ (b : Bool). MatchBool b (more ≡ []) (SetsRights ds more)) (sym over) sets;
 }

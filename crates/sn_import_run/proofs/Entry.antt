@@ -1,8 +1,8 @@
 -- What is done of an entry.
-use Rattle.std.proofs.Common.{◌≡◌, ℕ, ◌+◌, ◌≤◌, Bool, true, false, List, [], ◌∷◌, ◌++◌, length, take, ⊎_elim, inl, inr, refl, sym, ap, subst, ◌∙◌, append_assoc, length-append, arith}
+use Rattle.std.proofs.Common.{◌≡◌, ℕ, true, false, List, [], ◌∷◌, ◌++◌, take, ⊎_elim, inl, inr, refl, sym, ap, subst, ◌∙◌, append_assoc, length-append, arith}
 use Rattle.std.specs.Prelude.{Option, Some, None, Result, Ok, Err, IfErr, IsErrAnd}
 use Rattle.std.proofs.lemmas.List.{append-nil, take-append-le}
-use Rattle.sn_import.specs.Calls.{closing_calls, opening_calls}
+use Rattle.sn_import.specs.Calls.{opening_calls}
 use Rattle.sn_import.specs.declared.object.Object.{Object}
 use Rattle.sn_import.specs.declared.object.Rights.{Rights}
 use Rattle.sn_import.specs.declared.object.What.{What}
@@ -18,6 +18,9 @@ use Rattle.sn_untar.specs.declared.told.Told.TheVariants as told
 use Rattle.sn_import_run.specs.Acts.{Act}
 use Rattle.sn_import_run.specs.Carried.{AreMade, IsStopped, last_descriptor, stop_of}
 use Rattle.sn_import_run.specs.Entries.{IsDone, IsFilled, IsFinished, IsMade, IsOpened, IsTaken, IsUnopened, cut, fault_stop, fault_told, faulty, filling, made, report, rights_wait, unmade}
+use Rattle.sn_untar.specs.Steps.{State}
+use Rattle.sn_import_run.specs.Files.{Arrives, Came}
+use Rattle.sn_import_run.specs.Stops.{is_call}
 use Rattle.sn_import_run.specs.Streams.{Part, longer}
 use Rattle.sn_import_run.specs.declared.stop.Stop.{Stop}
 use Rattle.sn_import_run.specs.declared.stop.Stop.TheVariants.{Memory}
@@ -35,11 +38,10 @@ unopened object size content acts e (Err stop) is stopped = inl (record {
 -- ---- more content
 
 filled_longer : (object : Object) (fd size : ℕ) (content more : List ℕ) (acts : List Act) (stop : Option Stop) → IsFilled fd object size content acts stop → IsFilled fd object size (content ++ more) acts stop
-filled_longer object fd size content more acts None h =
-    (
-      omega (arith, length-append content more, h.0),
-      subst (λ (bytes : List ℕ). AreMade object.what (filling fd object bytes) [] acts) (sym (take-append-le size content more h.0)) h.1,
-    )
+filled_longer object fd size content more acts None h = (
+  omega (arith, length-append content more, h.0),
+  subst (λ (bytes : List ℕ). AreMade object.what (filling fd object bytes) [] acts) (sym (take-append-le size content more h.0)) h.1,
+)
 filled_longer object fd size content more acts (Some stop) h = λ rest.
     subst (λ (bytes : List ℕ). IsStopped object.what (filling fd object (take size bytes)) acts stop) (sym (append_assoc content more rest)) (h (more ++ rest))
 
@@ -81,13 +83,13 @@ pub unkept : (object : Object) (size : ℕ) (content : List ℕ) (acts : List Ac
 unkept object size content acts waits h = ⊎_elim
     (λ (u : IsUnopened object acts None). let never : None ≡ Some u.reason = u.stop_is in absurd (let no : ⊥ = cc in no))
     (λ (o : IsOpened object size content acts None).
-      (let none = finished_nothing object.what object (last_descriptor object.what o.first) size content o.more None waits o.finished in
-      let same : o.first ≡ acts = sym (o.acts_are ∙ ap (λ (more : List Act). o.first ++ more) none ∙ append-nil o.first) in
-      inl (record {
-        reason = Memory;
-        stopped = broken_at object.what (opening_calls object) [] acts Memory refl (subst (λ (all : List Act). AreMade object.what (opening_calls object) [] all) same o.made);
-        stop_is = refl;
-      })))
+    (let none = finished_nothing object.what object (last_descriptor object.what o.first) size content o.more None waits o.finished in
+    let same : o.first ≡ acts = sym (o.acts_are ∙ ap (λ (more : List Act). o.first ++ more) none ∙ append-nil o.first) in
+    inl (record {
+      reason = Memory;
+      stopped = broken_at object.what (opening_calls object) [] acts Memory refl (subst (λ (all : List Act). AreMade object.what (opening_calls object) [] all) same o.made);
+      stop_is = refl;
+    })))
     h
 
 pub kept_made : {A : Type 0} (object : Object) (size : ℕ) (content : List ℕ) (acts : List Act) (r : Result A Stop)
@@ -120,3 +122,13 @@ taken_other names into count (told.Content size) no_entry no_cut = (refl, refl, 
 taken_other names into count told.Nothing no_entry no_cut = (refl, refl, refl, refl, refl)
 taken_other names into count told.TooLong no_entry no_cut = (refl, refl, refl, refl, refl)
 taken_other names into count told.End no_entry no_cut = (refl, refl, refl, refl, refl)
+
+pub memory_calls : {A : Type 0} (object : Object) (r : Result A Stop) → IfErr r (λ stop. (stop ≡ Memory) × (rights_wait object.what ≡ true)) → IfErr r (λ stop. is_call stop ≡ true)
+memory_calls object (Ok a) h = tt
+memory_calls object (Err stop) h =
+    let fault : (stop ≡ Memory) × (rights_wait object.what ≡ true) = h in
+    ap is_call fault.0
+
+pub refused_came : (s : State) (i : Option (List ℕ)) (fault : ObjectFault) → Arrives s i [] s i → Came s i [] s i (fault_stop fault)
+refused_came s i (missing.Entry f) h = h
+refused_came s i missing.Memory h = (s, i, h, inl tt)

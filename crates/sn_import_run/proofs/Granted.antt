@@ -1,5 +1,5 @@
 -- Directories that get their rights, one after the other.
-use Rattle.std.proofs.Common.{◌≡◌, ℕ, suc, ◌+◌, ◌<◌, ◌≤◌, Bool, true, false, List, [], ◌∷◌, ◌++◌, length, drop, get_or, refl, sym, ap, subst, ◌∙◌, append_assoc, add-one, drop-cons, arith}
+use Rattle.std.proofs.Common.{◌≡◌, ℕ, suc, ◌+◌, ◌<◌, ◌≤◌, Bool, true, false, List, [], ◌∷◌, ◌++◌, length, drop, get_or, refl, sym, ap, subst, ◌∙◌, append_assoc, add-one, drop-cons}
 use Rattle.std.proofs.Math.ListN.{drop_of_length-le}
 use Rattle.std.specs.Prelude.{Option}
 use Rattle.std.specs.Bool.{MatchBool}
@@ -19,7 +19,7 @@ pub granted_more : (objects : List Object) (i : ℕ) (object : Object) (acts own
     → (more : List Act) → AreGranted (drop (i + 1) objects) more → AreGranted objects ((acts ++ all) ++ more)
 granted_more objects i object acts own all stop within is all_are granted goes front more rest =
     let first : AreGranted (object ∷ drop (i + 1) objects) (all ++ more) =
-        (own, more, stop, ap (λ a. a ++ more) all_are, granted, subst (λ (b : Bool). MatchBool b (more ≡ []) (AreGranted (drop (i + 1) objects) more)) (sym goes) rest) in
+    (own, more, stop, ap (λ a. a ++ more) all_are, granted, subst (λ (b : Bool). MatchBool b (more ≡ []) (AreGranted (drop (i + 1) objects) more)) (sym goes) rest) in
     let next : AreGranted (drop i objects) (all ++ more) = subst (λ (os : List Object). AreGranted os (all ++ more)) (sym (left_at objects i object within is)) first in
     subst (λ (a : List Act). AreGranted objects a) (sym (append_assoc acts all more)) (front (all ++ more) next)
 
@@ -30,7 +30,7 @@ pub granted_last : (objects : List Object) (i : ℕ) (object : Object) (acts own
 granted_last objects i object acts own all stop within is all_are granted over front =
     let none : List Act = [] in
     let first : AreGranted (object ∷ drop (i + 1) objects) all =
-        (own, [], stop, all_are ∙ sym (append-nil (own ++ stop_told object stop)), granted, subst (λ (b : Bool). MatchBool b (none ≡ []) (AreGranted (drop (i + 1) objects) none)) (sym over) refl) in
+    (own, [], stop, all_are ∙ sym (append-nil (own ++ stop_told object stop)), granted, subst (λ (b : Bool). MatchBool b (none ≡ []) (AreGranted (drop (i + 1) objects) none)) (sym over) refl) in
     front all (subst (λ (os : List Object). AreGranted os all) (sym (left_at objects i object within is)) first)
 
 pub granted_all : (objects : List Object) (i : ℕ) (acts : List Act) → length objects ≤ i

@@ -1,6 +1,6 @@
 -- Calls of a plan, one after the other.
 use Rattle.std.proofs.Common.{◌≡◌, ℕ, Bool, true, false, List, [], ◌∷◌, ◌++◌, ⊎_elim, inl, inr, refl, sym, ap, subst, ◌∙◌, append_assoc}
-use Rattle.std.specs.Prelude.{Option, Some, Result, Ok, Err, All, IsErrAnd, IsOk}
+use Rattle.std.specs.Prelude.{Option, Some, Result, Ok, Err, IfErr, IsErrAnd, IsOk, if◌then◌else◌, nat_lt}
 use Rattle.std.specs.Option.{option_to_list}
 use Rattle.std.proofs.lemmas.List.{append-nil}
 use Rattle.std.proofs.lemmas.List.Elements.{All-append, All-nil, All-cons}
@@ -10,10 +10,18 @@ use Rattle.sn_import.specs.Calls.{Goes as GoesOn}
 use Rattle.sn_import.specs.declared.object.Object.{Object}
 use Rattle.sn_import.specs.declared.object.What.{What}
 use Rattle.sn_import_run.specs.Acts.{Act, Called, Told, calls_in}
-use Rattle.sn_import_run.specs.Answers.{answer}
-use Rattle.sn_import_run.specs.Carried.{Adds, AreMade, Goes, IsBroken, IsFine, IsRefused, IsStopped, is_outside, number_from, number_in}
+use Rattle.sn_limits.specs.declared.kind.Kind.{Kind}
+use Rattle.sn_limits.specs.declared.kind.Kind.TheVariants.{File, Directory}
+use Rattle.sn_model.specs.declared.call.Call.TheVariants as calls
+use Rattle.sn_model.specs.declared.reply.Errno.{Errno}
+use Rattle.sn_model.specs.declared.reply.Errno.TheVariants.{Estopped}
+use Rattle.sn_model.specs.declared.reply.Reply.TheVariants as replies
+use Rattle.sn_import.specs.Refused.{is_expected}
+use Rattle.sn_import_run.specs.Answers.{answer, file_seen, given, looked, opened}
+use Rattle.sn_import_run.specs.Stops.{is_call}
+use Rattle.sn_import_run.specs.Carried.{AreMade, Goes, IsBroken, IsFine, IsRefused, IsStopped, is_outside, number_from, number_in}
 use Rattle.sn_import_run.specs.declared.stop.Stop.{Stop}
-use Rattle.sn_import_run.specs.declared.stop.Stop.TheVariants.{Memory}
+use Rattle.sn_import_run.specs.declared.stop.Stop.TheVariants.{Memory, Refused}
 
 pub calls-append : (a b : List Act) → calls_in (a ++ b) ≡ calls_in a ++ calls_in b
 calls-append [] b = refl
@@ -143,3 +151,40 @@ pub stops_with : {A : Type 0} (what : What) (plan more left : List Call) (acts :
 stops_with what plan more left acts e (Ok x) h k = absurd h
 stops_with what plan more left acts e (Err stop) h k =
     subst (λ (s : Stop). IsStopped what (plan ++ more) acts s) (sym h) (stopped_with what plan more acts e k)
+
+-- ---- stops
+
+descriptor_calls : (n : ℕ) (b : Bool) → IfErr (if b then Ok n else (let none : Result ℕ Stop = Err (Refused Estopped) in none)) (λ stop. is_call stop ≡ true)
+descriptor_calls n true = tt
+descriptor_calls n false = refl
+
+opened_calls : (reply : Reply) → IfErr (opened reply) (λ stop. is_call stop ≡ true)
+opened_calls (replies.Number n) = descriptor_calls n (nat_lt n 4294967296)
+opened_calls _ = refl
+
+seen_calls : (kind : Kind) → IfErr (file_seen kind) (λ stop. is_call stop ≡ true)
+seen_calls File = tt
+seen_calls Directory = refl
+
+looked_calls : (reply : Reply) → IfErr (looked reply) (λ stop. is_call stop ≡ true)
+looked_calls (replies.Status status) = seen_calls status.kind
+looked_calls _ = refl
+
+given_calls : (call : Call) (reply : Reply) → IfErr (given call reply) (λ stop. is_call stop ≡ true)
+given_calls (calls.Open path flags mode) reply = opened_calls reply
+given_calls (calls.Stat path) reply = looked_calls reply
+given_calls _ reply = tt
+
+refused_calls : (errno : Errno) (b : Bool) → IfErr (if b then Ok 0 else (let none : Result ℕ Stop = Err (Refused errno) in none)) (λ stop. is_call stop ≡ true)
+refused_calls errno true = tt
+refused_calls errno false = refl
+
+-- what an answer stops an entry with is a call's refusal
+pub answer_calls : (what : What) (call : Call) (reply : Reply) → IfErr (answer what call reply) (λ stop. is_call stop ≡ true)
+answer_calls what call (replies.Refused refusal) = refused_calls refusal.errno (is_expected what call refusal.errno)
+answer_calls what call other = given_calls call other
+
+-- an error is passed on
+pub error_as : {A : Type 0} (P : Stop → Type 0) (e : Stop) (r : Result A Stop) → IsErrAnd r (λ other. other ≡ e) → P e → IfErr r P
+error_as P e (Ok a) is h = tt
+error_as P e (Err stop) is h = subst P (sym is) h

@@ -1,11 +1,11 @@
 -- What is done of an entry.
-use Rattle.std.specs.Prelude.{◌≡◌, ◌⊎◌, ◌≤◌, ◌+◌, ℕ, Bool, true, false, if◌then◌else◌, List, [], ◌∷◌, ◌++◌, length, take, Option, Some, None, Result, Ok, Err}
+use Rattle.std.specs.Prelude.{◌≡◌, ◌⊎◌, ◌≤◌, ◌+◌, ℕ, Bool, true, false, if◌then◌else◌, List, [], ◌∷◌, ◌++◌, length, take, Option, Some, None, Ok, Err}
 use Rattle.sn_model.specs.declared.call.Call.{Call}
 use Rattle.sn_import.specs.Calls.{closing_calls, opening_calls}
 use Rattle.sn_import.specs.Writes.{writes_of}
 use Rattle.sn_import.specs.declared.object.Object.{Object}
 use Rattle.sn_import.specs.declared.object.What.{What}
-use Rattle.sn_import.specs.declared.object.What.TheVariants.{File, Directory, Top, HardLink}
+use Rattle.sn_import.specs.declared.object.What.TheVariants.{File, Directory, Top}
 use Rattle.sn_import_entry.specs.Entries.{object_of}
 use Rattle.sn_import_entry.specs.Forms.{has_set_uid}
 use Rattle.sn_import_entry.specs.declared.fault.EntryFault.{EntryFault}
@@ -13,7 +13,7 @@ use Rattle.sn_import_entry.specs.declared.fault.ObjectFault.{ObjectFault}
 use Rattle.sn_import_entry.specs.declared.fault.ObjectFault.TheVariants as missing
 use Rattle.sn_import_entry.specs.declared.names.Names.{Names}
 use Rattle.sn_untar.specs.declared.members.Member.{Member}
-use Rattle.sn_import_run.specs.Acts.{Act, Called, Told}
+use Rattle.sn_import_run.specs.Acts.{Act, Told}
 use Rattle.sn_import_run.specs.Carried.{AreMade, IsStopped, last_descriptor}
 use Rattle.sn_import_run.specs.Streams.{Part, begun, longer}
 use Rattle.sn_untar.specs.declared.told.Told.{Told as Says}

@@ -6,7 +6,7 @@ use Rattle.sn_import.specs.Depths.{AreDeepestFirst}
 use Rattle.sn_import.specs.declared.closing.Closing.TheVariants.{Give}
 use Rattle.sn_import.specs.declared.object.Object.{Object}
 use Rattle.sn_import_entry.specs.declared.names.Names.{Names}
-use Rattle.sn_import_run.specs.Acts.{Act, Called, Told}
+use Rattle.sn_import_run.specs.Acts.{Act, Told}
 use Rattle.sn_import_run.specs.Carried.{AreMade, IsStopped}
 use Rattle.sn_import_run.specs.Entries.{IsDone}
 use Rattle.sn_import_run.specs.Stops.{ends_import, ends_reading}
@@ -76,12 +76,12 @@ pub data SetsRights (directories : List Object) : List Act → Type 0 where
 
 -- ---- the whole
 
--- What an import of entries does: they are done, and then directories get their rights, unless nothing more is made.
-pub record IsImport (names : Names) (into : List ℕ) (parts : List Part) (acts : List Act) : Type 0 where
+-- What an import of entries does, whose reading this stopped, or nothing: they are done, and then directories get their rights, unless
+-- nothing more is made.
+pub record IsImport (names : Names) (into : List ℕ) (parts : List Part) (stop : Option Stop) (acts : List Act) : Type 0 where
   pub reading : List Act
   pub after : List Act
   pub directories : List Object
-  pub stop : Option Stop
   pub acts_are : acts ≡ reading ++ after
   pub are_read : AreRead names into parts reading directories stop
   pub rights : MatchBool (is_over stop) (after ≡ []) (SetsRights directories after)

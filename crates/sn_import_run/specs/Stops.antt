@@ -1,8 +1,16 @@
 -- What ends with an entry that is stopped.
-use Rattle.std.specs.Prelude.{Bool, true, false, Option, None, Some}
+use Rattle.std.specs.Prelude.{Bool, true, false}
 use Rattle.sn_import.specs.Refused.{ends}
 use Rattle.sn_import_run.specs.declared.stop.Stop.{Stop}
 use Rattle.sn_import_run.specs.declared.stop.Stop.TheVariants.{Refused, Memory, Damaged, Ended, Unread}
+
+-- a call is the reason, or the memory for one
+abbrev pub is_call : Stop → Bool
+is_call (Refused errno) = true
+is_call Memory = true
+is_call Damaged = false
+is_call Ended = false
+is_call (Unread e) = false
 
 -- nothing more is made
 abbrev pub ends_import : Stop → Bool

@@ -50,7 +50,7 @@ fn given(call: &Call, reply: &Reply) -> Result<u32, Stop>
 
 /// What the reply to a call of an entry gives: the descriptor of a file that was opened, or 0. Or it stops the entry.
 ///
-/// Proved: A refusal stops an entry, unless it is expected (`sn_import`). What a link is to has to be a file.
+/// Proved: A refusal stops an entry, unless it is expected (`sn_import`), and so does a link to what is no file.
 pub fn answer(what: &What, call: &Call, reply: &Reply) -> Result<u32, Stop>
     ensures { result ≡ answers.answer what.now call.now reply.now }
 {

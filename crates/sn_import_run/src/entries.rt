@@ -129,7 +129,7 @@ fn make_object<R: Read, C: Calls>(
     ensures kept { directories.new.items ≡ directories.old.items ++ kept object (stop_of result) }
     ensures made { (came : List ℕ) × Came (state_of untar.old) (R.remaining archive.old) came (state_of untar.new) (R.remaining archive.new) (stop_of result)
         × Adds (C.acts to.old) (C.acts to.new) (λ acts. (made : List Act) × (acts ≡ entries.set_uid_told place member.now ++ made ++ entries.stop_told place member.now (stop_of result))
-            × IsMade object member.now.size came made (stop_of result)) }
+        × IsMade object member.now.size came made (stop_of result)) }
 {
     report_set_uid(to, place, member);
     let size = member.size;
@@ -170,7 +170,7 @@ pub fn make_entry<R: Read, C: Calls>(
 ) -> Result<(), Stop>
     ensures { (came : List ℕ) × Came (state_of untar.old) (R.remaining archive.old) came (state_of untar.new) (R.remaining archive.new) (stop_of result)
         × Adds (C.acts to.old) (C.acts to.new) (λ acts. (own : List Made) × (directories.new.items ≡ directories.old.items ++ own)
-            × IsDone names.now directory.now place (longer (begun member.now false) came) acts own (stop_of result)) }
+        × IsDone names.now directory.now place (longer (begun member.now false) came) acts own (stop_of result)) }
 {
     match object_of(alloc, names, directory, member) {
         Ok(object) => make_object(

@@ -1,10 +1,11 @@
 //! The calls of a list, one after the other.
-ghost use Rattle.std.specs.Prelude.{◌≡◌, ◌++◌, ◌∷◌, [], IfOk, List, Result, Ok, Err};
+ghost use Rattle.std.specs.Prelude.{◌≡◌, ◌++◌, ◌∷◌, [], IfErr, IfOk, true};
 ghost use Rattle.sn_import.specs.Calls.{closing_from, opening_calls};
 ghost use Rattle.sn_model.specs.declared.reply.Reply.{Reply};
-ghost use Rattle.sn_import_run.specs.Acts.{Act, Called};
+ghost use Rattle.sn_import_run.specs.Acts.{Called};
 ghost use Rattle.sn_import_run.specs.Answers as answers;
 ghost use Rattle.sn_import_run.specs.Carried.{Adds, Goes, last_descriptor};
+ghost use Rattle.sn_import_run.specs.Stops.{is_call};
 
 use crate::answers::answer;
 use crate::calls::Calls;
@@ -13,9 +14,11 @@ use sn_import::{Closing, Object, What};
 use sn_model::Call;
 use std::alloc::Global;
 
+#[tactic(auto, using(crate::proofs::Made::answer_calls))]
 /// Makes a call of an entry, and gives the descriptor of a file that it opened, or 0.
 pub fn make<C: Calls>(to: &mut C, what: &What, call: Call) -> Result<u32, Stop>
-    ensures { (reply : Reply) × (C.acts to.new ≡ C.acts to.old ++ Called call reply ∷ []) × (result ≡ answers.answer what.now call reply) }
+    ensures calls { IfErr result (λ stop. is_call stop ≡ true) }
+    ensures made { (reply : Reply) × (C.acts to.new ≡ C.acts to.old ++ Called call reply ∷ []) × (result ≡ answers.answer what.now call reply) }
 {
     let reply = to.call(&call);
     answer(what, &call, &reply)
@@ -23,7 +26,8 @@ pub fn make<C: Calls>(to: &mut C, what: &What, call: Call) -> Result<u32, Stop>
 
 /// Makes the calls of an object before its content, and gives the descriptor of a file that is opened.
 pub fn open<C: Calls>(alloc: Global, to: &mut C, object: &Object) -> Result<u32, Stop>
-    ensures { Adds (C.acts to.old) (C.acts to.new) (λ acts. Goes object.now.what (opening_calls object.now) [] acts result
+    ensures calls { IfErr result (λ stop. is_call stop ≡ true) }
+    ensures made { Adds (C.acts to.old) (C.acts to.new) (λ acts. Goes object.now.what (opening_calls object.now) [] acts result
         × IfOk result (λ fd. fd ≡ last_descriptor object.now.what acts)) }
 {
     let mut fd = 0;
@@ -42,7 +46,8 @@ pub fn close<C: Calls>(
     object: &Object,
     from: Closing,
 ) -> Result<(), Stop>
-    ensures { Adds (C.acts to.old) (C.acts to.new) (λ acts. Goes object.now.what (closing_from from object.now) [] acts result) }
+    ensures calls { IfErr result (λ stop. is_call stop ≡ true) }
+    ensures made { Adds (C.acts to.old) (C.acts to.new) (λ acts. Goes object.now.what (closing_from from object.now) [] acts result) }
 {
     let mut place = from;
     while let Some((call, next)) = object.closing_call(alloc, place)? {

@@ -40,7 +40,7 @@ impl<T: Drop> From<AllocFailed<T>> for Stop {
 }
 
 impl Stop {
-    /// Whether nothing more is made after it.
+    /// Whether nothing more is made after it, as after `EIO`, `ESTOPPED`, `ENOMEM` and `ENOSPC`.
     pub fn ends_import(&self) -> bool
         ensures { result ≡ stops.ends_import self.now }
     {

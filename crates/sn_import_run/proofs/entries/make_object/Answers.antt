@@ -9,8 +9,7 @@ returns-clause-made g c =
     let k = c.carry_kept-outcome.ensures.made in
     let member = c.args.member.now in
     let before = set_uid_told c.args.place member in
-    let after = stop_told c.args.place member (stop_of c.carry_kept-outcome.result) in
-    (
+    let after = stop_told c.args.place member (stop_of c.carry_kept-outcome.result) in (
       k.0,
       k.1,
       (

@@ -1,4 +1,4 @@
-use Rattle.std.proofs.Common.{◌≡◌, ◌+◌, ◌∷◌, [], refl, subst, sym}
+use Rattle.std.proofs.Common.{◌+◌, ◌∷◌, [], refl, subst, sym}
 use Rattle.std.specs.Prelude.{None}
 use Rattle.std.proofs.lemmas.List.{append-nil}
 use Rattle.sn_untar.specs.Steps.{state_of}
@@ -13,8 +13,7 @@ use Rattle.sn_import_run.proofs.imports.take.Goals as goal
 pub returns-in-Cut : goal.returns-in-Cut
 returns-in-Cut g c =
     let count = c.args.count.now in
-    let acts = report (count + 1) c.in-Cut.member why.TooLong ∷ [] in
-    (
+    let acts = report (count + 1) c.in-Cut.member why.TooLong ∷ [] in (
       [],
       arrives_none (state_of c.args.untar.now) (g.R.Read.remaining c.args.archive.now),
       (
@@ -25,13 +24,12 @@ returns-in-Cut g c =
     )
 
 pub returns-in_default : goal.returns-in_default
-returns-in_default g c =
-    (
-      [],
-      arrives_none (state_of c.args.untar.now) (g.R.Read.remaining c.args.archive.now),
-      (
-        [],
-        adds_none (g.C.Calls.acts c.args.to.now),
-        ([], sym (append-nil c.args.directories.now.items), taken_other c.args.names.now c.args.directory.now c.args.count.now c.args.told.now c.in_default.not-Entry c.in_default.not-Cut),
-      ),
-    )
+returns-in_default g c = (
+  [],
+  arrives_none (state_of c.args.untar.now) (g.R.Read.remaining c.args.archive.now),
+  (
+    [],
+    adds_none (g.C.Calls.acts c.args.to.now),
+    ([], sym (append-nil c.args.directories.now.items), taken_other c.args.names.now c.args.directory.now c.args.count.now c.args.told.now c.in_default.not-Entry c.in_default.not-Cut),
+  ),
+)

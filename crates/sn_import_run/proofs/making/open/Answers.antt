@@ -1,4 +1,4 @@
-use Rattle.std.proofs.Common.{◌≡◌, ◌++◌, ◌∷◌, [], sym, ap, ◌∙◌}
+use Rattle.std.proofs.Common.{◌++◌, ◌∷◌, [], sym, ap, ◌∙◌}
 use Rattle.sn_import.specs.Calls.{opening_calls, opening_from}
 use Rattle.sn_import_run.specs.Acts.{Called}
 use Rattle.sn_import_run.specs.Carried.{number_in}
@@ -9,10 +9,11 @@ pub loop-call-preserved : goal.loop-call-preserved
 loop-call-preserved g c =
     let v = c.loop-call.invariant in
     let o = c.args.object.now in
-    let m = c.in_ok-fd.ensures in
-    (
+    let m = c.in_ok-fd.ensures.made in (
       v.0 ++ Called c.in-Some.call m.0 ∷ [],
       adds_more _ _ _ _ _ v.1 m.1,
-      (next_made o.what (opening_calls o) _ (opening_from c.in-Some.next o) v.0 c.in-Some.call m.0 _ v.2.0 (goes_at opening_from o _ _ _ _ c.in_ok-call.ensures c.in-Some.is) (sym m.2),
-      ap number_in m.2 ∙ sym (last_number o.what 0 v.0 c.in-Some.call m.0)),
+      (
+        next_made o.what (opening_calls o) _ (opening_from c.in-Some.next o) v.0 c.in-Some.call m.0 _ v.2.0 (goes_at opening_from o _ _ _ _ c.in_ok-call.ensures c.in-Some.is) (sym m.2),
+        ap number_in m.2 ∙ sym (last_number o.what 0 v.0 c.in-Some.call m.0),
+      ),
     )

@@ -1,4 +1,4 @@
-use Rattle.std.proofs.Common.{◌≡◌, List, length}
+use Rattle.std.proofs.Common.{◌≡◌, length}
 use Rattle.sn_import.specs.Calls.{opening_calls, opening_from}
 use Rattle.sn_import_run.specs.Carried.{Adds, AreMade, last_descriptor}
 use Rattle.sn_import_run.proofs.making.open.Given as goal

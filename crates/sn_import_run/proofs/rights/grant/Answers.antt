@@ -1,4 +1,4 @@
-use Rattle.std.proofs.Common.{◌≡◌, ◌++◌, ◌∷◌, [], Some, List, ℕ, None, ap, refl, ◌∙◌}
+use Rattle.std.proofs.Common.{◌++◌, ◌∷◌, [], Some, List, ℕ, None, ap, refl, ◌∙◌}
 use Rattle.sn_import_run.specs.Acts.{Told}
 use Rattle.sn_import_run.specs.Imports.{stop_told}
 use Rattle.sn_import_run.specs.declared.why.Why.TheVariants.{Stop}
@@ -7,9 +7,8 @@ use Rattle.sn_import_run.proofs.rights.grant.Goals as goal
 
 pub returns-in-Err : goal.returns-in-Err
 returns-in-Err g c =
-    let k = c.in-Err.ensures in
-    let told = stop_told c.args.object.now (Some c.in-Err.stop) in
-    (
+    let k = c.in-Err.ensures.made in
+    let told = stop_told c.args.object.now (Some c.in-Err.stop) in (
       Some c.in-Err.stop,
       c.ends_import.ensures,
       (
