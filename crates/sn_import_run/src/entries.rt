@@ -27,7 +27,7 @@ fn rights_wait(what: &What) -> bool
     matches!(what, What::Directory(_) | What::Top(_))
 }
 
-// Makes the calls after those that opened an object, and keeps a directory.
+// Makes the calls after those that open an object: a directory has none until the end.
 fn follow<R: Read, C: Calls>(
     alloc: Global,
     archive: &mut R,
