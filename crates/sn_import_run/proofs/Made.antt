@@ -1,6 +1,6 @@
 -- Calls of a plan, one after the other.
 use Rattle.std.proofs.Common.{◌≡◌, ℕ, Bool, true, false, List, [], ◌∷◌, ◌++◌, ⊎_elim, inl, inr, refl, sym, ap, subst, ◌∙◌, append_assoc}
-use Rattle.std.specs.Prelude.{Option, Some, Result, Ok, Err, IfErr, IsErrAnd, IsOk, if◌then◌else◌, nat_lt}
+use Rattle.std.specs.Prelude.{Option, Some, Result, Ok, Err, IfErr, IfOk, IsErrAnd, IsOk, if◌then◌else◌, nat_lt}
 use Rattle.std.specs.Option.{option_to_list}
 use Rattle.std.proofs.lemmas.List.{append-nil}
 use Rattle.std.proofs.lemmas.List.Elements.{All-append, All-nil, All-cons}
@@ -19,7 +19,7 @@ use Rattle.sn_model.specs.declared.reply.Reply.TheVariants as replies
 use Rattle.sn_import.specs.Refused.{is_expected}
 use Rattle.sn_import_run.specs.Answers.{answer, file_seen, given, looked, opened}
 use Rattle.sn_import_run.specs.Stops.{is_call}
-use Rattle.sn_import_run.specs.Carried.{AreMade, Goes, IsBroken, IsFine, IsRefused, IsStopped, is_outside, number_from, number_in}
+use Rattle.sn_import_run.specs.Carried.{AreMade, Goes, Grows, IsBroken, IsFine, IsRefused, IsStopped, is_outside, number_from, number_in}
 use Rattle.sn_import_run.specs.declared.stop.Stop.{Stop}
 use Rattle.sn_import_run.specs.declared.stop.Stop.TheVariants.{Memory, Refused}
 
@@ -112,11 +112,13 @@ next_made what plan left rest acts call reply n m is fine =
     made_more what plan left rest acts (Called call reply ∷ []) m (made_as what (call ∷ rest) left rest (Called call reply ∷ []) (sym is) (one_made what call reply rest n fine))
 
 -- acts that are added to others
-pub adds_more : (old between new a b : List Act) → between ≡ old ++ a → new ≡ between ++ b → new ≡ old ++ (a ++ b)
-adds_more old between new a b is more = more ∙ ap (λ acts. acts ++ b) is ∙ append_assoc old a b
+pub adds_more : (old between new : List Act → Type 0) (a b : List Act) → Grows old between a → Grows between new b → Grows old new (a ++ b)
+adds_more old between new a b is more = record {
+  grows = λ before h. subst new (append_assoc before a b) (more.grows (before ++ a) (is.grows before h));
+}
 
-pub adds_none : (old : List Act) → old ≡ old ++ []
-adds_none old = sym (append-nil old)
+pub adds_none : (old : List Act → Type 0) → Grows old old []
+adds_none old = record { grows = λ before h. subst old (sym (append-nil before)) h }
 
 -- the next call of an object
 pub goes_at : {Place : Type 0} (from : Place → Object → List Call) (object : Object) (n : Option (Call × Place)) (calls : List Call) (call : Call) (next : Place)
@@ -188,3 +190,14 @@ answer_calls what call other = given_calls call other
 pub error_as : {A : Type 0} (P : Stop → Type 0) (e : Stop) (r : Result A Stop) → IsErrAnd r (λ other. other ≡ e) → P e → IfErr r P
 error_as P e (Ok a) is h = tt
 error_as P e (Err stop) is h = subst P (sym is) h
+
+-- the next call of a plan stops it
+pub refused_next : {A : Type 0} (what : What) (plan between rest left : List Call) (acts : List Act) (call : Call) (reply : Reply) (e : Stop) (r : Result A Stop)
+    → AreMade what plan between acts → between ≡ call ∷ rest → IsErrAnd r (λ s. s ≡ e) → Err e ≡ answer what call reply → Goes what plan left (acts ++ Called call reply ∷ []) r
+refused_next what plan between rest left acts call reply e r m is h k =
+    goes_after what plan between left acts (Called call reply ∷ []) r m (refusal_stops what between rest left call reply e r h k is)
+
+-- nothing is said of a value that isn't there
+pub no_value : {A : Type 0} (P : A → Type 0) (Q : Stop → Type 0) (r : Result A Stop) → IsErrAnd r Q → IfOk r P
+no_value P Q (Ok a) is = absurd is
+no_value P Q (Err stop) is = tt

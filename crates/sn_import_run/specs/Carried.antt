@@ -56,9 +56,13 @@ abbrev pub stop_of : {A : Type 0} → Result A Stop → Option Stop
 stop_of (Ok a) = None
 stop_of (Err stop) = Some stop
 
--- acts were added that are so
-abbrev pub Adds : (old new : List Act) → (List Act → Type 0) → Type 0
-Adds old new Are = (acts : List Act) × (new ≡ old ++ acts) × Are acts
+-- where something was done before, these acts are done after it
+pub record Grows (old new : List Act → Type 0) (acts : List Act) : Type 0 where
+  pub grows : (before : List Act) → old before → new (before ++ acts)
+
+-- acts were done that are so
+abbrev pub Adds : (old new : List Act → Type 0) → (List Act → Type 0) → Type 0
+Adds old new Are = (acts : List Act) × Grows old new acts × Are acts
 
 -- ---- descriptors
 

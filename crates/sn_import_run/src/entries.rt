@@ -3,7 +3,7 @@ ghost use Rattle.std.specs.Prelude.{◌≡◌, ◌++◌, ◌∷◌, ℕ, List, [
 ghost use Rattle.sn_import.specs.declared.object.Object.{Object as Made};
 ghost use Rattle.sn_untar.specs.Steps.{state_of};
 ghost use Rattle.sn_import_run.specs.Acts.{Act};
-ghost use Rattle.sn_import_run.specs.Carried.{Adds, stop_of};
+ghost use Rattle.sn_import_run.specs.Carried.{Adds, Grows, stop_of};
 ghost use Rattle.sn_import_run.specs.Entries as entries;
 ghost use Rattle.sn_import_run.specs.Entries.{IsDone, IsMade, kept};
 ghost use Rattle.sn_import_run.specs.Files.{Came};
@@ -38,7 +38,7 @@ fn follow<R: Read, C: Calls>(
     size: u64,
 ) -> Result<(), Stop>
     ensures { (came : List ℕ) × Came (state_of untar.old) (R.remaining archive.old) came (state_of untar.new) (R.remaining archive.new) (stop_of result)
-        × Adds (C.acts to.old) (C.acts to.new) (λ acts. entries.IsFinished object.now.what fd object.now size came acts (stop_of result)) }
+        × Adds (C.did to.old) (C.did to.new) (λ acts. entries.IsFinished object.now.what fd object.now size came acts (stop_of result)) }
 {
     match &object.what {
         What::File(_) => fill(alloc, archive, untar, to, object, fd, size),
@@ -56,7 +56,7 @@ fn carry<R: Read, C: Calls>(
     size: u64,
 ) -> Result<(), Stop>
     ensures { (came : List ℕ) × Came (state_of untar.old) (R.remaining archive.old) came (state_of untar.new) (R.remaining archive.new) (stop_of result)
-        × Adds (C.acts to.old) (C.acts to.new) (λ acts. IsMade object.now size came acts (stop_of result)) }
+        × Adds (C.did to.old) (C.did to.new) (λ acts. IsMade object.now size came acts (stop_of result)) }
 {
     let fd = open(alloc, to, object)?;
     follow(alloc, archive, untar, to, object, fd, size)
@@ -86,29 +86,31 @@ fn carry_kept<R: Read, C: Calls>(
 ) -> Result<(), Stop>
     ensures kept { directories.new.items ≡ directories.old.items ++ kept object (stop_of result) }
     ensures made { (came : List ℕ) × Came (state_of untar.old) (R.remaining archive.old) came (state_of untar.new) (R.remaining archive.new) (stop_of result)
-        × Adds (C.acts to.old) (C.acts to.new) (λ acts. IsMade object size came acts (stop_of result)) }
+        × Adds (C.did to.old) (C.did to.new) (λ acts. IsMade object size came acts (stop_of result)) }
 {
     carry(alloc, archive, untar, to, &object, size)?;
     keep(object, directories)
 }
 
 pub fn report<C: Calls>(to: &mut C, place: u64, member: &Member, why: Why)
-    ensures { C.acts to.new ≡ C.acts to.old ++ entries.report place member.now why ∷ [] }
+    ensures { Grows (C.did to.old) (C.did to.new) (entries.report place member.now why ∷ []) }
 {
     to.report(Some(place), member.path.as_slice(), why);
 }
 
+#[tactic(auto, using(crate::proofs::Made::adds_none))]
 fn report_set_uid<C: Calls>(to: &mut C, place: u64, member: &Member)
-    ensures { C.acts to.new ≡ C.acts to.old ++ entries.set_uid_told place member.now }
+    ensures { Grows (C.did to.old) (C.did to.new) (entries.set_uid_told place member.now) }
 {
     if has_set_uid(member) {
         report(to, place, member, Why::SetUid);
     }
 }
 
+#[tactic(auto, using(crate::proofs::Made::adds_none))]
 // Reports what stopped an entry, if something did.
 fn report_stop<C: Calls>(to: &mut C, place: u64, member: &Member, outcome: &Result<(), Stop>)
-    ensures { C.acts to.new ≡ C.acts to.old ++ entries.stop_told place member.now (stop_of outcome.now) }
+    ensures { Grows (C.did to.old) (C.did to.new) (entries.stop_told place member.now (stop_of outcome.now)) }
 {
     if let Err(stop) = outcome {
         report(to, place, member, Why::Stop(*stop));
@@ -128,7 +130,7 @@ fn make_object<R: Read, C: Calls>(
 ) -> Result<(), Stop>
     ensures kept { directories.new.items ≡ directories.old.items ++ kept object (stop_of result) }
     ensures made { (came : List ℕ) × Came (state_of untar.old) (R.remaining archive.old) came (state_of untar.new) (R.remaining archive.new) (stop_of result)
-        × Adds (C.acts to.old) (C.acts to.new) (λ acts. (made : List Act) × (acts ≡ entries.set_uid_told place member.now ++ made ++ entries.stop_told place member.now (stop_of result))
+        × Adds (C.did to.old) (C.did to.new) (λ acts. (made : List Act) × (acts ≡ entries.set_uid_told place member.now ++ made ++ entries.stop_told place member.now (stop_of result))
         × IsMade object member.now.size came made (stop_of result)) }
 {
     report_set_uid(to, place, member);
@@ -140,7 +142,7 @@ fn make_object<R: Read, C: Calls>(
 
 // Reports why an entry has no object.
 fn refuse<C: Calls>(to: &mut C, place: u64, member: &Member, fault: ObjectFault) -> Result<(), Stop>
-    ensures told { C.acts to.new ≡ C.acts to.old ++ entries.report place member.now (entries.fault_told fault) ∷ [] }
+    ensures told { Grows (C.did to.old) (C.did to.new) (entries.report place member.now (entries.fault_told fault) ∷ []) }
     ensures stop { stop_of result ≡ entries.fault_stop fault }
 {
     match fault {
@@ -169,7 +171,7 @@ pub fn make_entry<R: Read, C: Calls>(
     directories: &mut Vec<Object>,
 ) -> Result<(), Stop>
     ensures { (came : List ℕ) × Came (state_of untar.old) (R.remaining archive.old) came (state_of untar.new) (R.remaining archive.new) (stop_of result)
-        × Adds (C.acts to.old) (C.acts to.new) (λ acts. (own : List Made) × (directories.new.items ≡ directories.old.items ++ own)
+        × Adds (C.did to.old) (C.did to.new) (λ acts. (own : List Made) × (directories.new.items ≡ directories.old.items ++ own)
         × IsDone names.now directory.now place (longer (begun member.now false) came) acts own (stop_of result)) }
 {
     match object_of(alloc, names, directory, member) {

@@ -2,7 +2,7 @@
 ghost use Rattle.std.specs.Prelude.{◌≡◌, ◌++◌, ◌<◌, ◌-◌, ◌^◌, ℕ, List, [], IfErr, OnOk, Option, true};
 ghost use Rattle.sn_import.specs.declared.object.Object.{Object as Made};
 ghost use Rattle.sn_untar.specs.Steps.{state_of};
-ghost use Rattle.sn_import_run.specs.Carried.{Adds, stop_of};
+ghost use Rattle.sn_import_run.specs.Carried.{Adds, Grows, stop_of};
 ghost use Rattle.sn_import_run.specs.Entries.{IsTaken};
 ghost use Rattle.sn_import_run.specs.Files.{Came};
 ghost use Rattle.sn_import_run.specs.Imports as imports;
@@ -42,7 +42,7 @@ fn take<R: Read, C: Calls>(
 ) -> Result<(), Stop>
     requires { count.old < 2 ^ 64 - 1 }
     ensures { (came : List ℕ) × Came (state_of untar.old) (R.remaining archive.old) came (state_of untar.new) (R.remaining archive.new) (stop_of result)
-        × Adds (C.acts to.old) (C.acts to.new) (λ acts. (own : List Made) × (directories.new.items ≡ directories.old.items ++ own)
+        × Adds (C.did to.old) (C.did to.new) (λ acts. (own : List Made) × (directories.new.items ≡ directories.old.items ++ own)
         × IsTaken names.now directory.now count.old told.now came acts own (stop_of result) count.new) }
 {
     match told {
@@ -84,7 +84,7 @@ fn take_on<R: Read, C: Calls>(
     requires { count.old < 2 ^ 64 - 1 }
     ensures { (stop : Option Ending) × (came : List ℕ) × IsPassed result stop
         × Came (state_of untar.old) (R.remaining archive.old) came (state_of untar.new) (R.remaining archive.new) stop
-        × Adds (C.acts to.old) (C.acts to.new) (λ acts. (own : List Made) × (directories.new.items ≡ directories.old.items ++ own)
+        × Adds (C.did to.old) (C.did to.new) (λ acts. (own : List Made) × (directories.new.items ≡ directories.old.items ++ own)
         × IsTaken names.now directory.now count.old told.now came acts own stop count.new) }
 {
     let outcome = take(
@@ -115,10 +115,11 @@ fn if_ends(outcome: Result<(), Stop>) -> Result<(), Stop>
     }
 }
 
+#[tactic(auto, using(crate::proofs::Made::adds_none))]
 // Ends the reading after so many entries: an input without a byte is an archive of none.
 fn end<C: Calls>(to: &mut C, count: u64, is_empty: bool, stop: Stop) -> Result<(), Stop>
     requires { count < 2 ^ 64 - 1 }
-    ensures told { C.acts to.new ≡ C.acts to.old ++ imports.end_told count (stop_of result) }
+    ensures told { Grows (C.did to.old) (C.did to.new) (imports.end_told count (stop_of result)) }
     ensures whole { OnOk result ((is_empty ≡ true) × (stop ≡ no_bytes)) }
     ensures same { IfErr result (λ other. other ≡ stop) }
 {
@@ -141,7 +142,7 @@ fn make_entries<R: Read, C: Calls>(
 ) -> Result<(), Stop>
     requires { directories.old.items ≡ [] }
     ensures { (parts : List Part) × IsReadTo (R.remaining archive.old) parts (stop_of result)
-        × Adds (C.acts to.old) (C.acts to.new) (λ acts. AreRead names.now directory.now parts acts directories.new.items (stop_of result)) }
+        × Adds (C.did to.old) (C.did to.new) (λ acts. AreRead names.now directory.now parts acts directories.new.items (stop_of result)) }
 {
     let mut untar = Untar::new(alloc);
     let mut block = [0; BLOCK_SIZE];
@@ -201,7 +202,7 @@ pub fn import<R: Read, C: Calls>(
     to: &mut C,
 )
     ensures { (parts : List Part) × (stop : Option Ending) × IsReadTo (R.remaining archive.old) parts stop
-        × Adds (C.acts to.old) (C.acts to.new) (IsImport names.now directory.now parts stop) }
+        × Adds (C.did to.old) (C.did to.new) (IsImport names.now directory.now parts stop) }
 {
     let mut directories = Vec::new(alloc);
     let outcome = make_entries(alloc, archive, to, names, directory, &mut directories);

@@ -1,6 +1,7 @@
 //! Carries an import out: reads an archive, makes the calls of its entries, and reports what it doesn't make.
 //!
-//! The model. An import is a list of acts (`Act`): calls with their replies, and reports. `specs/Carried` says when the calls of a list were
+//! The model. An import is a list of acts (`Act`): calls with their replies, and reports. What answers the calls (`Calls`) has a predicate of
+//! such lists, which says of one whether it is what was done so far. `specs/Carried` says when the calls of a list were
 //! made, or a front of them up to one that stops an entry; `specs/Streams` which entries the blocks of an archive have; `specs/Entries` what is
 //! done of one entry, and `specs/Imports` what of all, and of the directories after them.
 //!

@@ -4,7 +4,7 @@ ghost use Rattle.sn_import.specs.Calls.{closing_from, opening_calls};
 ghost use Rattle.sn_model.specs.declared.reply.Reply.{Reply};
 ghost use Rattle.sn_import_run.specs.Acts.{Called};
 ghost use Rattle.sn_import_run.specs.Answers as answers;
-ghost use Rattle.sn_import_run.specs.Carried.{Adds, Goes, last_descriptor};
+ghost use Rattle.sn_import_run.specs.Carried.{Adds, Goes, Grows, last_descriptor};
 ghost use Rattle.sn_import_run.specs.Stops.{is_call};
 
 use crate::answers::answer;
@@ -18,7 +18,7 @@ use std::alloc::Global;
 /// Makes a call of an entry, and gives the descriptor of a file that it opened, or 0.
 pub fn make<C: Calls>(to: &mut C, what: &What, call: Call) -> Result<u32, Stop>
     ensures calls { IfErr result (λ stop. is_call stop ≡ true) }
-    ensures made { (reply : Reply) × (C.acts to.new ≡ C.acts to.old ++ Called call reply ∷ []) × (result ≡ answers.answer what.now call reply) }
+    ensures made { (reply : Reply) × (Grows (C.did to.old) (C.did to.new) (Called call reply ∷ [])) × (result ≡ answers.answer what.now call reply) }
 {
     let reply = to.call(&call);
     answer(what, &call, &reply)
@@ -27,7 +27,7 @@ pub fn make<C: Calls>(to: &mut C, what: &What, call: Call) -> Result<u32, Stop>
 /// Makes the calls of an object before its content, and gives the descriptor of a file that is opened.
 pub fn open<C: Calls>(alloc: Global, to: &mut C, object: &Object) -> Result<u32, Stop>
     ensures calls { IfErr result (λ stop. is_call stop ≡ true) }
-    ensures made { Adds (C.acts to.old) (C.acts to.new) (λ acts. Goes object.now.what (opening_calls object.now) [] acts result
+    ensures made { Adds (C.did to.old) (C.did to.new) (λ acts. Goes object.now.what (opening_calls object.now) [] acts result
         × IfOk result (λ fd. fd ≡ last_descriptor object.now.what acts)) }
 {
     let mut fd = 0;
@@ -47,7 +47,7 @@ pub fn close<C: Calls>(
     from: Closing,
 ) -> Result<(), Stop>
     ensures calls { IfErr result (λ stop. is_call stop ≡ true) }
-    ensures made { Adds (C.acts to.old) (C.acts to.new) (λ acts. Goes object.now.what (closing_from from object.now) [] acts result) }
+    ensures made { Adds (C.did to.old) (C.did to.new) (λ acts. Goes object.now.what (closing_from from object.now) [] acts result) }
 {
     let mut place = from;
     while let Some((call, next)) = object.closing_call(alloc, place)? {

@@ -16,7 +16,7 @@ use std::alloc::Global;
 // Sets the rights of a directory, and reports what stops that. Whether the import ends with it.
 fn grant<C: Calls>(alloc: Global, to: &mut C, object: &Object) -> bool
     ensures { (stop : Option Ending) × (result ≡ imports.is_over stop)
-        × Adds (C.acts to.old) (C.acts to.new) (λ acts. (own : List Act) × (acts ≡ own ++ imports.stop_told object.now stop) × IsGranted object.now own stop) }
+        × Adds (C.did to.old) (C.did to.new) (λ acts. (own : List Act) × (acts ≡ own ++ imports.stop_told object.now stop) × IsGranted object.now own stop) }
 {
     match close(alloc, to, object, Closing::Give) {
         Ok(()) => false,
@@ -29,7 +29,7 @@ fn grant<C: Calls>(alloc: Global, to: &mut C, object: &Object) -> bool
 
 // Sets the rights of directories in this order, until one ends the import.
 fn grant_all<C: Calls>(alloc: Global, to: &mut C, directories: &[Object])
-    ensures { Adds (C.acts to.old) (C.acts to.new) (imports.AreGranted directories.now) }
+    ensures { Adds (C.did to.old) (C.did to.new) (imports.AreGranted directories.now) }
 {
     for object in directories {
         if grant(alloc, to, object) {
@@ -40,7 +40,7 @@ fn grant_all<C: Calls>(alloc: Global, to: &mut C, directories: &[Object])
 
 /// Sets the rights of directories, the deepest first.
 pub fn set_rights<C: Calls>(alloc: Global, to: &mut C, mut directories: Vec<Object>)
-    ensures { Adds (C.acts to.old) (C.acts to.new) (SetsRights directories.items) }
+    ensures { Adds (C.did to.old) (C.did to.new) (SetsRights directories.items) }
 {
     match order(&mut directories) {
         Ok(()) => grant_all(alloc, to, directories.as_slice()),

@@ -10,5 +10,5 @@ returns-in_default g c =
     let o = c.args.object.now in (
       [],
       arrives_none (state_of c.args.untar.now) (g.R.Read.remaining c.args.archive.now),
-      ([], adds_none (g.C.Calls.acts c.args.to.now), finished_none o.what o c.args.fd c.args.size c.in_default.not-File),
+      ([], adds_none (g.C.Calls.did c.args.to.now), finished_none o.what o c.args.fd c.args.size c.in_default.not-File),
     )

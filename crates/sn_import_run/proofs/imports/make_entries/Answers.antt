@@ -21,7 +21,7 @@ loop-turn-init g c =
       omega arith,
       (
         [],
-        adds_none (g.C.Calls.acts c.args.to.now),
+        adds_none (g.C.Calls.did c.args.to.now),
         (
           record {
             parts = [];

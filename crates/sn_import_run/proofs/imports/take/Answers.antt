@@ -29,7 +29,7 @@ returns-in_default g c = (
   arrives_none (state_of c.args.untar.now) (g.R.Read.remaining c.args.archive.now),
   (
     [],
-    adds_none (g.C.Calls.acts c.args.to.now),
+    adds_none (g.C.Calls.did c.args.to.now),
     ([], sym (append-nil c.args.directories.now.items), taken_other c.args.names.now c.args.directory.now c.args.count.now c.args.told.now c.in_default.not-Entry c.in_default.not-Cut),
   ),
 )

@@ -5,7 +5,7 @@ use Rattle.sn_import_run.proofs.making.close.Given as goal
 
 -- the calls up to here are made
 abbrev pub invariant-loop-call : goal.invariant-loop-call
-invariant-loop-call g l = Adds (g.C.Calls.acts l.fn.to) (g.C.Calls.acts l.to) (AreMade l.object.what (closing_from l.fn.from l.object) (closing_from l.place l.object))
+invariant-loop-call g l = Adds (g.C.Calls.did l.fn.to) (g.C.Calls.did l.to) (AreMade l.object.what (closing_from l.fn.from l.object) (closing_from l.place l.object))
 
 abbrev pub decreases-loop-call : goal.decreases-loop-call
 decreases-loop-call g l = length (closing_from l.place l.object)

@@ -6,7 +6,7 @@ use Rattle.sn_import_run.proofs.making.open.Given as goal
 -- the calls up to here are made
 abbrev pub invariant-loop-call : goal.invariant-loop-call
 invariant-loop-call g l =
-    Adds (g.C.Calls.acts l.fn.to) (g.C.Calls.acts l.to) (λ acts. AreMade l.object.what (opening_calls l.object) (opening_from l.place l.object) acts × (l.fd ≡ last_descriptor l.object.what acts))
+    Adds (g.C.Calls.did l.fn.to) (g.C.Calls.did l.to) (λ acts. AreMade l.object.what (opening_calls l.object) (opening_from l.place l.object) acts × (l.fd ≡ last_descriptor l.object.what acts))
 
 abbrev pub decreases-loop-call : goal.decreases-loop-call
 decreases-loop-call g l = length (opening_from l.place l.object)

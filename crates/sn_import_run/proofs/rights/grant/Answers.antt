@@ -1,5 +1,6 @@
-use Rattle.std.proofs.Common.{◌++◌, ◌∷◌, [], Some, List, ℕ, None, ap, refl, ◌∙◌}
+use Rattle.std.proofs.Common.{List, None, Some, [], refl, subst, ℕ, ◌++◌, ◌∷◌}
 use Rattle.sn_import_run.specs.Acts.{Told}
+use Rattle.sn_import_run.specs.Carried.{Grows}
 use Rattle.sn_import_run.specs.Imports.{stop_told}
 use Rattle.sn_import_run.specs.declared.why.Why.TheVariants.{Stop}
 use Rattle.sn_import_run.proofs.Made.{adds_more}
@@ -13,7 +14,7 @@ returns-in-Err g c =
       c.ends_import.ensures,
       (
         k.0 ++ told,
-        adds_more _ _ _ k.0 told k.1 (c.report.ensures ∙ ap (λ (name : List ℕ). g.C.Calls.acts c.close.new.to ++ Told None name (Stop c.in-Err.stop) ∷ []) c.as_bytes.ensures),
+        adds_more _ _ _ k.0 told k.1 (subst (λ (name : List ℕ). Grows (g.C.Calls.did c.close.new.to) (g.C.Calls.did c.report.new.self) (Told None name (Stop c.in-Err.stop) ∷ [])) c.as_bytes.ensures c.report.ensures),
         (k.0, refl, k.2),
       ),
     )

@@ -4,7 +4,7 @@ use Rattle.sn_import_run.proofs.Made.{adds_more, adds_none}
 use Rattle.sn_import_run.proofs.rights.grant_all.Goals as goal
 
 pub loop-object-init : goal.loop-object-init
-loop-object-init g c = ([], adds_none (g.C.Calls.acts c.args.to.now), λ more all. all)
+loop-object-init g c = ([], adds_none (g.C.Calls.did c.args.to.now), λ more all. all)
 
 pub returns-then-grant : goal.returns-then-grant
 returns-then-grant g c =
