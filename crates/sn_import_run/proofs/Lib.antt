@@ -1,0 +1,7 @@
+pub mod Made
+pub mod Parts
+pub mod Filled
+pub mod Contents
+pub mod Entry
+pub mod Granted
+pub mod Done
