@@ -2,7 +2,7 @@
 //!
 //! The model. An `Object` is what an entry of an archive becomes. `specs/Calls.antt` says with which calls, in their order:
 //! `opening_calls` those before its content, and `closing_calls` those after it, which for a directory come after all entries.
-//! What carries them out isn't here yet. `is_expected` says which refusals belong to a plan, as where a directory is there already,
+//! `sn_import_run` carries them out. `is_expected` says which refusals belong to a plan, as where a directory is there already,
 //! and `ends` which end an import.
 //!
 //! A file is made with the mode 0600, and gets its ACL after its content; a directory is made with 0700, and gets its mode and its
