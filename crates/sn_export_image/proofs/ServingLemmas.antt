@@ -45,7 +45,7 @@ means_some told sectors old h has_stopped device mounts is =
 
 -- a machine runs over the world that is held
 pub held_world : (h : Held) (has_stopped : Bool) (world : World) → Means h has_stopped (Running world) → IsRunning (h.world, has_stopped) world
-held_world h has_stopped world means = ap₂ (λ (w : World) (b : Bool). (w, b)) (runs_with h.point means.1).is means.0
+held_world h has_stopped world means = ap₂ (λ (w : World) (b : Bool). (w, b)) (runs_with h world h.point means.1).is means.0
 
 -- a mount of an image of a world runs over that world
 pub serves_image : (sectors : ℕ) (old : Disk) (h : Held) (has_stopped : Bool) (world : World) → IsOfDevice sectors (reads old) → Mounts sectors old h has_stopped → IsImage (reads old) world
