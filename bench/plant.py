@@ -1,7 +1,7 @@
 #!/usr/bin/env python3
 """Plants wrong bodies in a crate, as `rt plant` does, and lists those that its contracts let through.
 
-    bench/plant.py CRATE [--only WORD] [--max N] [--minutes N] [--all]
+    bench/plant.py CRATE [--slow N] [--only WORD] [--max N] [--minutes N] [--all]
 
 `rt plant` takes a sum of the files below a crate for each way that leads down to them, which takes hours for one that stands
 high. Here each file is read once for a sum, as .ci/rt has it; all else is what rt does. Run by hand, over built libraries.
@@ -27,8 +27,13 @@ def main():
     faster, crate = faster_rt(TOP), plant.rt.Crate
     crate.stamp = faster.summed_once(crate.stamp)
     crate.below = faster.gone_through_once(crate.below)
-    os.chdir(TOP / "crates" / sys.argv[1])
-    sys.exit(plant.main(*sys.argv[2:]))
+    name, *words = sys.argv[1:]
+    if "--slow" in words:
+        at = words.index("--slow")
+        plant.SECONDS *= int(words[at + 1])
+        del words[at : at + 2]
+    os.chdir(TOP / "crates" / name)
+    sys.exit(plant.main(*words))
 
 
 if __name__ == "__main__":

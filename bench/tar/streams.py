@@ -371,4 +371,5 @@ def main():
         (DATA / f"{name}.txt").write_text("\n".join(rows) + "\n")
 
 
-main()
+if __name__ == "__main__":
+    main()

@@ -1,18 +1,15 @@
--- A mounted file system as the world that it runs over.
-use Rattle.std.specs.Prelude.{◌≡◌, Bool, false, IsTrue}
-use Rattle.sn_cp_progress.specs.Meaning.{Means}
-use Rattle.sn_held.specs.Held.{Held}
-use Rattle.sn_model.specs.Machine.{State}
-use Rattle.sn_model.specs.World.{World}
+-- A mounted file system as a machine over a world.
+use Rattle.std.specs.Prelude.{◌≡◌, Bool, IsTrue}
+use Rattle.sn_device.specs.Disk.{Always, Disk}
+use Rattle.sn_held.specs.Images.{IsImage}
+use Rattle.sn_model.specs.Machine.{Running}
+use Rattle.sn_model.specs.World.{World, trees_of}
+use Rattle.sn_serving.specs.Served.{IsIn, Served}
 
--- what holds this means some state of the machine, where its device tells its bytes
-abbrev pub MeansSome : Bool → Held → Bool → Type 0
-MeansSome told h has_stopped = IsTrue told → (state : State) × Means h has_stopped state
+-- it runs over this world, and its device tells its bytes
+abbrev pub RunsOver : Bool → Served → World → Type 0
+RunsOver told served world = IsTrue told × IsIn (Running world) served
 
--- of the world that is held, and of whether the mount has stopped: it runs over this world
-abbrev pub IsRunning : World × Bool → World → Type 0
-IsRunning served world = served ≡ (world, false)
-
--- and this is known
-abbrev pub RunsOver : Bool → World × Bool → World → Type 0
-RunsOver told served world = IsTrue told × IsRunning served world
+-- whatever a crash leaves is an image of a world that has the trees of this one
+abbrev pub HasTreesOf : World → Disk → Type 0
+HasTreesOf world disk = Always disk (λ c. (after : World) × IsImage c after × (trees_of after ≡ trees_of world))

@@ -2,7 +2,8 @@ ghost use Rattle.std.specs.Prelude.{◌≡◌, IsErrOf, IsTrue, OnOk};
 ghost use Rattle.sn_check.specs.Verdicts.{IsCause};
 ghost use Rattle.sn_device.specs.Disk.{reads};
 ghost use Rattle.sn_export_image.specs.declared.fault.ImageFault.TheVariants as fault;
-ghost use Rattle.sn_export_walk.specs.Serving.{BeginsArchive, WritesArchive};
+ghost use Rattle.sn_export_image.specs.Worlds.{HasTreesOf};
+ghost use Rattle.sn_export_walk.specs.Serving.{BeginsArchive, Reads, WritesArchive};
 ghost use Rattle.sn_export_walk.specs.Streams.{BeginsStream, WritesStream};
 ghost use Rattle.sn_held.specs.Images.{IsImage};
 ghost use Rattle.sn_limits.specs.Versions.{limits_written};
@@ -10,10 +11,11 @@ ghost use Rattle.sn_model.specs.World.{World, trees_of};
 ghost use Rattle.sn_model.specs.Worlds.{IsFound};
 ghost use Rattle.sn_model.specs.declared.fault.MountFault.{MountFault as Why};
 
+use crate::exporting::Exporting;
 use crate::fault::ImageFault;
-use crate::serving::Serving;
-use sn_core::Device;
+use sn_core::{Device, Unmounted};
 use sn_export_walk::{Calls, ExportFault, export};
+use sn_serving::Serving;
 use std::alloc::Global;
 use std::io::Write;
 
@@ -30,6 +32,7 @@ fn write_tree<C: Calls, W: Write>(
         → OnOk result (WritesArchive (trees_of world) path.now (W.contents out.old) (W.contents out.new)) }
     ensures begun { (world : World) → C.serves calls.old world → IsFound limits_written world
         → BeginsArchive (trees_of world) path.now (W.contents out.old) (W.contents out.new) }
+    ensures kept { (world : World) → C.serves calls.old world → IsFound limits_written world → OnOk result (Reads (trees_of world) (C.serves calls.new)) }
 {
     export(alloc, calls, path, out)?;
     match out.flush() {
@@ -38,11 +41,19 @@ fn write_tree<C: Calls, W: Write>(
     }
 }
 
+/// What came of an export, and the device.
+#[derive(Drop)]
+pub struct Exported<D: Device + Drop> {
+    pub outcome: Result<(), ImageFault>,
+    pub device: D,
+}
+
 /// Mounts a device, writes the tree at a path as an archive, and unmounts the device. `Mount` where it can't be mounted. A fault of
 /// the unmount replaces one of the export: then the archive may be whole.
 ///
 /// Proved: Over each device that tells its bytes, what is written is the archive of what the path leads user 0 to, in the world that
-/// the device's disk is an image of, or after a fault the front of it.
+/// the device's disk is an image of, or after a fault the front of it. After an export without a fault the disk is an image of the same
+/// trees, whatever a crash leaves.
 /// Proved: Over any device what is written is a stream of members and its end, or after a fault the front of one; nothing where there
 /// was no mount, for which the cause is that of a check.
 pub fn export_image<D: Device + Drop, W: Write>(
@@ -50,24 +61,33 @@ pub fn export_image<D: Device + Drop, W: Write>(
     device: D,
     path: &[u8],
     out: &mut W,
-) -> Result<(), ImageFault>
-    ensures written { OnOk result (WritesStream (W.contents out.old) (W.contents out.new)) }
+) -> Exported<D>
+    ensures written { OnOk result.outcome (WritesStream (W.contents out.old) (W.contents out.new)) }
     ensures front { BeginsStream (W.contents out.old) (W.contents out.new) }
     ensures archive { IsTrue D.tells_bytes → (world : World) → IsImage (reads (D.disk device)) world
-        → OnOk result (WritesArchive (trees_of world) path.now (W.contents out.old) (W.contents out.new)) }
+        → OnOk result.outcome (WritesArchive (trees_of world) path.now (W.contents out.old) (W.contents out.new)) }
     ensures begun { IsTrue D.tells_bytes → (world : World) → IsImage (reads (D.disk device)) world
         → BeginsArchive (trees_of world) path.now (W.contents out.old) (W.contents out.new) }
-    ensures unmounted { (why : Why) → IsErrOf result (fault.Mount why) → out.new ≡ out.old }
-    ensures cause { IsTrue D.tells_bytes → (why : Why) → IsErrOf result (fault.Mount why)
+    ensures kept { IsTrue D.tells_bytes → (world : World) → IsImage (reads (D.disk device)) world → OnOk result.outcome (HasTreesOf world (D.disk result.device)) }
+    ensures unmounted { (why : Why) → IsErrOf result.outcome (fault.Mount why) → out.new ≡ out.old }
+    ensures cause { IsTrue D.tells_bytes → (why : Why) → IsErrOf result.outcome (fault.Mount why)
         → IsCause (D.status device).sectors (reads (D.disk device)) why }
 {
-    let mut serving = match Serving::new(alloc, device) {
+    let serving = match Serving::new(alloc, device) {
         Ok(serving) => serving,
-        Err(fault) => return Err(ImageFault::Mount(fault)),
+        Err(Unmounted { fault, device }) => {
+            return Exported {
+                outcome: Err(ImageFault::Mount(fault)),
+                device,
+            };
+        }
     };
-    let written = write_tree(alloc, &mut serving, path, out);
-    match serving.unmount().and(written) {
-        Ok(()) => Ok(()),
-        Err(fault) => Err(ImageFault::Export(fault)),
+    let mut exporting = Exporting { serving };
+    let written = write_tree(alloc, &mut exporting, path, out);
+    let Exporting { serving } = exporting;
+    let (end, device) = serving.finish();
+    Exported {
+        outcome: ImageFault::of_end(end, written),
+        device,
     }
 }

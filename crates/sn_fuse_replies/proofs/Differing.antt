@@ -5,7 +5,7 @@ use Rattle.sn_bytes.proofs.Records.{same_records, zero_number}
 use Rattle.sn_fuse_replies.specs.declared.answer.Answer.{Answer}
 use Rattle.sn_fuse_replies.specs.declared.answer.Answer.TheVariants.{Error, Nothing, Entry, Attributes, Opened, Created, Data, Written, Statistics, XattrSize, Listing, Initialized}
 use Rattle.sn_fuse_replies.specs.declared.errno.Errno.{Errno}
-use Rattle.sn_fuse_replies.specs.declared.errno.Errno.TheVariants.{EPERM, ENOENT, EIO, EBADF, EAGAIN, ENOMEM, EACCES, EBUSY, EEXIST, ENOTDIR, EISDIR, EINVAL, ENFILE, EMFILE, EFBIG, ENOSPC, EROFS, EMLINK, ERANGE, ENAMETOOLONG, ENOSYS, ENOTEMPTY, ENODATA, EOPNOTSUPP, ESTALE}
+use Rattle.sn_fuse_replies.specs.declared.errno.Errno.TheVariants.{EPERM, ENOENT, EIO, EBADF, EAGAIN, ENOMEM, EACCES, EBUSY, EEXIST, EXDEV, ENOTDIR, EISDIR, EINVAL, ENFILE, EMFILE, EFBIG, ENOSPC, EROFS, EMLINK, ERANGE, ENAMETOOLONG, ENOSYS, ENOTEMPTY, ENODATA, EOPNOTSUPP, ESTALE}
 use Rattle.sn_fuse_replies.specs.Answer.{error_number, fixed_bytes, reply_bytes, reply_size, tail_of}
 use Rattle.sn_fuse_replies.specs.Errno.{errno_number}
 use Rattle.sn_fuse_replies.specs.Law.{AreAlike, RepliesDiffer, numbers_of, widths_of}
@@ -22,6 +22,7 @@ few ENOMEM = (omega arith, omega arith)
 few EACCES = (omega arith, omega arith)
 few EBUSY = (omega arith, omega arith)
 few EEXIST = (omega arith, omega arith)
+few EXDEV = (omega arith, omega arith)
 few ENOTDIR = (omega arith, omega arith)
 few EISDIR = (omega arith, omega arith)
 few EINVAL = (omega arith, omega arith)
@@ -50,6 +51,7 @@ errno_at number =
     if number == 13 then EACCES else
     if number == 16 then EBUSY else
     if number == 17 then EEXIST else
+    if number == 18 then EXDEV else
     if number == 20 then ENOTDIR else
     if number == 21 then EISDIR else
     if number == 22 then EINVAL else
@@ -78,6 +80,7 @@ numbered ENOMEM = refl
 numbered EACCES = refl
 numbered EBUSY = refl
 numbered EEXIST = refl
+numbered EXDEV = refl
 numbered ENOTDIR = refl
 numbered EISDIR = refl
 numbered EINVAL = refl

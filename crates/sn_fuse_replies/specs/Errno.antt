@@ -1,7 +1,7 @@
 -- The numbers of the errors, as Linux has them.
 use Rattle.std.specs.Prelude.{ℕ}
 use Rattle.sn_fuse_replies.specs.declared.errno.Errno.{Errno}
-use Rattle.sn_fuse_replies.specs.declared.errno.Errno.TheVariants.{EPERM, ENOENT, EIO, EBADF, EAGAIN, ENOMEM, EACCES, EBUSY, EEXIST, ENOTDIR, EISDIR, EINVAL, ENFILE, EMFILE, EFBIG, ENOSPC, EROFS, EMLINK, ERANGE, ENAMETOOLONG, ENOSYS, ENOTEMPTY, ENODATA, EOPNOTSUPP, ESTALE}
+use Rattle.sn_fuse_replies.specs.declared.errno.Errno.TheVariants.{EPERM, ENOENT, EIO, EBADF, EAGAIN, ENOMEM, EACCES, EBUSY, EEXIST, EXDEV, ENOTDIR, EISDIR, EINVAL, ENFILE, EMFILE, EFBIG, ENOSPC, EROFS, EMLINK, ERANGE, ENAMETOOLONG, ENOSYS, ENOTEMPTY, ENODATA, EOPNOTSUPP, ESTALE}
 
 abbrev pub errno_number : Errno → ℕ
 errno_number EPERM = 1
@@ -13,6 +13,7 @@ errno_number ENOMEM = 12
 errno_number EACCES = 13
 errno_number EBUSY = 16
 errno_number EEXIST = 17
+errno_number EXDEV = 18
 errno_number ENOTDIR = 20
 errno_number EISDIR = 21
 errno_number EINVAL = 22

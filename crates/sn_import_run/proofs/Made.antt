@@ -112,13 +112,13 @@ next_made what plan left rest acts call reply n m is fine =
     made_more what plan left rest acts (Called call reply ∷ []) m (made_as what (call ∷ rest) left rest (Called call reply ∷ []) (sym is) (one_made what call reply rest n fine))
 
 -- acts that are added to others
-pub adds_more : (old between new : List Act → Type 0) (a b : List Act) → Grows old between a → Grows between new b → Grows old new (a ++ b)
+pub adds_more : {S : Type 0} (old between new : S → List Act → Type 0) (a b : List Act) → Grows old between a → Grows between new b → Grows old new (a ++ b)
 adds_more old between new a b is more = record {
-  grows = λ before h. subst new (append_assoc before a b) (more.grows (before ++ a) (is.grows before h));
+  grows = λ first before h. subst (new first) (append_assoc before a b) (more.grows first (before ++ a) (is.grows first before h));
 }
 
-pub adds_none : (old : List Act → Type 0) → Grows old old []
-adds_none old = record { grows = λ before h. subst old (sym (append-nil before)) h }
+pub adds_none : {S : Type 0} (old : S → List Act → Type 0) → Grows old old []
+adds_none old = record { grows = λ first before h. subst (old first) (sym (append-nil before)) h }
 
 -- the next call of an object
 pub goes_at : {Place : Type 0} (from : Place → Object → List Call) (object : Object) (n : Option (Call × Place)) (calls : List Call) (call : Call) (next : Place)

@@ -56,12 +56,12 @@ abbrev pub stop_of : {A : Type 0} → Result A Stop → Option Stop
 stop_of (Ok a) = None
 stop_of (Err stop) = Some stop
 
--- where something was done before, these acts are done after it
-pub record Grows (old new : List Act → Type 0) (acts : List Act) : Type 0 where
-  pub grows : (before : List Act) → old before → new (before ++ acts)
+-- where something was done from a beginning on, these acts are done after it
+pub record Grows {S : Type 0} (old new : S → List Act → Type 0) (acts : List Act) : Type 0 where
+  pub grows : (first : S) (before : List Act) → old first before → new first (before ++ acts)
 
 -- acts were done that are so
-abbrev pub Adds : (old new : List Act → Type 0) → (List Act → Type 0) → Type 0
+abbrev pub Adds : {S : Type 0} (old new : S → List Act → Type 0) → (List Act → Type 0) → Type 0
 Adds old new Are = (acts : List Act) × Grows old new acts × Are acts
 
 -- ---- descriptors

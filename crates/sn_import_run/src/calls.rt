@@ -7,9 +7,9 @@ use sn_model::{Call, Reply};
 
 /// What answers the calls of an import, and takes its reports.
 pub trait Calls {
-    /// Whether these calls with their replies, and these reports, are what was done so far, in this order. One of which that isn't known
-    /// has done none.
-    ghost did: { Self → List Act → Type 0 } = { λ _ _. ⊥ };
+    /// Whether these calls with their replies, and these reports, are what was done from the second one on up to the first, in this order. Of
+    /// one of which that isn't known nothing is.
+    ghost did: { Self → Self → List Act → Type 0 } = { λ _ _ _. ⊥ };
 
     /// The reply to a call of session 0, which is user 0's.
     fn call(&mut self, call: &Call) -> Reply

@@ -1,9 +1,9 @@
 //! The table: its queries, and its counts of lookups and handles.
-ghost use Rattle.std.specs.Prelude.{◌≡◌, ◌-◌, ◌≤◌, ◌^◌, IfOk, OnOk, OnErr};
+ghost use Rattle.std.specs.Prelude.{◌≡◌, ◌-◌, ◌≤◌, ◌^◌, IfOk, OnOk, OnErr, length};
 ghost use Rattle.std.specs.Option.{option_copied, option_map};
 ghost use Rattle.std.specs.FinMap as map;
 ghost use Rattle.sn_node_table.specs.Fresh.{AreFresh};
-ghost use Rattle.sn_node_table.specs.Tables.{closed, forgotten, handles_of, inode_of, looked_up, lookups_of, named, node_at, opened, root_alone};
+ghost use Rattle.sn_node_table.specs.Tables.{closed, forgotten, handles_of, inode_of, links_of, looked_up, lookups_of, named, node_at, opened, root_alone};
 
 use crate::current::Current;
 use crate::node::StoredNode;
@@ -92,6 +92,16 @@ impl NodeTable {
     {
         match self.nodes.get(id) {
             Some(node) => node.handles,
+            None => 0,
+        }
+    }
+
+    /// How many names of a node are known, 0 where the id isn't.
+    pub fn links(&self, id: u64) -> usize
+        ensures { result ≡ length (links_of (map.get (table_of self.now).nodes id)) }
+    {
+        match self.nodes.get(id) {
+            Some(node) => node.links.len(),
             None => 0,
         }
     }

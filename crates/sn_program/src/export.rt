@@ -11,7 +11,7 @@ ghost use Rattle.sn_program.specs.declared.fault.ProgramFault.TheVariants as fau
 
 use crate::fault::ProgramFault;
 use sn_core::Device;
-use sn_export_image::export_image;
+use sn_export_image::{Exported, export_image};
 use std::alloc::Global;
 use std::io::Write;
 
@@ -38,7 +38,8 @@ pub fn export_from<D: Device + Drop, W: Write>(
         → IsCause (D.status device).sectors (reads (D.disk device)) why }
     ensures words { IfErr result (λ why. why ≢ fault.Usage) }
 {
-    match export_image(alloc, device, path.as_bytes(), out) {
+    let Exported { outcome, .. } = export_image(alloc, device, path.as_bytes(), out);
+    match outcome {
         Ok(()) => Ok(()),
         Err(fault) => Err(ProgramFault::from(fault)),
     }

@@ -24,6 +24,7 @@ use Rattle.sn_opening.specs.Worlds.{frozen_of}
 use Rattle.sn_held.specs.Images.{IsImage}
 use Rattle.sn_held.specs.Moments.{ShowsState}
 use Rattle.sn_caller.proofs.StepLemmas.{run_more}
+use Rattle.sn_run.specs.Places.{Moves, Place}
 use Rattle.sn_run.specs.Runs.{Goes, LeavesFrom, ShowsCut, Standing}
 
 -- the worlds of a stopped machine are settled
@@ -169,65 +170,76 @@ in_event s e met reply next c here h (inr shows) = after_event s e met reply nex
 
 -- ---- events of a run
 
--- a step of the machine
-step_of : (old new : Standing) (e : Event) (reply : Reply) → Goes old e reply new → StepOf Anything limits_written old.state e reply new.state
-step_of old new e reply goes = (goes.answers.met, tt, subst (λ (s : State). EventStep limits_written old.state e goes.answers.met reply s) (sym goes.next) goes.answers.step)
+abbrev pub place_of : Standing → Place
+place_of s = record { state = s.state; disk = s.held.disk }
 
-goes_settled : (old new : Standing) (e : Event) (reply : Reply) → AreSettled old.state → Goes old e reply new → AreSettled new.state
-goes_settled old new e reply here goes = let step = step_of old new e reply goes in step_settled old.state e step.0 reply new.state here step.2
-
-goes_leaves : (old new : Standing) (e : Event) (reply : Reply) → AreSettled old.state → Goes old e reply new → LeavesOnly old.held.disk new.held.disk (ShowsLeft old.state e)
-goes_leaves old new e reply here goes =
+-- what leads from one standing to the next leads from its place to the next
+pub moved : (old new : Standing) (e : Event) (reply : Reply) → Goes old e reply new → Moves (place_of old) e reply (place_of new)
+moved old new e reply goes =
     let a = goes.answers in
-    LeavesOnly-weaker old.held.disk new.held.disk (λ c. ShowsState old.state c ⊎ ShowsState a.next c) (ShowsLeft old.state e)
-    (λ c. in_event old.state e a.met reply a.next c here a.step) a.lasts.moments
+    subst (λ (s : State). Moves (place_of old) e reply (record { state = s; disk = new.held.disk })) (sym goes.next) (record { step = (a.met, tt, a.step); lasts = a.lasts })
+
+pub places : (first last : Standing) (events : List Event) (replies : List Reply) → RunBy Goes first events replies last → RunBy Moves (place_of first) events replies (place_of last)
+places first last [] [] run = ap place_of run
+places first last [] (reply ∷ replies) run = absurd run
+places first last (e ∷ events) [] run = absurd run
+places first last (e ∷ events) (reply ∷ replies) run = (place_of run.0, moved first run.0 e reply run.1, places run.0 last events replies run.2)
+
+moves_settled : (old new : Place) (e : Event) (reply : Reply) → AreSettled old.state → Moves old e reply new → AreSettled new.state
+moves_settled old new e reply here moves = let step = moves.step in step_settled old.state e step.0 reply new.state here step.2
+
+moves_leaves : (old new : Place) (e : Event) (reply : Reply) → AreSettled old.state → Moves old e reply new → LeavesOnly old.disk new.disk (ShowsLeft old.state e)
+moves_leaves old new e reply here moves =
+    let step = moves.step in
+    LeavesOnly-weaker old.disk new.disk (λ c. ShowsState old.state c ⊎ ShowsState new.state c) (ShowsLeft old.state e)
+    (λ c. in_event old.state e step.0 reply new.state c here step.2) moves.lasts.moments
 
 -- of the machine
-pub machine_run : (first last : Standing) (events : List Event) (replies : List Reply) → RunBy Goes first events replies last → Run Anything limits_written first.state events replies last.state
-machine_run first last [] [] run = ap (λ (x : Standing). x.state) run
+pub machine_run : (first last : Place) (events : List Event) (replies : List Reply) → RunBy Moves first events replies last → Run Anything limits_written first.state events replies last.state
+machine_run first last [] [] run = ap (λ (x : Place). x.state) run
 machine_run first last [] (reply ∷ replies) run = absurd run
 machine_run first last (e ∷ events) [] run = absurd run
-machine_run first last (e ∷ events) (reply ∷ replies) run = (run.0.state, step_of first run.0 e reply run.1, machine_run run.0 last events replies run.2)
+machine_run first last (e ∷ events) (reply ∷ replies) run = (run.0.state, run.1.step, machine_run run.0 last events replies run.2)
 
 -- a crash in the event after these
-pub cut_in : (first mid next : Standing) (done todo : List Event) (e : Event) (said : List Reply) (reply : Reply) → AreSettled first.state → RunBy Goes first done said mid → Goes mid e reply next
-    → LeavesOnly mid.held.disk next.held.disk (ShowsCut first.state (done ++ e ∷ todo) said)
-cut_in first mid next [] todo e [] reply here run goes =
-    LeavesOnly-weaker mid.held.disk next.held.disk (ShowsLeft mid.state e) (ShowsCut first.state (e ∷ todo) [])
-    (λ c h. subst (λ (x : Standing). ShowsLeft x.state e c) run h) (goes_leaves mid next e reply (subst (λ (x : Standing). AreSettled x.state) (sym run) here) goes)
-cut_in first mid next [] todo e (r ∷ said) reply here run goes = absurd run
-cut_in first mid next (d ∷ done) todo e [] reply here run goes = absurd run
-cut_in first mid next (d ∷ done) todo e (r ∷ said) reply here run goes =
-    LeavesOnly-weaker mid.held.disk next.held.disk (ShowsCut run.0.state (done ++ e ∷ todo) said) (ShowsCut first.state (d ∷ (done ++ e ∷ todo)) (r ∷ said))
-    (λ c h. (h.0, h.1, (run.0.state, step_of first run.0 d r run.1, h.2)))
-    (cut_in run.0 mid next done todo e said reply (goes_settled first run.0 d r here run.1) run.2 goes)
+cut_in : (first mid next : Place) (done todo : List Event) (e : Event) (said : List Reply) (reply : Reply) → AreSettled first.state → RunBy Moves first done said mid → Moves mid e reply next
+    → LeavesOnly mid.disk next.disk (ShowsCut first.state (done ++ e ∷ todo) said)
+cut_in first mid next [] todo e [] reply here run moves =
+    LeavesOnly-weaker mid.disk next.disk (ShowsLeft mid.state e) (ShowsCut first.state (e ∷ todo) [])
+    (λ c h. subst (λ (x : Place). ShowsLeft x.state e c) run h) (moves_leaves mid next e reply (subst (λ (x : Place). AreSettled x.state) (sym run) here) moves)
+cut_in first mid next [] todo e (r ∷ said) reply here run moves = absurd run
+cut_in first mid next (d ∷ done) todo e [] reply here run moves = absurd run
+cut_in first mid next (d ∷ done) todo e (r ∷ said) reply here run moves =
+    LeavesOnly-weaker mid.disk next.disk (ShowsCut run.0.state (done ++ e ∷ todo) said) (ShowsCut first.state (d ∷ (done ++ e ∷ todo)) (r ∷ said))
+    (λ c h. (h.0, h.1, (run.0.state, run.1.step, h.2)))
+    (cut_in run.0 mid next done todo e said reply (moves_settled first run.0 d r here run.1) run.2 moves)
 
 -- a crash after the last event
-cut_behind : (first last : Standing) (events : List Event) (said : List Reply) (w : World) → RunBy Goes first events said last → Left last.state w → CutRun Anything limits_written first.state (events ++ []) said w
-cut_behind first last [] [] w run here = subst (λ (x : Standing). Left x.state w) run here
+cut_behind : (first last : Place) (events : List Event) (said : List Reply) (w : World) → RunBy Moves first events said last → Left last.state w → CutRun Anything limits_written first.state (events ++ []) said w
+cut_behind first last [] [] w run here = subst (λ (x : Place). Left x.state w) run here
 cut_behind first last [] (reply ∷ said) w run here = absurd run
 cut_behind first last (e ∷ events) [] w run here = absurd run
-cut_behind first last (e ∷ events) (reply ∷ said) w run here = (run.0.state, step_of first run.0 e reply run.1, cut_behind run.0 last events said w run.2 here)
+cut_behind first last (e ∷ events) (reply ∷ said) w run here = (run.0.state, run.1.step, cut_behind run.0 last events said w run.2 here)
 
 list_joined : (xs : List Event) (y : Event) (ys : List Event) → (xs ++ y ∷ []) ++ ys ≡ xs ++ y ∷ ys
 list_joined [] y ys = refl
 list_joined (x ∷ xs) y ys = ap (λ (zs : List Event). x ∷ zs) (list_joined xs y ys)
 
 -- a crash at any moment of what is left of a run, after the events that were answered, and of the last unmount
-pub run_leaves : (first mid last : Standing) (done todo : List Event) (said replies : List Reply) (new : Disk) → AreSettled first.state → RunBy Goes first done said mid → RunBy Goes mid todo replies last → LeavesOnly last.held.disk new (ShowsState last.state)
-    → LeavesFrom first.state (done ++ todo) said replies mid.held.disk new
+pub run_leaves : (first mid last : Place) (done todo : List Event) (said replies : List Reply) (new : Disk) → AreSettled first.state → RunBy Moves first done said mid → RunBy Moves mid todo replies last → LeavesOnly last.disk new (ShowsState last.state)
+    → LeavesFrom first.state (done ++ todo) said replies mid.disk new
 run_leaves first mid last done [] said [] new here before run lasts =
-    LeavesOnly-weaker mid.held.disk new (ShowsState mid.state) (ShowsCut first.state (done ++ []) said)
+    LeavesOnly-weaker mid.disk new (ShowsState mid.state) (ShowsCut first.state (done ++ []) said)
     (λ c shows. let now = shown_now mid.state c shows in (now.0, now.1, cut_behind first mid done said now.0 before now.2))
-    (subst (λ (x : Standing). LeavesOnly x.held.disk new (ShowsState x.state)) run lasts)
+    (subst (λ (x : Place). LeavesOnly x.disk new (ShowsState x.state)) run lasts)
 run_leaves first mid last done [] said (reply ∷ replies) new here before run lasts = absurd run
 run_leaves first mid last done (e ∷ todo) said [] new here before run lasts = absurd run
 run_leaves first mid last done (e ∷ todo) said (reply ∷ replies) new here before run lasts =
     let next = run.0 in (
-      next.held.disk,
+      next.disk,
       cut_in first mid next done todo e said reply here before run.1,
-      subst (λ (events : List Event). LeavesFrom first.state events (said ++ reply ∷ []) replies next.held.disk new) (list_joined done e todo)
-          (run_leaves first next last (done ++ e ∷ []) todo (said ++ reply ∷ []) replies new here (run_more Goes first mid next done said e reply before run.1) run.2 lasts),
+      subst (λ (events : List Event). LeavesFrom first.state events (said ++ reply ∷ []) replies next.disk new) (list_joined done e todo)
+          (run_leaves first next last (done ++ e ∷ []) todo (said ++ reply ∷ []) replies new here (run_more Moves first mid next done said e reply before run.1) run.2 lasts),
     )
 
 -- before the first event

@@ -4,5 +4,5 @@ pub mod CutLemmas
 mod FailureLemmas
 mod PointedLemmas
 pub mod RestartLemmas
-mod RunLemmas
+pub mod RunLemmas
 mod UnfitLemmas

@@ -30,7 +30,7 @@ use Rattle.sn_run.specs.Ending.{EndsSo, IsLastEnd}
 use Rattle.sn_run.specs.Servers.{no_base}
 use Rattle.sn_run.specs.Laws.{LivesOn}
 use Rattle.sn_run.specs.Runs.{AnswersAll, Goes, IsRunOf, IsServed, LacksRoot, LeavesFrom, LeavesItsRun, NotMounted, RunsTo, Served, ShowsCut, start}
-use Rattle.sn_run.proofs.CutLemmas.{cut_now, found_settled, machine_run, run_leaves}
+use Rattle.sn_run.proofs.CutLemmas.{cut_now, found_settled, machine_run, place_of, places, run_leaves}
 use Rattle.sn_run.proofs.RestartLemmas.{met_with}
 use Rattle.sn_run.proofs.UnfitLemmas.{lacks_none, unfit_fault}
 use Rattle.sn_mount.specs.Rooting.{MountsRoot}
@@ -94,14 +94,14 @@ module _ (events : List Event) (replies : List Reply) (disk last_disk : Disk) (s
       record {
         mounted = mounted.disk;
         mounts = s.leaves;
-        moments = run_leaves (start world mounted) (start world mounted) s.last [] events [] replies last_disk tt refl s.run s.ended.lasts;
+        moments = run_leaves (place_of (start world mounted)) (place_of (start world mounted)) (place_of s.last) [] events [] replies last_disk tt refl (places (start world mounted) s.last events replies s.run) s.ended.lasts;
       }
 
   served_run : (end : End) → Served events replies end disk status last_disk last_status → IsRunOf world events replies end disk last_disk
   served_run end s =
       let it = s.served world image in
       record {
-        run = inr (inr (it.last.state, machine_run (start world s.mounted) it.last events replies it.run, it.ended.met, tt, it.ended.ends));
+        run = inr (inr (it.last.state, machine_run (place_of (start world s.mounted)) (place_of it.last) events replies (places (start world s.mounted) it.last events replies it.run), it.ended.met, tt, it.ended.ends));
         crash = inr (served_leaves end s.mounted it);
       }
 

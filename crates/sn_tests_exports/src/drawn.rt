@@ -5,7 +5,7 @@ use crate::reading::lines_of;
 use crate::walking::Walk;
 use anyhow::{Result, ensure};
 use sn_device::{Fill, MemDevice};
-use sn_export_image::{ImageFault, export_image};
+use sn_export_image::{Exported, ImageFault, export_image};
 use sn_testing_mounts::Disk;
 use sn_testing_tables::{Report, Tally};
 use std::alloc::Global;
@@ -67,8 +67,8 @@ pub fn exported(
         device.fail_at(calls.saturating_add(1));
     }
     let mut out = Vec::new(alloc);
-    let ended = export_image(alloc, device, path.as_bytes(), &mut out);
-    Ok((out, ended))
+    let Exported { outcome, .. } = export_image(alloc, device, path.as_bytes(), &mut out);
+    Ok((out, outcome))
 }
 
 /// Whether a plain reader finds these lines in the archive of what lies at a path.

@@ -14,7 +14,7 @@ use sn_testing_tables::Report;
 use std::env;
 
 /// The parts, in the order in which they run.
-const PARTS: [&str; 5] = ["names", "nodes", "fuse", "tar", "untar"];
+const PARTS: [&str; 6] = ["names", "nodes", "fuse", "tar", "untar", "import"];
 
 fn run(report: &mut Report<'_>, part: &str) -> Result<()> {
     match part {
@@ -23,6 +23,7 @@ fn run(report: &mut Report<'_>, part: &str) -> Result<()> {
         "fuse" => sn_tests_fuse::run(report),
         "tar" => sn_tests_tar::run(report),
         "untar" => sn_tests_untar::run(report),
+        "import" => sn_tests_import::run(report),
         _ => bail!("no such part: {part}"),
     }
 }

@@ -12,6 +12,7 @@ mod places;
 mod streams;
 
 use anyhow::Result;
+pub use archive::{bytes_of, push_hex};
 use sn_testing_tables::Report;
 
 /// Compares the answers of all cases with their tables. An error is a case, or a table, that can't be read, or a want of memory.

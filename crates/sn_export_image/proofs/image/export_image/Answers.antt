@@ -1,7 +1,14 @@
-use Rattle.std.proofs.Common.{rules}
+use Rattle.std.proofs.Common.{sym, subst}
+use Rattle.std.specs.Prelude.{OnOk, Result}
+use Rattle.sn_device.specs.Disk.{reads}
 use Rattle.sn_model.specs.World.{trees_of}
+use Rattle.sn_serving.specs.Served.{Served}
+use Rattle.sn_export_walk.specs.Serving.{Reads, WritesArchive}
 use Rattle.sn_export_walk.proofs.Archived as archived
 use Rattle.sn_export_walk.proofs.Ends.{begins_nothing}
+use Rattle.sn_export_image.specs.Worlds.{HasTreesOf, RunsOver}
+use Rattle.sn_export_image.specs.declared.fault.ImageFault.{ImageFault}
+use Rattle.sn_export_image.proofs.ServingLemmas.{keeps_trees, on_written}
 use Rattle.sn_export_image.proofs.image.export_image.Goals as goal
 
 pub returns-in-Err-clause-front : goal.returns-in-Err-clause-front
@@ -10,18 +17,21 @@ returns-in-Err-clause-front g c = begins_nothing (g.W.Write.contents c.args.out.
 pub returns-in-Err-clause-begun : goal.returns-in-Err-clause-begun
 returns-in-Err-clause-begun g c = λ told world image. archived.begins_nothing (trees_of world) c.args.path.now (g.W.Write.contents c.args.out.now)
 
-pub returns-in-Ok-and-clause-archive : goal.returns-in-Ok-and-clause-archive
-returns-in-Ok-and-clause-archive g c = λ told world image.
-    (let over = c.in-Ok.ensures.serves told world image in
-    let written = c.write_tree-written.ensures.archive world (told, over.0) over.1 in
-    search rules)
+pub returns-clause-archive : goal.returns-clause-archive
+returns-clause-archive g c = λ told world image.
+    (let m = c.in-Ok.ensures.mounted told world image in
+    subst (λ (r : Result (Unit {0}) ImageFault). OnOk r (WritesArchive (trees_of world) c.args.path.now (g.W.Write.contents c.args.out.now) (g.W.Write.contents c.write_tree-written.new.out))) (sym c.of_end.ensures)
+    (on_written _ c.finish-end.result.0 c.write_tree-written.result (c.write_tree-written.ensures.archive world (told, m.is_in) m.found)))
 
-pub returns-in-Ok-and-clause-begun : goal.returns-in-Ok-and-clause-begun
-returns-in-Ok-and-clause-begun g c = λ told world image.
-    (let over = c.in-Ok.ensures.serves told world image in
-    c.write_tree-written.ensures.begun world (told, over.0) over.1)
+pub returns-clause-begun : goal.returns-clause-begun
+returns-clause-begun g c = λ told world image.
+    (let m = c.in-Ok.ensures.mounted told world image in
+    c.write_tree-written.ensures.begun world (told, m.is_in) m.found)
 
-pub returns-in-Err-and-clause-begun : goal.returns-in-Err-and-clause-begun
-returns-in-Err-and-clause-begun g c = λ told world image.
-    (let over = c.in-Ok.ensures.serves told world image in
-    c.write_tree-written.ensures.begun world (told, over.0) over.1)
+pub returns-clause-kept : goal.returns-clause-kept
+returns-clause-kept g c = λ told world image.
+    (let m = c.in-Ok.ensures.mounted told world image in
+    subst (λ (r : Result (Unit {0}) ImageFault). OnOk r (HasTreesOf world (g.D.Device.disk c.finish-end.result.1))) (sym c.of_end.ensures)
+    (keeps_trees g.D.Device.tells_bytes c.finish-end.result.0 c.write_tree-written.result c.exporting.inside.serving (reads (g.D.Device.disk c.args.device)) world _ image
+    (subst (λ (s : Served). OnOk c.write_tree-written.result (Reads (trees_of world) (RunsOver g.D.Device.tells_bytes s))) (sym c.exporting.view_is) (c.write_tree-written.ensures.kept world (told, m.is_in) m.found))
+    (c.finish-end.ensures.ended told)))

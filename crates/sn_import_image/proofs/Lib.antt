@@ -1,0 +1,3 @@
+pub mod Doing
+pub mod Openings
+pub mod Works

@@ -1,0 +1,7 @@
+use Rattle.std.proofs.Common.{ℕ, List, ap}
+use Rattle.sn_import_image.specs.Opening.{access}
+use Rattle.sn_import_image.proofs.Openings.{asks}
+use Rattle.sn_import_image.proofs.opening.ask_to_write.Goals as goal
+
+pub returns : goal.returns
+returns g c = asks _ _ _ (access c.args.path.now) c.ask.result (ap (λ (path : List ℕ). access path) c.in_ok-new.ensures) c.ask.ensures

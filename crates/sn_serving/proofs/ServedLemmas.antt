@@ -1,0 +1,141 @@
+-- What events lead a mounted file system to.
+use Rattle.std.proofs.Common.{◌≡◌, ◌+◌, ℕ, zero, suc, Bool, false, List, [], ◌∷◌, ◌++◌, length, replicate, refl, sym, ap, subst, ◌∙◌, true≢false, length-append, arith}
+use Rattle.std.specs.Prelude.{IsTrue}
+use Rattle.sn_cp_progress.specs.Meaning.{Means}
+use Rattle.sn_cp_progress.proofs.MeaningLemmas.{runs_with}
+use Rattle.sn_device.specs.Disk.{Disk, reads}
+use Rattle.sn_device.specs.Sectors.{Contents}
+use Rattle.sn_device.specs.declared.status.Status.{Status}
+use Rattle.sn_events.specs.Answers.{Answers}
+use Rattle.sn_events.specs.Mounting.{Mounts}
+use Rattle.sn_examine.specs.Laws.{IsSomeClean}
+use Rattle.sn_examine.proofs.ImageLemmas.{clean_image}
+use Rattle.sn_held.specs.Held.{Held}
+use Rattle.sn_held.specs.Images.{IsImage}
+use Rattle.sn_limits.specs.Versions.{limits_written}
+use Rattle.sn_limits.proofs.VersionLemmas.{written_allows}
+use Rattle.sn_model.specs.declared.call.Event.{Event}
+use Rattle.sn_model.specs.declared.call.Event.TheVariants as event
+use Rattle.sn_model.specs.declared.end.End.{End}
+use Rattle.sn_model.specs.declared.reply.Reply.{Reply}
+use Rattle.sn_model.specs.Machine.{Running, RunBy, State, Stopped}
+use Rattle.sn_model.specs.World.{World}
+use Rattle.sn_model.specs.Worlds.{IsFound}
+use Rattle.sn_mount.proofs.AllowedLemmas.{world_stays}
+use Rattle.sn_opening.specs.Opens.{Opens}
+use Rattle.sn_run.specs.Ending.{EndsSo}
+use Rattle.sn_run.specs.Places.{Moves}
+use Rattle.sn_sound.specs.Disks.{IsOfDevice}
+use Rattle.sn_sound.proofs.DiskLemmas.{one_size}
+use Rattle.sn_sound.proofs.WorldLemmas.{opens_to_found}
+use Rattle.sn_serving.specs.Served.{IsIn, IsMountOf, Leads, MeansSome, Served, Unmounts, place_in}
+
+-- ---- events, one after the other
+
+pub run_joined : {S : Type 0} (By : S → Event → Reply → S → Type 0) (old mid new : S) (a b : List Event) (x y : List Reply) → RunBy By old a x mid → RunBy By mid b y new → RunBy By old (a ++ b) (x ++ y) new
+run_joined {S} By old mid new [] b [] y run more = subst (λ (s : S). RunBy By s b y new) run more
+run_joined By old mid new [] b (r ∷ x) y run more = absurd run
+run_joined By old mid new (e ∷ a) b [] y run more = absurd run
+run_joined By old mid new (e ∷ a) b (r ∷ x) y run more = (run.0, run.1, run_joined By run.0 mid new a b x y run.2 more)
+
+pub leads_none : (s : Served) → Leads [] [] s s
+leads_none s state is = record { next = state; is_in = is; run = refl }
+
+pub leads_more : (a b : List Event) (x y : List Reply) (old mid new : Served) → Leads a x old mid → Leads b y mid new → Leads (a ++ b) (x ++ y) old new
+leads_more a b x y old mid new first more state is =
+    let f = first state is in
+    let m = more f.next f.is_in in
+    record { next = m.next; is_in = m.is_in; run = run_joined Moves (place_in state old) (place_in f.next mid) (place_in m.next new) a b x y f.run m.run }
+
+-- ---- what is held, as it is seen
+
+abbrev pub served_of : Held → Bool → Served
+served_of h has_stopped = record { world = h.world; has_stopped = has_stopped; disk = h.disk }
+
+pub in_it : (h : Held) (has_stopped : Bool) (state : State) → Means h has_stopped state → IsIn state (served_of h has_stopped)
+in_it h has_stopped (Running world) m = (m.0, (runs_with h world h.point m.1).is)
+in_it h has_stopped (Stopped before after) m = m
+
+runs : (h : Held) (has_stopped : Bool) (world : World) → has_stopped ≡ false → h.world ≡ world → (state : State) → Means h has_stopped state → Means h has_stopped (Running world)
+runs h has_stopped world running is (Running other) m =
+    let same : other ≡ world = sym (runs_with h other h.point m.1).is ∙ is in
+    subst (λ (w : World). Means h has_stopped (Running w)) same m
+runs h has_stopped world running is (Stopped before after) m = absurd (true≢false (sym m.0 ∙ running))
+
+-- it means each state that it may be in, since it means some
+pub meant : (h : Held) (has_stopped : Bool) → (state : State) × Means h has_stopped state → (state : State) → IsIn state (served_of h has_stopped) → Means h has_stopped state
+meant h has_stopped some (Running world) is = runs h has_stopped world is.0 is.1 some.0 some.1
+meant h has_stopped some (Stopped before after) is = is
+
+pub answered : (told : Bool) (e : Event) (reply : Reply) (old : Held) (had_stopped : Bool) (new : Held) (has_stopped : Bool)
+    → MeansSome told old had_stopped → (IsTrue told → Answers e reply old had_stopped new has_stopped) → IsTrue told → Leads (e ∷ []) (reply ∷ []) (served_of old had_stopped) (served_of new has_stopped)
+answered told e reply old had_stopped new has_stopped some answers is state here =
+    let a = answers is state (meant old had_stopped (some is) state here) in
+    record {
+      next = a.next;
+      is_in = in_it new has_stopped a.next a.means;
+      run = (place_in a.next (served_of new has_stopped), record { step = (a.met, tt, a.step); lasts = a.lasts }, refl);
+    }
+
+pub means_next : (told : Bool) (e : Event) (reply : Reply) (old : Held) (had_stopped : Bool) (new : Held) (has_stopped : Bool)
+    → MeansSome told old had_stopped → (IsTrue told → Answers e reply old had_stopped new has_stopped) → MeansSome told new has_stopped
+means_next told e reply old had_stopped new has_stopped some answers is =
+    let state = some is in
+    let a = answers is state.0 state.1 in
+    (a.next, a.means)
+
+pub unmounts : (told : Bool) (end : End) (h : Held) (has_stopped : Bool) (disk : Disk) (status : Status) → MeansSome told h has_stopped → (IsTrue told → EndsSo end h has_stopped disk status) → IsTrue told → Unmounts end (served_of h has_stopped) disk
+unmounts told end h has_stopped disk status some ends is state here =
+    let e = ends is state (meant h has_stopped (some is) state here) in
+    record { met = e.met; ends = e.ends; lasts = e.lasts }
+
+-- ---- the mount
+
+-- an image of a world is one that a mount may find, by the limits that are written
+pub image_found : (sectors : ℕ) (c : Contents) (world : World) → IsOfDevice sectors c → IsSomeClean sectors c → IsImage c world → IsFound limits_written world
+image_found sectors c world device (free, clean) image =
+    let size : image.blocks ≡ clean.blocks =
+    one_size sectors c image.blocks clean.blocks (record { size = image.disk.size; spelled = image.spelled; room = omega (arith, image.disk.long, device.count) }) clean.sound.formatted in
+    let opened = opens_to_found sectors c clean.blocks clean.slot clean.root device clean.sound world (subst (λ (n : ℕ). Opens n c world) size image.opens) in
+    let limits = clean.root.limits in
+    record { whole = world_stays limits limits_written (written_allows limits.version limits clean.sound.newest.body.fits.version) world opened.whole; settled = opened.settled }
+
+-- what a device has that was mounted is an image of a world, over which the mount runs
+pub means_some : (told : Bool) (sectors : ℕ) (old : Disk) (h : Held) (has_stopped : Bool) → (IsTrue told → IsOfDevice sectors (reads old)) → (IsTrue told → Mounts sectors old h has_stopped) → MeansSome told h has_stopped
+means_some told sectors old h has_stopped device mounts is =
+    let m = mounts is in
+    let found = clean_image sectors (reads old) (device is) m.clean in
+    (Running found.0, (m.runs found.0 found.1).means)
+
+pub is_mount : (sectors : ℕ) (old : Disk) (h : Held) (has_stopped : Bool) (world : World) → IsOfDevice sectors (reads old) → Mounts sectors old h has_stopped → IsImage (reads old) world → IsMountOf world old (served_of h has_stopped)
+is_mount sectors old h has_stopped world device m image =
+    let it = m.runs world image in
+    record {
+      is_in = in_it h has_stopped (Running world) it.means;
+      found = image_found sectors (reads old) world device m.clean image;
+      leaves = it.leaves;
+    }
+
+-- ---- steps
+
+-- steps alone, as many as have replies
+abbrev pub Steps : Bool → Served → Served → Type 0
+Steps told old new = (replies : List Reply) × (IsTrue told → Leads (replicate (length replies) event.Step) replies old new)
+
+pub steps_none : (told : Bool) (s : Served) → Steps told s s
+steps_none told s = ([], λ is. leads_none s)
+
+replicate_joined : (m n : ℕ) → replicate m event.Step ++ replicate n event.Step ≡ replicate (m + n) event.Step
+replicate_joined zero n = ap (λ (k : ℕ). replicate k event.Step) (omega arith)
+replicate_joined (suc m) n = ap (λ (es : List Event). event.Step ∷ es) (replicate_joined m n) ∙ ap (λ (k : ℕ). replicate k event.Step) {x = suc (m + n)} {y = suc m + n} (omega arith)
+
+pub steps_more : (told : Bool) (old mid new : Served) → Steps told old mid → Steps told mid new → Steps told old new
+steps_more told old mid new first more = (
+  first.0 ++ more.0,
+  λ is. subst (λ (es : List Event). Leads es (first.0 ++ more.0) old new)
+      (replicate_joined (length first.0) (length more.0) ∙ ap (λ (n : ℕ). replicate n event.Step) (sym (length-append first.0 more.0)))
+      (leads_more (replicate (length first.0) event.Step) (replicate (length more.0) event.Step) first.0 more.0 old mid new (first.1 is) (more.1 is)),
+)
+
+pub steps_one : (told : Bool) (reply : Reply) (old new : Served) → (IsTrue told → Leads (event.Step ∷ []) (reply ∷ []) old new) → Steps told old new
+steps_one told reply old new leads = (reply ∷ [], leads)

@@ -1,0 +1,147 @@
+//! A mounted file system that answers events as they are chosen.
+ghost use Rattle.std.specs.Prelude.{◌≡◌, ◌++◌, ◌∷◌, [], List, IsTrue, IfErr, IfOk, length, replicate};
+ghost use Rattle.sn_check.specs.Verdicts.{IsCause};
+ghost use Rattle.sn_device.specs.Disk.{reads};
+ghost use Rattle.sn_held.specs.Images.{IsImage};
+ghost use Rattle.sn_model.specs.World.{World};
+ghost use Rattle.sn_model.specs.declared.call.Event.{Event as Chosen};
+ghost use Rattle.sn_model.specs.declared.call.Event.TheVariants as event;
+ghost use Rattle.sn_model.specs.declared.end.End.TheVariants as ending;
+ghost use Rattle.sn_model.specs.declared.reply.Reply.{Reply as Told};
+ghost use Rattle.sn_run.specs.Ending.{IsLastEnd};
+ghost use Rattle.sn_run.specs.Runs.{IsRunOf};
+ghost use Rattle.sn_serving.specs.Served.{IsMountOf, Leads, Unmounts};
+
+use crate::pace::{Room, steps_due};
+use sn_core::{Call, Device, End, Progress, Reply, Unmounted, mount};
+use sn_run::Server;
+use std::alloc::Global;
+use std::marker::Model;
+
+/// A mounted file system: the world that it holds, whether it has stopped, and the disk of its device.
+#[derive(Drop)]
+pub struct Serving<D: Device + Drop> {
+    server: Server<D>,
+}
+
+impl<D: Device + Drop> Model for Serving<D> {
+    ghost use Rattle.std.specs.Coded.{codes};
+    ghost use Rattle.std.specs.FinMap as map;
+    ghost use Rattle.sn_serving.specs.Served.{Served};
+
+    ghost Value = { Served };
+
+    ghost coded = { Prim.hlevel (codes, map.code) };
+
+    ghost use Rattle.sn_run.specs.Servers.{IsServer, is_stopped, standing};
+    ghost use Rattle.sn_serving.specs.Served.{MeansSome};
+
+    ghost view = { λ s. record { world = (standing s.server).world; has_stopped = is_stopped s.server; disk = (standing s.server).disk } };
+
+    ghost invariant = { λ s. IsServer s.server × MeansSome D.tells_bytes (standing s.server) (is_stopped s.server) };
+}
+
+impl<D: Device + Drop> Serving<D> {
+    /// Mounts a device, as `mount` does, or says why not and hands it back.
+    ///
+    /// Proved: A device that can't be mounted is refused for the cause of a check.
+    /// Proved: What is mounted runs over the world that the disk is an image of, and a crash leaves no other from the mount's
+    /// first sync on; where nothing is mounted, that is a run without a reply.
+    pub fn new(alloc: Global, device: D) -> Result<Serving<D>, Unmounted<D>>
+        ensures mounted { IsTrue D.tells_bytes → (world : World) → IsImage (reads (D.disk device)) world
+            → IfOk result (IsMountOf world (D.disk device)) }
+        ensures unmounted { IsTrue D.tells_bytes → (world : World) → IsImage (reads (D.disk device)) world
+            → IfErr result (λ u. (events : List Chosen) → IsRunOf world events [] (ending.Mount u.fault) (D.disk device) (D.disk u.device)) }
+        ensures cause { IsTrue D.tells_bytes → IfErr result (λ u. IsCause (D.status device).sectors (reads (D.disk device)) u.fault) }
+    {
+        match mount(alloc, device) {
+            Ok(fs) => Ok(Serving {
+                server: Server::Mounted(fs),
+            }),
+            Err(unmounted) => Err(unmounted),
+        }
+    }
+
+    /// Whether a failure of the device has stopped it, so that every event is refused with ESTOPPED.
+    pub fn has_stopped(&self) -> bool
+        ensures { result ≡ self.now.has_stopped }
+    {
+        self.server.is_stopped()
+    }
+
+    /// Answers a call, as `Fs::call` (`sn_fs`) does.
+    ///
+    /// Proved, also of `Serving::step`: The reply is that of a step of the machine, from each state in which what is served may
+    /// be, and a crash in its course leaves the state before it or after it.
+    pub fn call(&mut self, session: u32, call: &Call) -> Reply
+        ensures { IsTrue D.tells_bytes → Leads (event.Call session call.now ∷ []) (result ∷ []) self.old self.new }
+    {
+        self.server.call(session, call)
+    }
+
+    /// Goes one step on with a consistency point, or begins one, as `Fs::step` (`sn_fs`) does.
+    pub fn step(&mut self) -> Reply
+        ensures { IsTrue D.tells_bytes → Leads (event.Step ∷ []) (result ∷ []) self.old self.new }
+    {
+        self.server.step()
+    }
+
+    /// What is left of the log, of the disk, and of the point in progress. Of one that has stopped it says nothing.
+    pub fn room(&self) -> Room {
+        match &self.server {
+            Server::Mounted(fs) => Room {
+                steps_left: fs.steps_left(),
+                log_left: fs.log_left(),
+                free: fs.free(),
+                left: fs.left(),
+            },
+            Server::Unmounted(_) => Room {
+                steps_left: 0,
+                log_left: 0,
+                free: 0,
+                left: 0,
+            },
+        }
+    }
+
+    // Makes so many steps, fewer where one is refused or the last of a point. Whether it was that.
+    fn make_steps(&mut self, count: u64) -> bool
+        ensures { (replies : List Told) × (IsTrue D.tells_bytes → Leads (replicate (length replies) event.Step) replies self.old self.new) }
+    {
+        for _step in 0..count {
+            match self.step() {
+                Reply::Progress(Progress::More) => {}
+                Reply::Progress(Progress::Done) => return true,
+                _ => return false,
+            }
+        }
+        false
+    }
+
+    /// Makes the steps that are due after a call that was logged (`steps_due`), so that a point in progress ends before the log
+    /// is full; after its end the next one begins where it is due. A step that is refused ends them: the next call says why.
+    ///
+    /// Proved: Nothing is done but steps.
+    pub fn keep_pace(&mut self)
+        ensures { (replies : List Told) × (IsTrue D.tells_bytes → Leads (replicate (length replies) event.Step) replies self.old self.new) }
+    {
+        if self.has_stopped() {
+            return;
+        }
+        if self.make_steps(steps_due(&self.room())) {
+            self.make_steps(steps_due(&self.room()));
+        }
+    }
+
+    /// Unmounts, makes a whole consistency point, and hands the device back. `Clean` where it is unmounted, `Memory` where memory was
+    /// refused for that, and `Stopped` where it was refused otherwise, or has stopped before.
+    ///
+    /// Proved: The end is that of the machine, and a crash in the course of the unmount leaves what was there before it.
+    pub fn finish(self) -> (End, D)
+        ensures ended { IsTrue D.tells_bytes → Unmounts result.0 self (D.disk result.1) }
+        ensures told { IsLastEnd result.0 }
+    {
+        let Serving { server } = self;
+        server.finish()
+    }
+}
