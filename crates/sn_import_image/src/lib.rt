@@ -4,7 +4,7 @@
 //! clauses it is what is served (`sn_serving`), that output, and whether anything was reported. What was done from one to the next are the
 //! acts of which the calls, with the steps of consistency points after each, lead from the one to the other (`Did` of
 //! `specs/Importing`). So the whole is a run of the machine, from the world that the disk is an image of, whose calls are those of the entries:
-//! `IsImported` of `specs/Imports`.
+//! `IsCarriedOut` of `specs/Imports`.
 //!
 //! An import isn't atomic: after a crash the entries before it are there, and perhaps a front of the calls of one.
 //!
