@@ -11,7 +11,8 @@
 # the unmount behind the last reply, `snapfs: stopped` alone is told.
 #
 # A check with one refusal, of an image with records in its log, gives the verdict that it gives without it, or
-# `snapfs: memory`, `snapfs: M5` or `snapfs: file`. An export of that image writes the archive or its front.
+# `snapfs: memory`, `snapfs: M5` or `snapfs: file`. An export of that image writes the archive or its front. An import of that archive with
+one refusal leaves a sound image, tells of memory alone, and made again without one, makes all of it.
 #
 # A part of the test program with one refusal may say that it found no memory, or that the device in memory has come to its end for
 # want of it; that of builds makes one that was refused memory again, of the same root and overlay, and goes on. Each case that it finds wrong has to be so for
@@ -116,13 +117,13 @@ honest() {
 }
 
 # each_refused COMMAND..: runs it with each allocation refused in turn, or each `step`th; `judge` judges
-step=1
+step=1 input=/dev/null
 each_refused() {
     local at=1 answered=0 ended=0 status
     while :; do
         status=0
         "$before"
-        REFUSED=$at REFUSED_MARK=$work/mark LD_PRELOAD=$work/refuse.so "$@" > "$work/out" 2> "$work/err" || status=$?
+        REFUSED=$at REFUSED_MARK=$work/mark LD_PRELOAD=$work/refuse.so "$@" < "$input" > "$work/out" 2> "$work/err" || status=$?
         [ -e "$work/mark" ] || break
         rm "$work/mark"
         if ! "$judge" "$status"; then
@@ -179,6 +180,22 @@ fresh_logged() { cp "$work/kept" "$work/logged"; }
 judge=exported before=fresh_logged
 each_refused "$program" export "$work/logged" /
 
+# An import is made again without a refusal, and then what is exported is the archive.
+"$program" run "$work/kept" <(printf '0 login 0 0 -\n0 mkdir /into 0700\n') > /dev/null
+mv "$work/whole" "$work/archive"
+imported() {
+    "$program" check "$work/logged" | grep -q ^clean || return 1
+    if [ "$1" = 0 ]; then
+        [ ! -s "$work/err" ] || return 1
+    else
+        grep -qvE '^snapfs: (memory|M5|file|stopped|entry .*: (ENOMEM|memory)|directory .*: (ENOMEM|memory))$' "$work/err" && return 1
+    fi
+    "$program" import "$work/logged" /into < "$work/archive" && "$program" export "$work/logged" /into | cmp -s - "$work/archive"
+}
+judge=imported input=$work/archive
+each_refused "$program" import "$work/logged" /into
+
+input=/dev/null
 judge=tested
 folder=$top/crates/sn_tests
 (cd "$folder" && "$top/.ci/rt" run -- data > "$work/log" 2>&1) || { tail -n 20 "$work/log"; exit 1; }

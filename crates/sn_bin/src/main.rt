@@ -21,10 +21,20 @@ fn fault_of(error: io::Error) -> ProgramFault {
 }
 
 fn main(rt: HostRuntime) -> ExitCode {
-    let (mut out, mut err) = (rt.stdout(), rt.stderr());
+    let (mut input, mut out, mut err) = (rt.stdin(), rt.stdout(), rt.stderr());
     let mut person = Person::at(rt.stderr());
     let status = match words(&rt) {
-        Ok(words) => program(&rt, words.as_slice(), &mut out, &mut err, &mut person),
+        Ok(words) => {
+            let (status, _) = program(
+                &rt,
+                words.as_slice(),
+                &mut input,
+                &mut out,
+                err,
+                &mut person,
+            );
+            status
+        }
         Err(error) => refuse(fault_of(error), &mut err, &mut person),
     };
     ExitCode::from(status)

@@ -13,7 +13,7 @@ use Rattle.sn_ondisk.specs.Trees.{store_of}
 use Rattle.sn_log.specs.Positions.{LogPosition}
 use Rattle.sn_image.specs.Image.{image}
 use Rattle.sn_model.specs.Settling.{nameless_in}
-use Rattle.sn_room.specs.Rooms.{is_covered, mounted}
+use Rattle.sn_held.specs.Rooms.{is_covered, mounted}
 use Rattle.sn_sound.specs.Charges.{Fits, charges_from}
 use Rattle.sn_sound.specs.Logs.{HasAgeLeft, HasSoundLog, IsLogFault, IsToRecover, age, charges as overcharged, later}
 use Rattle.sn_examine.specs.Ages.{IsAged, TellsByNumbers, TellsRecovery}

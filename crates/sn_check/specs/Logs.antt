@@ -11,7 +11,7 @@ use Rattle.sn_model.specs.Tree.{Tree}
 use Rattle.sn_ondisk.specs.Trees.{store_of}
 use Rattle.sn_image.specs.Image.{image}
 use Rattle.sn_model.specs.Settling.{nameless_in}
-use Rattle.sn_room.specs.Rooms.{is_covered, mounted}
+use Rattle.sn_held.specs.Rooms.{is_covered, mounted}
 use Rattle.sn_sound.specs.Charges.{charges_from}
 use Rattle.sn_sound.specs.Logs.{AreReplayed, IsLogFault, half_block}
 use Rattle.sn_examine.specs.Ages.{TellsRecovery}

@@ -5,7 +5,7 @@ ghost use Rattle.sn_block.specs.Lending.{device_of};
 ghost use Rattle.sn_layout.specs.RootBody.{IsRootBody};
 ghost use Rattle.sn_image.specs.Sound.{IsSound};
 ghost use Rattle.sn_ondisk.specs.Trees.{store_of};
-ghost use Rattle.sn_room.specs.Rooms.{is_covered, mounted};
+ghost use Rattle.sn_held.specs.Rooms.{is_covered, mounted};
 ghost use Rattle.sn_sound.specs.Logs.{HasSoundLog};
 ghost use Rattle.sn_examine.specs.Failing.{FailsAs, WritesNothing};
 ghost use Rattle.sn_check.specs.Faults.{IsDamageOf};
@@ -15,9 +15,9 @@ use sn_block::Blocks;
 use sn_check_log::{CheckedRoot, count_nameless, try_both};
 use sn_device::Device;
 use sn_examine::{is_to_recover, none_later, test_age};
+use sn_held::Room;
 use sn_layout::{Area, Geometry, LogHalf, RootBody};
 use sn_model::{Damage, MountFault};
-use sn_room::Room;
 use std::alloc::Global;
 
 /// What the log on top of a root amounts to.

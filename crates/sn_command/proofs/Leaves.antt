@@ -6,7 +6,7 @@ use Rattle.clap.specs.Simple.{App, Shape, built_leaf, inherited}
 use Rattle.clap.specs.Walk.{Held, Text, idle, rows_after}
 use Rattle.clap.specs.Words.{first_of}
 use Rattle.clap.proofs.OnLiterals.{clap_on_literals}
-use Rattle.sn_command.specs.Commands.{check, export, mkfs, run, stop_at, top}
+use Rattle.sn_command.specs.Commands.{check, export, import, mkfs, run, stop_at, top}
 use Rattle.sn_command.specs.Words.{is_misfit}
 use Rattle.sn_command.proofs.LeafLemmas.{is_none, leaf_fault, leaf_is, or_else_some, rows_are, start}
 use Rattle.sn_command.proofs.WalkLemmas.{IsOpen, OpenAlong, faults_along, front_fits}
@@ -229,3 +229,42 @@ export_words [] fit e = absurd (true≢false (sym (ap is_none e) ∙ export_0))
 export_words (a ∷ []) fit e = absurd (true≢false (sym (ap is_none e) ∙ export_1 a fit))
 export_words (a ∷ b ∷ []) fit e = (a, b, refl)
 export_words (a ∷ b ∷ d ∷ more) fit e = absurd (true≢false (sym (ap is_none e) ∙ export_more a b d more fit))
+
+-- ---- import
+
+import_open : (a b : Text) → OpenAlong (leaf import).rules start (a ∷ b ∷ [])
+import_open a b = (opened _ _, (opened _ _, tt))
+
+pub import_fits : (a b : Text) → list_any is_misfit (a ∷ b ∷ []) ≡ false → leaf_fault (leaf import) (a ∷ b ∷ []) ≡ []
+unfolding clap_on_literals
+import_fits a b fit = leaf_is (leaf import) (a ∷ b ∷ []) fit (import_open a b) ∙ refl
+
+pub import_image : (a b : Text) → list_any is_misfit (a ∷ b ∷ []) ≡ false → first_of (codes "IMAGE") (rows_after (leaf import).rules [] (a ∷ b ∷ [])) ≡ Some a
+unfolding clap_on_literals
+import_image a b fit = ap (first_of (codes "IMAGE")) (rows_are (leaf import) (a ∷ b ∷ []) fit (import_open a b)) ∙ refl
+
+pub import_path : (a b : Text) → list_any is_misfit (a ∷ b ∷ []) ≡ false → first_of (codes "PATH") (rows_after (leaf import).rules [] (a ∷ b ∷ [])) ≡ Some b
+unfolding clap_on_literals
+import_path a b fit = ap (first_of (codes "PATH")) (rows_are (leaf import) (a ∷ b ∷ []) fit (import_open a b)) ∙ refl
+
+import_0 : is_none (leaf_fault (leaf import) []) ≡ false
+unfolding clap_on_literals
+import_0 = refl
+
+import_1 : (a : Text) → list_any is_misfit (a ∷ []) ≡ false → is_none (leaf_fault (leaf import) (a ∷ [])) ≡ false
+unfolding clap_on_literals
+import_1 a fit = ap is_none (leaf_is (leaf import) (a ∷ []) fit (opened _ _, tt)) ∙ refl
+
+import_more : (a b d : Text) (more : List Text) → list_any is_misfit (a ∷ b ∷ d ∷ more) ≡ false → is_none (leaf_fault (leaf import) (a ∷ b ∷ d ∷ more)) ≡ false
+unfolding clap_on_literals
+import_more a b d more fit =
+    let front : list_any is_misfit (a ∷ b ∷ d ∷ []) ≡ false = front_fits (a ∷ b ∷ d ∷ []) more fit in
+    let opens : OpenAlong (leaf import).rules start (a ∷ b ∷ d ∷ []) = (opened _ _, (opened _ _, (opened _ _, tt))) in
+    or_else_some (walk_fault (leaf import) [] start (a ∷ b ∷ d ∷ more)) _ (ap is_none (faults_along (leaf import) start (a ∷ b ∷ d ∷ []) more front opens) ∙ refl)
+
+-- it takes 2 words
+pub import_words : (words : List Text) → list_any is_misfit words ≡ false → leaf_fault (leaf import) words ≡ [] → (a : Text) × (b : Text) × (words ≡ a ∷ b ∷ [])
+import_words [] fit e = absurd (true≢false (sym (ap is_none e) ∙ import_0))
+import_words (a ∷ []) fit e = absurd (true≢false (sym (ap is_none e) ∙ import_1 a fit))
+import_words (a ∷ b ∷ []) fit e = (a, b, refl)
+import_words (a ∷ b ∷ d ∷ more) fit e = absurd (true≢false (sym (ap is_none e) ∙ import_more a b d more fit))

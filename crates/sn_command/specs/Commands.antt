@@ -21,6 +21,9 @@ check = with_rule (new_app (codes "check")) (required (codes "IMAGE"))
 abbrev pub export : App
 export = with_rule (with_rule (new_app (codes "export")) (required (codes "IMAGE"))) (required (codes "PATH"))
 
+abbrev pub import : App
+import = with_rule (with_rule (new_app (codes "import")) (required (codes "IMAGE"))) (required (codes "PATH"))
+
 abbrev pub top : App
 top = record (new_app (codes "snapfs")) {
   top = record (new_app (codes "snapfs")).top { no_binary_name = true; subcommand_required = true; disable_help_subcommand = true };
@@ -28,4 +31,4 @@ top = record (new_app (codes "snapfs")) {
 
 -- all that may follow the program's name
 abbrev pub snapfs : App
-snapfs = with_subcommand (with_subcommand (with_subcommand (with_subcommand (with_subcommand top mkfs.top) run.top) stop_at.top) check.top) export.top
+snapfs = with_subcommand (with_subcommand (with_subcommand (with_subcommand (with_subcommand (with_subcommand top mkfs.top) run.top) stop_at.top) check.top) export.top) import.top

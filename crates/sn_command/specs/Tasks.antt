@@ -24,6 +24,7 @@ Spells words (task.StopAt cut how image script out) = (word : List ℕ) × (fill
     × (words ≡ codes "stop-at" ∷ decimal cut ∷ word ∷ image.now ∷ script.now ∷ out.now ∷ []) × (cut < 2 ^ 32)
 Spells words (task.Check image) = words ≡ codes "check" ∷ image.now ∷ []
 Spells words (task.Export image path) = words ≡ codes "export" ∷ image.now ∷ path.now ∷ []
+Spells words (task.Import image path) = words ≡ codes "import" ∷ image.now ∷ path.now ∷ []
 
 -- and none of them is empty or begins with a dash
 abbrev pub AsksFor : List (List ℕ) → Task → Type 0
@@ -39,3 +40,4 @@ IsRead name read (task.StopAt cut how image script out) = (name ≡ codes "stop-
     × (read (codes "IMAGE") ≡ Some image.now) × (read (codes "SCRIPT") ≡ Some script.now) × (read (codes "OUT") ≡ Some out.now)
 IsRead name read (task.Check image) = (name ≡ codes "check") × (read (codes "IMAGE") ≡ Some image.now)
 IsRead name read (task.Export image path) = (name ≡ codes "export") × (read (codes "IMAGE") ≡ Some image.now) × (read (codes "PATH") ≡ Some path.now)
+IsRead name read (task.Import image path) = (name ≡ codes "import") × (read (codes "IMAGE") ≡ Some image.now) × (read (codes "PATH") ≡ Some path.now)

@@ -43,6 +43,11 @@ pub enum Task<'a> {
         image: &'a str,
         path: &'a str,
     },
+    /// Makes what an archive holds below the directory at a path of an image.
+    Import {
+        image: &'a str,
+        path: &'a str,
+    },
 }
 
 /// An empty word, or one that begins with a dash: there are no options.

@@ -2,7 +2,7 @@
 ghost use Rattle.std.specs.Prelude.{◌≡◌, false, IfOk, IfErr};
 ghost use Rattle.clap.specs.Words.{app_of, rule_of};
 ghost use Rattle.clap.specs.declared.builder.command.Command.TheViews.{out-Command as fields_of};
-ghost use Rattle.sn_command.specs.Commands.{required, mkfs, run, stop_at, check, export, snapfs};
+ghost use Rattle.sn_command.specs.Commands.{required, mkfs, run, stop_at, check, export, import, snapfs};
 ghost use Rattle.sn_command.specs.declared.fault.WordsFault.TheVariants as fault;
 
 use crate::fault::WordsFault;
@@ -73,6 +73,17 @@ fn export<'a>(alloc: Global) -> Result<Command<'a>, WordsFault>
     Ok(command)
 }
 
+fn import<'a>(alloc: Global) -> Result<Command<'a>, WordsFault>
+    ensures app { IfOk result (λ c. app_of c ≡ import) }
+    ensures memory { IfErr result (λ why. why ≡ fault.Memory) }
+    ensures local { IfOk result (λ c. (fields_of c).has_globals ≡ false) }
+{
+    let command = Command::new(alloc, "import")
+        .arg(word(alloc, "IMAGE"))?
+        .arg(word(alloc, "PATH"))?;
+    Ok(command)
+}
+
 /// All of them. Help is none: it is refused as any other word is.
 pub(crate) fn commands<'a>(alloc: Global) -> Result<Command<'a>, WordsFault>
     ensures app { IfOk result (λ c. app_of c ≡ snapfs) }
@@ -86,6 +97,7 @@ pub(crate) fn commands<'a>(alloc: Global) -> Result<Command<'a>, WordsFault>
         .subcommand(run(alloc)?)?
         .subcommand(stop_at(alloc)?)?
         .subcommand(check(alloc)?)?
-        .subcommand(export(alloc)?)?;
+        .subcommand(export(alloc)?)?
+        .subcommand(import(alloc)?)?;
     Ok(command)
 }

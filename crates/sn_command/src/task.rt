@@ -98,6 +98,16 @@ fn export<'a>(found: &ArgMatches<'a>) -> Result<Task<'a>, WordsFault>
     })
 }
 
+fn import<'a>(found: &ArgMatches<'a>) -> Result<Task<'a>, WordsFault>
+    ensures read { IfOk result (IsRead (codes "import") (first_value (found_of found.now))) }
+    ensures unread { (task : Asked) → IsRead (codes "import") (first_value (found_of found.now)) task → IfErr result (λ why. why ≡ fault.Memory) }
+{
+    Ok(Task::Import {
+        image: text(found, "IMAGE")?,
+        path: text(found, "PATH")?,
+    })
+}
+
 /// The task of the command with this name, whose words were found.
 pub(crate) fn task_of<'a>(name: &str, found: &ArgMatches<'a>) -> Result<Task<'a>, WordsFault>
     ensures read { IfOk result (IsRead name.now (first_value (found_of found.now))) }
@@ -109,6 +119,7 @@ pub(crate) fn task_of<'a>(name: &str, found: &ArgMatches<'a>) -> Result<Task<'a>
         "stop-at" => stop_at(found),
         "check" => check(found),
         "export" => export(found),
+        "import" => import(found),
         _ => Err(WordsFault::Usage),
     }
 }

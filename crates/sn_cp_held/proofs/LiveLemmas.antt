@@ -41,7 +41,7 @@ use Rattle.sn_overlay.specs.Layers.{through}
 use Rattle.sn_model.specs.Settling.{nameless_in}
 use Rattle.sn_overlay.specs.Needs.{need}
 use Rattle.sn_overlay.specs.Seen.{LiesOver}
-use Rattle.sn_room.specs.Rooms.{begun}
+use Rattle.sn_held.specs.Rooms.{begun}
 use Rattle.sn_root.specs.declared.following.PointKind.{PointKind}
 use Rattle.sn_root.specs.declared.following.PointKind.TheVariants.{Ordinary}
 use Rattle.sn_sound.specs.Charges.{charges_from}

@@ -23,7 +23,7 @@ use Rattle.sn_model.specs.Settling.{nameless_in}
 use Rattle.sn_model.specs.World.{World}
 use Rattle.sn_overlay.specs.Layers.{Layer, through}
 use Rattle.sn_overlay.specs.Needs.{need}
-use Rattle.sn_room.specs.Rooms.{RoomCounts, fresh}
+use Rattle.sn_held.specs.Rooms.{RoomCounts, fresh}
 use Rattle.sn_root.specs.Following.{following}
 use Rattle.sn_root.specs.declared.following.PointKind.{PointKind}
 use Rattle.sn_root.specs.declared.following.PointKind.TheVariants.{Ordinary, Recovery}

@@ -28,7 +28,7 @@ use Rattle.sn_opening.specs.Worlds.{all_reach, frozen_of}
 use Rattle.sn_model.specs.Settling.{nameless_in, settled}
 use Rattle.sn_overlay.specs.Layers.{Layer}
 use Rattle.sn_overlay.specs.Overlays.{no_changes}
-use Rattle.sn_room.specs.Rooms.{RoomCounts, begun}
+use Rattle.sn_held.specs.Rooms.{RoomCounts, begun}
 use Rattle.sn_root.specs.Following.{epochs_of}
 use Rattle.sn_root.specs.declared.following.PointKind.{PointKind}
 use Rattle.sn_root.specs.declared.following.PointKind.TheVariants.{Ordinary}

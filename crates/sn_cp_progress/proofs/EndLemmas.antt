@@ -31,7 +31,7 @@ use Rattle.sn_opening.specs.Points.{HoldsAll, IsBuilt}
 use Rattle.sn_opening.specs.Worlds.{StandsFor, all_reach, frozen_of}
 use Rattle.sn_overlay.specs.Overlays.{no_changes}
 use Rattle.sn_root.specs.Replacing.{LeavesEither}
-use Rattle.sn_room.specs.Rooms.{begun, done, fresh}
+use Rattle.sn_held.specs.Rooms.{begun, done, fresh}
 use Rattle.sn_sound.specs.Charges.{Fits}
 use Rattle.sn_sound.specs.Logs.{HasAgeLeft, IsToRecover}
 use Rattle.sn_sound.specs.Maps.{free_blocks}

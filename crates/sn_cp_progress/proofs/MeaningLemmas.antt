@@ -18,7 +18,7 @@ use Rattle.sn_ondisk.specs.LogHalf.{InHalf}
 use Rattle.sn_opening.specs.Worlds.{FrozenTrees}
 use Rattle.sn_model.specs.Settling.{nameless_in}
 use Rattle.sn_record.specs.Payload.{IsSpelled}
-use Rattle.sn_room.specs.Rooms.{dropping, logged}
+use Rattle.sn_held.specs.Rooms.{dropping, logged}
 use Rattle.sn_sound.specs.Logs.{HasAgeLeft}
 use Rattle.sn_held.specs.Events.{IsOfTree, LeavesMore}
 use Rattle.sn_held.specs.Held.{CarriesOn, Going, Held, Kept, Runs}

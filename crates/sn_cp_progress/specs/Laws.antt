@@ -18,7 +18,7 @@ use Rattle.sn_model.specs.World.{World, trees_of}
 use Rattle.sn_ondisk.specs.LogHalf.{InHalf}
 use Rattle.sn_overlay.specs.Overlays.{no_changes}
 use Rattle.sn_record.specs.Payload.{IsSpelled}
-use Rattle.sn_room.specs.Rooms.{begun, done, dropping, fits, fresh, logged}
+use Rattle.sn_held.specs.Rooms.{begun, done, dropping, fits, fresh, logged}
 use Rattle.sn_sound.specs.Logs.{HasAgeLeft}
 use Rattle.sn_held.specs.Events.{IsOfTree, LeavesEither, LeavesMore}
 use Rattle.sn_held.specs.Held.{CarriesOn, Held, Kept, RunsReady}

@@ -16,7 +16,7 @@ use Rattle.sn_ondisk.specs.Trees.{Store}
 use Rattle.sn_opening.specs.Covering.{MakesCover}
 use Rattle.sn_opening.specs.Points.{HoldsAll, IsBuilt}
 use Rattle.sn_opening.specs.Worlds.{all_reach}
-use Rattle.sn_room.specs.Rooms.{done}
+use Rattle.sn_held.specs.Rooms.{done}
 use Rattle.sn_root.specs.declared.following.PointKind.TheVariants.{Ordinary}
 use Rattle.sn_sound.specs.Logs.{HasAgeLeft}
 use Rattle.sn_sound.specs.Maps.{IsSoundRoot}

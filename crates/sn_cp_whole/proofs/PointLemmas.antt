@@ -36,7 +36,7 @@ use Rattle.sn_ondisk.specs.Trees.{Store, store_of}
 use Rattle.sn_opening.specs.Points.{Written}
 use Rattle.sn_overlay.specs.Layers.{Layer}
 use Rattle.sn_overlay.specs.Overlays.{no_changes}
-use Rattle.sn_room.specs.Rooms.{RoomCounts, begun as begun_room, dropping, fresh}
+use Rattle.sn_held.specs.Rooms.{RoomCounts, begun as begun_room, dropping, fresh}
 use Rattle.sn_root.specs.declared.following.PointKind.{PointKind}
 use Rattle.sn_root.specs.declared.following.PointKind.TheVariants.{Ordinary}
 use Rattle.sn_root.specs.Replacing.{closing_writes}

@@ -20,7 +20,7 @@ use Rattle.sn_opening.specs.Worlds.{FrozenTrees}
 use Rattle.sn_overlay.specs.Layers.{Layer}
 use Rattle.sn_overlay.specs.Needs.{need}
 use Rattle.sn_overlay.specs.Overlays.{layer_of}
-use Rattle.sn_room.specs.Rooms.{begun, done}
+use Rattle.sn_held.specs.Rooms.{begun, done}
 use Rattle.sn_root.specs.declared.following.PointKind.TheVariants.{Ordinary}
 use Rattle.sn_sound.specs.Logs.{HasAgeLeft}
 use Rattle.sn_held.specs.Held.{Going, Held, Kept, RunsReady}

@@ -18,7 +18,7 @@ use Rattle.sn_model.specs.declared.outcome.AskedPoint.TheVariants.{Unasked, Plai
 use Rattle.sn_model.specs.Steps.{pointed}
 use Rattle.sn_model.specs.World.{World}
 use Rattle.sn_overlay.specs.declared.overlay.Overlay.{Overlay}
-use Rattle.sn_room.specs.Rooms.{RoomCounts, fresh}
+use Rattle.sn_held.specs.Rooms.{RoomCounts, fresh}
 use Rattle.sn_root.specs.Replacing.{closing_writes}
 use Rattle.sn_held.specs.Held.{Held, Kept, RunsReady}
 use Rattle.sn_cp.specs.Counting.{root_steps}

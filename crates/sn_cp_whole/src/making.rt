@@ -20,11 +20,11 @@ ghost use Rattle.sn_cp_whole.specs.declared.fault.PointFault.TheVariants.{Age as
 use crate::{Begun, PointBase, PointFault, begin_point};
 use sn_block::Blocks;
 use sn_device::Device;
+use sn_held::Room;
 use sn_limits::SnapshotName;
 use sn_log::Log;
 use sn_model::AskedPoint;
 use sn_overlay::Overlay;
-use sn_room::Room;
 use std::alloc::Global;
 
 // A whole point, of what changed since the root that counts or of a snapshot.

@@ -39,7 +39,7 @@ use Rattle.sn_model.proofs.DroppedLemmas.{all_held, dropped_same}
 use Rattle.sn_model.proofs.OutcomeLemmas.{FitsPoint, IsAlone, IsDecided, is_asked}
 use Rattle.sn_model.proofs.PointedLemmas.{pointed_world}
 use Rattle.sn_model.proofs.SnapshotLemmas.{create_is, delete_is, restore_is}
-use Rattle.sn_room.specs.Rooms.{charged_behind, gives_back}
+use Rattle.sn_held.specs.Rooms.{charged_behind, gives_back}
 use Rattle.sn_overlay.specs.Layers.{Layer}
 use Rattle.sn_block.proofs.CountLemmas.{later-is}
 use Rattle.sn_device.specs.declared.status.Status.{Status}

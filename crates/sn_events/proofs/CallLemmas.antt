@@ -18,8 +18,8 @@ use Rattle.sn_model.specs.Changes.{apply}
 use Rattle.sn_model.specs.Charges.{charge_for}
 use Rattle.sn_model.specs.NameTree.{IsHierarchy}
 use Rattle.sn_overlay.specs.Needs.{AreCharged}
-use Rattle.sn_room.specs.Rooms.{RoomCounts, charged_behind, dropping, gives_back}
-use Rattle.sn_room.specs.Rooms.{logged as logs}
+use Rattle.sn_held.specs.Rooms.{RoomCounts, charged_behind, dropping, gives_back}
+use Rattle.sn_held.specs.Rooms.{logged as logs}
 use Rattle.sn_held.specs.Room.{HasRoomFor}
 use Rattle.sn_model.specs.Machine.{State, Running, Stopped, Mishap, Memory, Read, Write, EventStep, refused}
 use Rattle.sn_model.specs.Outcomes.{is_opening}

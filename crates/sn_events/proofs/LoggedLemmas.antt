@@ -28,7 +28,7 @@ use Rattle.sn_ondisk.specs.LogHalf.{InHalf}
 use Rattle.sn_overlay.specs.Layers.{Layer}
 use Rattle.sn_overlay.specs.Merges.{merge}
 use Rattle.sn_overlay_change.specs.ChangeLayers.{layer_of_change}
-use Rattle.sn_room.specs.Rooms.{RoomCounts, logged}
+use Rattle.sn_held.specs.Rooms.{RoomCounts, logged}
 use Rattle.sn_events.specs.Answers.{writes_of}
 use Rattle.sn_events.specs.Changing.{IsLogged}
 use Rattle.sn_events.specs.Mounted.{IsMeant, holding_on, tree_at, trees_there}

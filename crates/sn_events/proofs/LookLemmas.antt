@@ -25,7 +25,7 @@ use Rattle.sn_model.specs.Worlds.{IsWorld}
 use Rattle.sn_model.specs.declared.call.Call.{Call}
 use Rattle.sn_model.specs.declared.change.Change.{Change}
 use Rattle.sn_model.specs.declared.outcome.Outcome.{Outcome}
-use Rattle.sn_room.specs.Rooms.{RoomCounts}
+use Rattle.sn_held.specs.Rooms.{RoomCounts}
 use Rattle.sn_cp_whole.specs.Planning.{kept_in}
 use Rattle.sn_events.specs.Changing.{FailsChange, change_fault}
 use Rattle.sn_events.specs.Pointing.{IsUnpointedTo, point_fault}

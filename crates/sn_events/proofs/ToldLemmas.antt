@@ -4,7 +4,7 @@ use Rattle.sn_limits.specs.Versions.{limits_written}
 use Rattle.sn_model.specs.declared.call.Call.{Call}
 use Rattle.sn_model.specs.declared.change.Change.{Change}
 use Rattle.sn_model.specs.declared.outcome.Outcome.{Outcome}
-use Rattle.sn_room.specs.Rooms.{dropping}
+use Rattle.sn_held.specs.Rooms.{dropping}
 use Rattle.sn_model.specs.Machine.{Running}
 use Rattle.sn_model.specs.Settling.{dropped, nameless_in}
 use Rattle.sn_model.specs.Steps.{asks_for_point, decision, with_caller}

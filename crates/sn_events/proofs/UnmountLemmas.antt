@@ -14,7 +14,7 @@ use Rattle.sn_held.specs.Events.{IsOfTree}
 use Rattle.sn_held.specs.Held.{CarriesOn, Held, Kept, RunsReady}
 use Rattle.sn_held.proofs.EventLemmas.{drops_ready}
 use Rattle.sn_overlay.specs.Layers.{Layer}
-use Rattle.sn_room.specs.Rooms.{RoomCounts, dropping}
+use Rattle.sn_held.specs.Rooms.{RoomCounts, dropping}
 use Rattle.sn_events.specs.Dropping.{DropsFiles}
 use Rattle.sn_events.proofs.CallLemmas.{figures}
 

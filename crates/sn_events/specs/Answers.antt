@@ -37,7 +37,7 @@ use Rattle.sn_held.specs.Room.{HasRoomOf}
 use Rattle.sn_overlay.specs.Layers.{Layer}
 use Rattle.sn_overlay.specs.Needs.{need}
 use Rattle.sn_overlay.specs.Overlays.{no_changes}
-use Rattle.sn_room.specs.Rooms.{begun, done, dropping, fits, logged}
+use Rattle.sn_held.specs.Rooms.{begun, done, dropping, fits, logged}
 use Rattle.sn_sound.specs.Logs.{HasAgeLeft}
 use Rattle.sn_root.specs.declared.following.PointKind.TheVariants.{Ordinary}
 use Rattle.sn_cp.specs.Counting.{steps_left, syncs_left, writes_left}

@@ -20,7 +20,7 @@ use Rattle.sn_block.specs.Counts.{FailsRead, IsLater, called}
 use Rattle.sn_events.specs.Answers.{writes_of}
 use Rattle.sn_held.specs.Events.{LeavesEither, LeavesMore}
 use Rattle.sn_held.specs.Held.{Held, Kept}
-use Rattle.sn_room.specs.Rooms.{logged}
+use Rattle.sn_held.specs.Rooms.{logged}
 use Rattle.sn_examine.specs.Failing.{CostsAtMost, HasFailed}
 use Rattle.sn_events.specs.declared.fault.ChangeFault.{ChangeFault}
 use Rattle.sn_events.specs.declared.fault.ChangeFault.TheVariants.{Memory, Read, Device}

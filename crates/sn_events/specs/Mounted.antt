@@ -20,7 +20,7 @@ use Rattle.sn_live_world.specs.declared.world.LiveWorld.{LiveWorld}
 use Rattle.sn_desc.specs.InUse.{live_in}
 use Rattle.sn_held.specs.Held.{Going, Held}
 use Rattle.sn_overlay.specs.Overlays.{no_changes}
-use Rattle.sn_room.specs.Rooms.{RoomCounts}
+use Rattle.sn_held.specs.Rooms.{RoomCounts}
 use Rattle.sn_cp.specs.Points.{stage_of, work_of}
 use Rattle.sn_cp_progress.specs.Meaning.{RunsWith}
 use Rattle.sn_cp.specs.Steps.{IsWhole, IsWithin, StandsAtStage}

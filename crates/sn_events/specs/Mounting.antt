@@ -8,7 +8,7 @@ use Rattle.sn_model.specs.Machine.{Running}
 use Rattle.sn_model.specs.World.{World}
 use Rattle.sn_log.specs.Positions.{first_of}
 use Rattle.sn_overlay.specs.Overlays.{no_changes}
-use Rattle.sn_room.specs.Rooms.{fresh}
+use Rattle.sn_held.specs.Rooms.{fresh}
 use Rattle.sn_held.specs.Held.{Held}
 use Rattle.sn_cp_progress.specs.Meaning.{Means}
 use Rattle.sn_held.specs.Room.{HasRoomOf}

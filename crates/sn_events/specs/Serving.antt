@@ -19,7 +19,7 @@ use Rattle.sn_core_decide_rules.specs.Decided.{MayLack}
 use Rattle.sn_model.specs.World.{World}
 use Rattle.sn_model.specs.Worlds.{IsCall}
 use Rattle.sn_caller.specs.Numbering.{gives_kept, has_closed}
-use Rattle.sn_room.specs.Rooms.{dropping}
+use Rattle.sn_held.specs.Rooms.{dropping}
 use Rattle.sn_held.specs.Held.{Held, RunsReady}
 use Rattle.sn_cp_progress.specs.Meaning.{Means}
 use Rattle.sn_log.specs.Positions.{HasRoom}

@@ -33,7 +33,7 @@ use Rattle.sn_held.specs.Held.{Kept}
 use Rattle.sn_held.specs.Images.{IsImage}
 use Rattle.sn_model.specs.Settling.{nameless_in}
 use Rattle.sn_overlay.specs.Overlays.{no_changes}
-use Rattle.sn_room.specs.Rooms.{RoomCounts, is_covered, mounted}
+use Rattle.sn_held.specs.Rooms.{RoomCounts, is_covered, mounted}
 use Rattle.sn_sound.specs.Charges.{Fits, charges_from}
 use Rattle.sn_held.proofs.RoomLemmas.{charges_join}
 use Rattle.sn_examine.specs.Ages.{IsAged, TellsByNumbers, TellsRecovery}

@@ -13,7 +13,7 @@ use Rattle.sn_log.specs.Positions.{LogPosition}
 use Rattle.sn_image.specs.Image.{image}
 use Rattle.sn_sound.specs.Disks.{IsFormatted}
 use Rattle.sn_model.specs.Settling.{nameless_in}
-use Rattle.sn_room.specs.Rooms.{RoomCounts}
+use Rattle.sn_held.specs.Rooms.{RoomCounts}
 use Rattle.sn_sound.specs.Logs.{HasAgeLeft}
 use Rattle.sn_held.specs.Held.{Kept}
 use Rattle.sn_examine.specs.Ages.{TellsRecovery}

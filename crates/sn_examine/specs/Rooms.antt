@@ -6,7 +6,7 @@ use Rattle.sn_layout.specs.declared.root.RootBody.{RootBody}
 use Rattle.sn_model.specs.declared.fault.Damage.TheVariants.{Log}
 use Rattle.sn_model.specs.declared.fault.MountFault.{MountFault}
 use Rattle.sn_model.specs.declared.fault.MountFault.TheVariants as fault
-use Rattle.sn_room.specs.Rooms.{RoomCounts, is_covered, mounted}
+use Rattle.sn_held.specs.Rooms.{RoomCounts, is_covered, mounted}
 use Rattle.sn_sound.specs.Logs.{half_block}
 use Rattle.sn_examine.specs.Refusing.{TellsFree}
 

@@ -12,10 +12,10 @@ ghost use Rattle.sn_examine.specs.Rooms.{FindsRoom, IsNoDamage, IsUncovered};
 use crate::fault::fault_of;
 use sn_block::Blocks;
 use sn_device::Device;
+use sn_held::Room;
 use sn_layout::{Area, Geometry, LogHalf, RootBody, Slot, WORDS_PER_BLOCK, read_map_words};
 use sn_map::Map;
 use sn_model::{Damage, MountFault};
-use sn_room::Room;
 use std::alloc::Global;
 
 /// Reads the words of one block of a map copy. What comes after the last of them doesn't matter here.

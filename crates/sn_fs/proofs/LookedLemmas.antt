@@ -13,7 +13,7 @@ use Rattle.sn_live_world.specs.declared.fault.LookFault.{LookFault}
 use Rattle.sn_live_world.specs.declared.fault.LookFault.TheVariants as look
 use Rattle.sn_live_world.specs.declared.world.LiveWorld.{LiveWorld}
 use Rattle.sn_log.specs.Positions.{LogPosition}
-use Rattle.sn_room.specs.Rooms.{RoomCounts}
+use Rattle.sn_held.specs.Rooms.{RoomCounts}
 use Rattle.sn_walk.specs.declared.object.Object.{Object}
 use Rattle.sn_walk.specs.declared.view.Attributes.{Attributes}
 use Rattle.sn_events.specs.Mounted.{holding_on}

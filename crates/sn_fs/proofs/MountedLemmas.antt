@@ -28,7 +28,7 @@ use Rattle.sn_model.specs.declared.outcome.Caller.{Caller}
 use Rattle.sn_model.specs.declared.outcome.Caller.TheVariants.{Stays, LogsIn, SetsUmask, LogsOut, Opens, OpensNew, Closes, Moves}
 use Rattle.sn_model.specs.declared.change.Change.{Change}
 use Rattle.sn_model.specs.Descriptors.{Descriptors}
-use Rattle.sn_room.specs.Rooms.{RoomCounts}
+use Rattle.sn_held.specs.Rooms.{RoomCounts}
 use Rattle.sn_events.specs.Answers.{writes_of}
 use Rattle.sn_events.specs.Changing.{IsCut}
 use Rattle.sn_events.specs.Mounted.{IsBased, IsMeant, IsMounted}

@@ -31,7 +31,7 @@ use Rattle.sn_model.specs.Tree.{Tree}
 use Rattle.sn_model.specs.World.{Trees, World, trees_of}
 use Rattle.sn_overlay.specs.Layers.{through}
 use Rattle.sn_overlay.specs.Overlays.{no_changes}
-use Rattle.sn_room.specs.Rooms.{RoomCounts, begun, done}
+use Rattle.sn_held.specs.Rooms.{RoomCounts, begun, done}
 use Rattle.sn_events.specs.Mounted.{RunsNow, going_in, holding_on, tree_at, trees_there}
 use Rattle.sn_events.proofs.MeantLemmas.{frozen_read, tree_ready}
 use Rattle.sn_events.proofs.PointLemmas.{either_same, running_between}

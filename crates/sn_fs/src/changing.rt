@@ -10,7 +10,7 @@ ghost use Rattle.sn_log.specs.Positions.{HasRoom as HasLogRoom};
 ghost use Rattle.sn_model.specs.Changes.{apply};
 ghost use Rattle.sn_model.specs.Settling.{OnlyLost};
 ghost use Rattle.sn_model.specs.Tree.{Tree};
-ghost use Rattle.sn_room.specs.Rooms.{logged};
+ghost use Rattle.sn_held.specs.Rooms.{logged};
 
 use crate::Fs;
 use sn_device::Device;

@@ -2,9 +2,9 @@
 use sn_block::Blocks;
 use sn_cp_whole::{GoingPoint, PointBase};
 use sn_device::Device;
+use sn_held::Room;
 use sn_live_world::LiveWorld;
 use sn_log::Log;
-use sn_room::Room;
 use std::alloc::Global;
 
 /// A mounted file system: the live tree, read on demand from the root that counts and from what changed since, the log that

@@ -6,7 +6,7 @@ ghost use Rattle.sn_limits.specs.Versions.{limits_written};
 ghost use Rattle.sn_live_view.specs.Looking.{known_at, known_by};
 ghost use Rattle.sn_model.specs.Settling.{nameless_in};
 ghost use Rattle.sn_model.specs.World.{trees_of, viewed_trees};
-ghost use Rattle.sn_room.specs.Rooms.{left};
+ghost use Rattle.sn_held.specs.Rooms.{left};
 ghost use Rattle.sn_walk.specs.Views.{attributes_at};
 
 use crate::Fs;

@@ -9,7 +9,7 @@ ghost use Rattle.sn_model.specs.Machine as machine;
 ghost use Rattle.sn_model.specs.Outcomes.{is_opening};
 ghost use Rattle.sn_model.specs.Steps.{asks_for_point};
 ghost use Rattle.sn_sound.specs.Logs.{HasAgeLeft};
-ghost use Rattle.sn_room.specs.Rooms.{charged_behind, dropping};
+ghost use Rattle.sn_held.specs.Rooms.{charged_behind, dropping};
 ghost use Rattle.sn_events.specs.Answers.{is_fitting};
 ghost use Rattle.sn_fs.specs.Filesystem.{IsFs, has_stopped, held, tree_of};
 ghost use Rattle.sn_events.specs.Serving.{Serves, TellsLack, Turns, has_room_of, reply_to};

@@ -34,7 +34,7 @@ use Rattle.sn_opening.proofs.LogLemmas.{of_position}
 use Rattle.sn_opening.proofs.OpeningLemmas.{opens_to_one}
 use Rattle.sn_opening.proofs.SpelledLemmas.{spelled_more}
 use Rattle.sn_ondisk.proofs.PlaceLemmas.{halves_apart}
-use Rattle.sn_room.specs.Rooms.{dropping, logged}
+use Rattle.sn_held.specs.Rooms.{dropping, logged}
 use Rattle.sn_sound.specs.Charges.{Fits}
 use Rattle.sn_sound.specs.Disks.{IsFormatted}
 use Rattle.sn_sound.specs.Logs.{HasAgeLeft}

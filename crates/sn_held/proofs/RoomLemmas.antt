@@ -35,7 +35,7 @@ use Rattle.sn_image.specs.Reach.{reach}
 use Rattle.sn_image.proofs.FootprintLemmas.{roots_depend}
 use Rattle.sn_opening.specs.Covering.{MakesCover}
 use Rattle.sn_opening.specs.Worlds.{all_reach}
-use Rattle.sn_room.specs.Rooms.{RoomCounts}
+use Rattle.sn_held.specs.Rooms.{RoomCounts}
 use Rattle.sn_sound.specs.Charges.{Fits, charges_from}
 use Rattle.sn_sound.specs.Maps.{IsSoundRoot, free_blocks}
 use Rattle.sn_sound.proofs.ChargeLemmas.{charged_alike}

@@ -20,7 +20,7 @@ use Rattle.sn_opening.specs.Covering.{MakesCover}
 use Rattle.sn_opening.specs.Spelled.{AreSpelled}
 use Rattle.sn_opening.specs.Worlds.{frozen_of}
 use Rattle.sn_overlay.specs.Layers.{Layer}
-use Rattle.sn_room.specs.Rooms.{RoomCounts}
+use Rattle.sn_held.specs.Rooms.{RoomCounts}
 use Rattle.sn_sound.specs.Logs.{HasAgeLeft, IsToRecover}
 use Rattle.sn_sound.specs.Standing.{RootStands}
 use Rattle.sn_held.specs.Room.{IsCharged}

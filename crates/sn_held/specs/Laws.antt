@@ -19,7 +19,7 @@ use Rattle.sn_held.specs.Events.{IsOfTree, LeavesEither, LeavesMore}
 use Rattle.sn_held.specs.Held.{CarriesOn, Held, Kept, Runs, RunsReady}
 use Rattle.sn_held.specs.Images.{IsImage}
 use Rattle.sn_held.specs.Room.{HasRoomFor}
-use Rattle.sn_room.specs.Rooms.{dropping, logged}
+use Rattle.sn_held.specs.Rooms.{dropping, logged}
 
 -- Contents are an image of one world.
 abbrev pub ImagesAreOne : Type 0

@@ -1,3 +1,6 @@
+pub mod Rooms
+pub mod Told
+pub mod RoomLaws
 pub mod Images
 pub mod Moments
 pub mod Room

@@ -9,7 +9,7 @@ use Rattle.sn_model.specs.Tree.{Tree}
 use Rattle.sn_model.specs.World.{World}
 use Rattle.sn_ondisk.specs.Trees.{Store, store_of}
 use Rattle.sn_model.specs.Settling.{nameless_in}
-use Rattle.sn_room.specs.Rooms.{RoomCounts, mounted, parked}
+use Rattle.sn_held.specs.Rooms.{RoomCounts, mounted, parked}
 use Rattle.sn_image.specs.Image.{image}
 use Rattle.sn_sound.specs.Charges.{Fits, charges_from}
 use Rattle.sn_sound.specs.Maps.{free_blocks}

@@ -1,5 +1,6 @@
 //! The laws that the definitions of `specs/` keep.
 ghost use Rattle.sn_held.specs.Laws.{AppendsLeaveEither, AppendsRun, DropsLeaveFewer, DropsRun, ImagesAreOne, RunsShow};
+ghost use Rattle.sn_held.specs.RoomLaws.{CallsThatFitArePaid, PointsBeginAnew};
 
 /// What a disk is an image of.
 ///
@@ -23,4 +24,13 @@ pub fn call_laws()
     ensures either { AppendsLeaveEither }
     ensures runs { AppendsRun }
     ensures fewer { DropsLeaveFewer }
+{}
+
+/// What is counted of room.
+///
+/// Proved: A call that fits leaves what is charged after it, with a charge for each parked file, within what is free.
+/// Proved: After a whole point nothing is charged, and no dropped file is parked.
+pub fn room_laws()
+    ensures paid { CallsThatFitArePaid }
+    ensures anew { PointsBeginAnew }
 {}

@@ -40,7 +40,7 @@ use Rattle.sn_opening.proofs.OpeningLemmas.{half_lies}
 use Rattle.sn_overlay.specs.Layers.{Layer}
 use Rattle.sn_model.specs.Settling.{nameless_in}
 use Rattle.sn_overlay.specs.Overlays.{no_changes}
-use Rattle.sn_room.specs.Rooms.{RoomCounts, fresh, mounted}
+use Rattle.sn_held.specs.Rooms.{RoomCounts, fresh, mounted}
 use Rattle.sn_sound.specs.Charges.{Fits, charges_from}
 use Rattle.sn_sound.specs.Maps.{free_blocks}
 use Rattle.sn_sound.proofs.DiskLemmas.{one_size}

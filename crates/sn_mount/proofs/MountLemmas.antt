@@ -29,7 +29,7 @@ use Rattle.sn_opening.specs.Opens.{Opens}
 use Rattle.sn_opening.specs.Worlds.{found, frozen_of}
 use Rattle.sn_overlay.specs.Layers.{Layer}
 use Rattle.sn_overlay.specs.Overlays.{no_changes}
-use Rattle.sn_room.specs.Rooms.{RoomCounts, fresh}
+use Rattle.sn_held.specs.Rooms.{RoomCounts, fresh}
 use Rattle.sn_rooted.specs.Roots.{trees_at}
 use Rattle.sn_sound.specs.Disks.{IsOfDevice}
 use Rattle.sn_sound.proofs.DiskLemmas.{one_size}

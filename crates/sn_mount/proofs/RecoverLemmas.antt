@@ -46,7 +46,7 @@ use Rattle.sn_opening.specs.Worlds.{found, frozen_of}
 use Rattle.sn_overlay.specs.Needs.{AreCharged}
 use Rattle.sn_overlay.specs.Overlays.{no_changes}
 use Rattle.sn_overlay_change.proofs.NamelessLemmas.{drops_are_counted}
-use Rattle.sn_room.specs.Rooms.{RoomCounts}
+use Rattle.sn_held.specs.Rooms.{RoomCounts}
 use Rattle.sn_sound.specs.Charges.{Fits, charges_from}
 use Rattle.sn_sound.specs.Disks.{IsFormatted}
 use Rattle.sn_sound.specs.Logs.{HasAgeLeft, IsToRecover}

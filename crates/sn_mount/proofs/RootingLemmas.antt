@@ -14,7 +14,7 @@ use Rattle.sn_model.specs.World.{World}
 use Rattle.sn_ondisk.specs.MapCopy.{HasMap}
 use Rattle.sn_ondisk.specs.Trees.{store_of}
 use Rattle.sn_overlay.specs.Layers.{Layer}
-use Rattle.sn_room.specs.Rooms.{RoomCounts}
+use Rattle.sn_held.specs.Rooms.{RoomCounts}
 use Rattle.sn_root.specs.declared.following.PointKind.TheVariants.{Recovery}
 use Rattle.sn_held.specs.Held.{Kept}
 use Rattle.sn_held.specs.Images.{IsImage}

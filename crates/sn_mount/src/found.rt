@@ -1,11 +1,11 @@
 //! What a mount has found.
 use sn_cp_whole::PointBase;
+use sn_held::Room;
 use sn_layout::{Geometry, RootBody, Slot};
 use sn_live::LiveTree;
 use sn_live_world::LiveWorld;
 use sn_log::{Log, Position};
 use sn_map::Map;
-use sn_room::Room;
 
 /// What a mount has read: the newest root with its map, the live tree over the root's with the log on top of it, where
 /// the log continues, and the room that is left.

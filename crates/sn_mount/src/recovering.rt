@@ -26,10 +26,10 @@ use crate::settling::{Settled, make_root, settle};
 use sn_block::Blocks;
 use sn_device::Device;
 use sn_examine::fault_of;
+use sn_held::Room;
 use sn_layout::{Area, LogHalf};
 use sn_log::{Buffer, Log, Position, clear};
 use sn_model::MountFault;
-use sn_room::Room;
 use std::alloc::Global;
 
 /// Syncs, checks the whole disk, finds the newest root with the log on top of it, and drops the files that have no name.

@@ -5,6 +5,8 @@ use Rattle.sn_model.specs.declared.end.End.TheVariants as end
 use Rattle.sn_export_image.specs.declared.fault.ImageFault.{ImageFault}
 use Rattle.sn_export_image.specs.declared.fault.ImageFault.TheVariants as image
 use Rattle.sn_export_walk.specs.declared.fault.ExportFault.TheVariants as export
+use Rattle.sn_import_image.specs.declared.fault.ImportFault.{ImportFault}
+use Rattle.sn_import_image.specs.declared.fault.ImportFault.TheVariants as import
 use Rattle.sn_script.specs.declared.fault.ScriptFault.TheVariants as reading
 use Rattle.sn_command.specs.declared.fault.WordsFault.{WordsFault}
 use Rattle.sn_command.specs.declared.fault.WordsFault.TheVariants as words
@@ -55,6 +57,13 @@ IsOfExport (image.Export export.Path) given = given ≡ fault.Path
 IsOfExport (image.Export export.Memory) given = given ≡ fault.Memory
 IsOfExport (image.Export export.Stopped) given = given ≡ fault.Stopped
 IsOfExport (image.Export (export.Output error)) given = IsOfFile given
+
+-- why an archive isn't imported
+abbrev pub fault_of_import : ImportFault → ProgramFault
+fault_of_import (import.Mount m) = fault.Mount m
+fault_of_import import.Path = fault.Path
+fault_of_import import.Memory = fault.Memory
+fault_of_import import.Stopped = fault.Stopped
 
 -- the words are no command, or there was no memory to read them
 abbrev pub fault_of_words : WordsFault → ProgramFault

@@ -19,7 +19,7 @@ use Rattle.sn_model.specs.declared.reply.Reply.TheVariants as answer
 use Rattle.sn_command.specs.Tasks.{AsksFor}
 use Rattle.sn_command.specs.declared.command.Task.{Task}
 use Rattle.sn_command.specs.declared.command.Task.TheVariants as task
-use Rattle.sn_replies.specs.Replies.{reply_line}
+use Rattle.sn_script.specs.Replies.{reply_line}
 use Rattle.sn_export_walk.specs.Streams.{BeginsStream, WritesStream}
 use Rattle.sn_output.specs.Outputs.{AppendsFront}
 use Rattle.sn_program.specs.Answers.{AreEventsOf}
@@ -27,7 +27,7 @@ use Rattle.sn_program.specs.Copies.{IsCutShort}
 use Rattle.sn_program.specs.Fault.{IsOfFile, fault_of}
 use Rattle.sn_program.specs.declared.fault.ProgramFault.{ProgramFault}
 use Rattle.sn_program.specs.declared.ending.Ending.{Ending}
-use Rattle.sn_program.specs.declared.ending.Ending.TheVariants.{Done, Told, Damaged}
+use Rattle.sn_program.specs.declared.ending.Ending.TheVariants.{Done, InPart, Told, Damaged}
 
 abbrev pub lines_of : List Reply → List ℕ
 lines_of replies = flat_map reply_line replies
@@ -88,20 +88,29 @@ abbrev pub ComesOfCopy : Fill → Ending → Option (List ℕ) → Option (List 
 ComesOfCopy how Done old new = LeavesOfCopy how None old new
 ComesOfCopy how (Told why) old new = LeavesOfCopy how (Some why) old new
 ComesOfCopy how (Damaged damage block) old new = ⊥
+ComesOfCopy how InPart old new = ⊥
 
 -- the verdict of a check was written
 abbrev pub SaysVerdict : Ending → Option (List ℕ) → Option (List ℕ) → Type 0
 SaysVerdict Done old new = (free : ℕ) × Appends old new (verdict_line (verdict.Clean free))
 SaysVerdict (Told why) old new = ⊥
+SaysVerdict InPart old new = ⊥
 SaysVerdict (Damaged damage block) old new = Appends old new (verdict_line (verdict.Fault damage block))
 
--- What a task that was done leaves on the output, by what came of it. Of which bytes a file had, and so of the replies of a run on one and of what a check finds in one, nothing can be said; an image that is made is answered by `ok`. A fault is reported of what was done only where that was to cut a run short.
+-- an archive was imported, all of it or in part
+abbrev pub IsImported : Ending → Type 0
+IsImported Done = Unit {0}
+IsImported InPart = Unit {0}
+IsImported came = ⊥
+
+-- What a task that was done leaves on the output, by what came of it. Of which bytes a file had, and so of the replies of a run on one and of what a check finds in one, nothing can be said; an image that is made is answered by `ok`, and an import by nothing. A fault is reported of what was done only where that was to cut a run short.
 abbrev pub Leaves : Task → Ending → Option (List ℕ) → Option (List ℕ) → Type 0
 Leaves (task.Run image script) came old new = (came ≡ Done) × SaysRun old new
 Leaves (task.Mkfs image blocks) came old new = (came ≡ Done) × Says (answer.Done ∷ []) old new
 Leaves (task.StopAt cut how image script out) came old new = ComesOfCopy how came old new
 Leaves (task.Check image) came old new = SaysVerdict came old new
 Leaves (task.Export image path) came old new = (came ≡ Done) × WritesStream old new
+Leaves (task.Import image path) came old new = IsImported came × (new ≡ old)
 
 -- with a reported fault, or without one
 abbrev pub came_of : Option ProgramFault → Ending
@@ -123,6 +132,7 @@ Begins (task.Mkfs image blocks) old new = BeginsToSay (answer.Done ∷ []) old n
 Begins (task.StopAt cut how image script out) old new = BeginsOfCopy how old new
 Begins (task.Check image) old new = BeginsToSayVerdict old new
 Begins (task.Export image path) old new = BeginsStream old new
+Begins (task.Import image path) old new = Keeps old new
 
 -- nothing, or the front of what may be said to the words
 abbrev pub HasBegun : List (List ℕ) → Option (List ℕ) → Option (List ℕ) → Type 0

@@ -19,9 +19,10 @@ ghost use Rattle.sn_program.specs.declared.ending.Ending.TheVariants as ended;
 
 use crate::checking::check_on;
 use crate::copy::{CutShort, answer_cut};
-use crate::ending::Ending;
+use crate::ending::{Came, Ending, done, failed};
 use crate::export::export_from;
 use crate::fault::{ProgramFault, Which, on_file, tell};
+use crate::import::import_on;
 use crate::output::write_replies;
 use crate::person::{advise, explain, show_commands};
 use crate::progress::Progress;
@@ -253,30 +254,34 @@ fn export_on<
 }
 
 /// Of what was done nothing is reported.
-fn quietly(done: Result<(), ProgramFault>) -> Result<Ending, ProgramFault>
-    ensures done { IfOk result (λ came. (came ≡ ended.Done) × IsOk done) }
-    ensures failed { IfErr result (λ why. done ≡ Err why) }
+fn quietly<E: Drop>(outcome: Result<(), ProgramFault>, err: E) -> Came<E>
+    ensures done { IfOk result.done (λ came. (came ≡ ended.Done) × IsOk outcome) }
+    ensures failed { IfErr result.done (λ why. outcome ≡ Err why) }
+    ensures err { result.err ≡ err }
 {
-    match done {
-        Ok(()) => Ok(Ending::Done),
-        Err(fault) => Err(fault),
+    match outcome {
+        Ok(()) => done(Ending::Done, err),
+        Err(fault) => failed(fault, err),
     }
 }
 
-/// Does what a task asks for.
+/// Does what a task asks for. Only an import writes to standard error.
 fn execute<
     F: FileExt + OpenFile + LockFile + Read + Drop,
     R: Files<File = F> + AllocGlobal,
+    I: Read,
     W: Write,
+    E: Write + Drop,
     L: Watch + WatchReads,
->(rt: &R, task: Task<'_>, out: &mut W, watch: &mut L) -> Result<Ending, ProgramFault>
-    ensures done { IfOk result (λ came. Leaves task.entry came (W.contents out.old) (W.contents out.new)) }
-    ensures front { OnErr result (Keeps (W.contents out.old) (W.contents out.new) ⊎ Begins task.entry (W.contents out.old) (W.contents out.new)) }
-    ensures words { IfErr result (λ why. why ≢ fault.Usage) }
+>(rt: &R, task: Task<'_>, input: &mut I, out: &mut W, err: E, watch: &mut L) -> Came<E>
+    ensures done { IfOk result.done (λ came. Leaves task.entry came (W.contents out.old) (W.contents out.new)) }
+    ensures quiet { IfOk result.done (λ came. (came ≡ ended.InPart) ⊎ (result.err ≡ err)) }
+    ensures front { OnErr result.done (Keeps (W.contents out.old) (W.contents out.new) ⊎ Begins task.entry (W.contents out.old) (W.contents out.new)) }
+    ensures words { IfErr result.done (λ why. why ≢ fault.Usage) }
 {
     match task {
-        Task::Run { image, script } => quietly(run_on(rt, image, script, out, watch)),
-        Task::Mkfs { image, blocks } => quietly(format(rt, image, blocks, out)),
+        Task::Run { image, script } => quietly(run_on(rt, image, script, out, watch), err),
+        Task::Mkfs { image, blocks } => quietly(format(rt, image, blocks, out), err),
         Task::StopAt {
             cut,
             fill,
@@ -284,12 +289,16 @@ fn execute<
             script,
             out: saved,
         } => match cut_short(rt, cut, fill, image, script, saved, out, watch) {
-            Ok(None) => Ok(Ending::Done),
-            Ok(Some(fault)) => Ok(Ending::Told(fault)),
-            Err(fault) => Err(fault),
+            Ok(None) => done(Ending::Done, err),
+            Ok(Some(fault)) => done(Ending::Told(fault), err),
+            Err(fault) => failed(fault, err),
         },
-        Task::Check { image } => check_image(rt, image, out, watch),
-        Task::Export { image, path } => quietly(export_on(rt, image, path, out)),
+        Task::Check { image } => Came {
+            done: check_image(rt, image, out, watch),
+            err,
+        },
+        Task::Export { image, path } => quietly(export_on(rt, image, path, out), err),
+        Task::Import { image, path } => import_on(rt, image, path, input, err),
     }
 }
 
@@ -307,34 +316,40 @@ fn tell_of<E: Write, P: Write>(
     status
 }
 
-/// Does what a task asks for, and says what came of it.
+/// Does what a task asks for, and says what came of it. Gives the exit status, and standard error back.
 fn perform<
     F: FileExt + OpenFile + LockFile + Read + Drop,
     R: Files<File = F> + AllocGlobal + Clock,
+    I: Read,
     W: Write,
-    E: Write,
+    E: Write + Drop,
     P: Write,
->(rt: &R, task: Task<'_>, out: &mut W, err: &mut E, person: &mut P) -> u8
-    ensures done { result ≡ 0 → (told : Option Why) × Leaves task.entry (came_of told) (W.contents out.old) (W.contents out.new) }
-    ensures damaged { result ≡ 3 → ((damage : Kind) × (block : ℕ) × Leaves task.entry (ended.Damaged damage block) (W.contents out.old) (W.contents out.new)) × (err.new ≡ err.old) }
-    ensures front { result ≡ 1 → Keeps (W.contents out.old) (W.contents out.new) ⊎ Begins task.entry (W.contents out.old) (W.contents out.new) }
-    ensures quiet { result ≡ 0 → IsStop task.entry ⊎ (err.new ≡ err.old) }
-    ensures status { (result ≤ 1) ⊎ (result ≡ 3) }
+>(rt: &R, task: Task<'_>, input: &mut I, out: &mut W, err: E, person: &mut P) -> (u8, E)
+    ensures done { result.0 ≡ 0 → (told : Option Why) × Leaves task.entry (came_of told) (W.contents out.old) (W.contents out.new) }
+    ensures damaged { result.0 ≡ 3 → ((damage : Kind) × (block : ℕ) × Leaves task.entry (ended.Damaged damage block) (W.contents out.old) (W.contents out.new)) × (result.1 ≡ err) }
+    ensures front { result.0 ≡ 1 → Keeps (W.contents out.old) (W.contents out.new) ⊎ Begins task.entry (W.contents out.old) (W.contents out.new) }
+    ensures quiet { result.0 ≡ 0 → IsStop task.entry ⊎ (result.1 ≡ err) }
+    ensures status { (result.0 ≤ 1) ⊎ (result.0 ≡ 3) }
 {
     let mut progress = Progress::new(rt, person);
-    let done = execute(rt, task, out, &mut progress);
+    let Came { done, err } = execute(rt, task, input, out, err, &mut progress);
+    let mut err = err;
     progress.end();
     match done {
-        Ok(Ending::Done) => 0,
+        Ok(Ending::Done) => (0, err),
+        Ok(Ending::InPart) => (1, err),
         Ok(Ending::Told(fault)) => {
-            tell_of(fault, task, err, person);
-            0
+            tell_of(fault, task, &mut err, person);
+            (0, err)
         }
         Ok(Ending::Damaged { damage, block }) => {
             advise(damage, block, task, person);
-            DAMAGED
+            (DAMAGED, err)
         }
-        Err(fault) => tell_of(fault, task, err, person),
+        Err(fault) => {
+            let status = tell_of(fault, task, &mut err, person);
+            (status, err)
+        }
     }
 }
 
@@ -349,10 +364,11 @@ pub fn refuse<E: Write, P: Write>(fault: ProgramFault, err: &mut E, person: &mut
     status
 }
 
-/// Does what the words ask for, and gives the exit status: 0 where it was done, 3 where an image was checked and is damaged,
-/// 2 for words that are no command, else 1. A fault is reported by a line on standard error, also that of a run which was cut
-/// short and whose remains were saved, where the status is 0. `person` is shown which file failed and why, what a damage
-/// means, how far a long run has come, and which commands there are where the words are none.
+/// Does what the words ask for, and gives the exit status, and standard error back. The status is 0 where all of it was done, 3 where an
+/// image was checked and is damaged, 2 for words that are no command, else 1. A fault is reported by a line on standard error, also that of
+/// a run which was cut short and whose remains were saved, where the status is 0. What an import doesn't make is reported there too, with
+/// status 1. An archive is read from `input`. `person` is shown which file failed and why, what a damage means, how far a long run has
+/// come, and which commands there are where the words are none.
 ///
 /// Proved: Status 0 comes only where the words ask for a task and it is done: `mkfs` writes one `ok`, `check` a `clean`,
 /// `run` lines of replies, one to each line of some script, and `stop-at` those of a run on a copy of some image, or their
@@ -362,26 +378,32 @@ pub fn refuse<E: Write, P: Write>(fault: ProgramFault, err: &mut E, person: &mut
 /// Proved: Status 3 comes only where the words ask for a check and one was made: one line with a fault is written then, and
 /// nothing on standard error.
 /// Proved: `export` writes a stream of members and its end, or with status 1 nothing or the front of one.
+/// Proved: `import` writes nothing on standard output, and with status 0 nothing on standard error: then all entries were made.
 /// Proved: K1 comes exactly where no disk has so many blocks.
 pub fn program<
     F: FileExt + OpenFile + LockFile + Read + Drop,
     R: Files<File = F> + AllocGlobal + Clock,
+    I: Read,
     W: Write,
-    E: Write,
+    E: Write + Drop,
     P: Write,
     S: AsStr,
->(rt: &R, words: &[S], out: &mut W, err: &mut E, person: &mut P) -> u8
+>(rt: &R, words: &[S], input: &mut I, out: &mut W, err: E, person: &mut P) -> (u8, E)
     // What was written are the lines of replies, or the front of them. Which bytes a file gave, and what one holds now,
     // can't be said: so nor can the replies of a run on one. Those of a run on a copy are of one from some image on.
-    ensures done { result ≡ 0 → (told : Option Why) × IsDone (map S.text words.now) told (W.contents out.old) (W.contents out.new) }
-    ensures damaged { result ≡ 3 → IsDamaged (map S.text words.now) (W.contents out.old) (W.contents out.new) × (err.new ≡ err.old) }
-    ensures front { result ≢ 0 → result ≢ 3 → HasBegun (map S.text words.now) (W.contents out.old) (W.contents out.new) }
-    ensures words { result ≡ 2 → out.new ≡ out.old }
-    ensures quiet { result ≡ 0 → AsksToStop (map S.text words.now) ⊎ (err.new ≡ err.old) }
-    ensures status { result ≤ 3 }
+    ensures done { result.0 ≡ 0 → (told : Option Why) × IsDone (map S.text words.now) told (W.contents out.old) (W.contents out.new) }
+    ensures damaged { result.0 ≡ 3 → IsDamaged (map S.text words.now) (W.contents out.old) (W.contents out.new) × (result.1 ≡ err) }
+    ensures front { result.0 ≢ 0 → result.0 ≢ 3 → HasBegun (map S.text words.now) (W.contents out.old) (W.contents out.new) }
+    ensures words { result.0 ≡ 2 → out.new ≡ out.old }
+    ensures quiet { result.0 ≡ 0 → AsksToStop (map S.text words.now) ⊎ (result.1 ≡ err) }
+    ensures status { result.0 ≤ 3 }
 {
     match parse(rt.alloc(), words) {
-        Ok(task) => perform(rt, task, out, err, person),
-        Err(fault) => refuse(ProgramFault::from(fault), err, person),
+        Ok(task) => perform(rt, task, input, out, err, person),
+        Err(fault) => {
+            let mut err = err;
+            let status = refuse(ProgramFault::from(fault), &mut err, person);
+            (status, err)
+        }
     }
 }

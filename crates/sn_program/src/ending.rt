@@ -1,4 +1,5 @@
 //! What comes of a task.
+ghost use Rattle.std.specs.Prelude.{◌≡◌, Ok, Err};
 
 use crate::fault::ProgramFault;
 use sn_core::Damage;
@@ -8,8 +9,39 @@ use sn_core::Damage;
 pub enum Ending {
     /// All that was asked for.
     Done,
+    /// An archive was imported, and some of its entries weren't made, which is reported.
+    InPart,
     /// A run was cut short, and ended with a fault, which is reported.
     Told(ProgramFault),
     /// A check found that the image is damaged.
     Damaged { damage: Damage, block: u32 },
+}
+
+/// What came of a task, and standard error after it.
+#[derive(Drop)]
+pub(crate) struct Came<E: Drop> {
+    pub(crate) done: Result<Ending, ProgramFault>,
+    pub(crate) err: E,
+}
+
+/// A task was done, and nothing reported yet.
+pub(crate) fn done<E: Drop>(ending: Ending, err: E) -> Came<E>
+    ensures done { result.done ≡ Ok ending }
+    ensures err { result.err ≡ err }
+{
+    Came {
+        done: Ok(ending),
+        err,
+    }
+}
+
+/// Why a task wasn't done, of which nothing is reported yet.
+pub(crate) fn failed<E: Drop>(fault: ProgramFault, err: E) -> Came<E>
+    ensures done { result.done ≡ Err fault }
+    ensures err { result.err ≡ err }
+{
+    Came {
+        done: Err(fault),
+        err,
+    }
 }

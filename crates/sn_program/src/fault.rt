@@ -1,11 +1,12 @@
 ghost use Rattle.std.specs.Prelude.{◌≡◌, Ok, IfOk, IfErr};
-ghost use Rattle.sn_program.specs.Fault.{status_of, fault_of, fault_of_words, IsOfExport, IsOfFile};
+ghost use Rattle.sn_program.specs.Fault.{status_of, fault_of, fault_of_import, fault_of_words, IsOfExport, IsOfFile};
 ghost use Rattle.sn_program.specs.declared.fault.ProgramFault.TheVariants as fault;
 
 use sn_command::WordsFault;
 use sn_core::{End, MkfsFault, MountFault};
 use sn_export_image::ImageFault;
 use sn_export_walk::ExportFault;
+use sn_import_image::ImportFault;
 use sn_script::ScriptFault;
 use std::alloc::AllocError;
 use std::io;
@@ -19,8 +20,12 @@ pub enum Which {
     Image,
     /// OUT, which is to have what a run that was cut short has left.
     Saved,
+    /// Standard input, which is to have an archive.
+    Input,
     /// Standard output.
     Output,
+    /// The names of users or of groups.
+    Accounts,
 }
 
 /// Why the program ends without having done all that was asked. The text is the line on standard
@@ -36,7 +41,8 @@ pub enum ProgramFault {
     File { which: Which, error: io::Error },
     #[error("memory")]
     Memory,
-    /// Nothing lies at the path of the tree that is to be written, or a path in it has more bytes than a call takes.
+    /// Nothing lies at the path of the tree that is to be written, or a path in it has more bytes than a call takes; or no directory
+    /// of the live tree lies at the path that an archive goes to.
     #[error("path")]
     Path,
     /// There was no mount.
@@ -136,6 +142,19 @@ impl From<ImageFault> for ProgramFault {
             ImageFault::Export(ExportFault::Output(error)) => {
                 ProgramFault::of_file(Which::Output, error)
             }
+        }
+    }
+}
+
+impl From<ImportFault> for ProgramFault {
+    ghost from_gives = { λ import given. given ≡ fault_of_import import };
+
+    fn from(fault: ImportFault) -> ProgramFault {
+        match fault {
+            ImportFault::Mount(fault) => ProgramFault::Mount(fault),
+            ImportFault::Path => ProgramFault::Path,
+            ImportFault::Memory => ProgramFault::Memory,
+            ImportFault::Stopped => ProgramFault::Stopped,
         }
     }
 }

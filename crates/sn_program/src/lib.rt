@@ -1,4 +1,4 @@
-//! What the program `snapfs` does, over the files of a handle and three writers: its `main` adds nothing but the words
+//! What the program `snapfs` does, over the files of a handle, a reader and three writers: its `main` adds nothing but the words
 //! of the command line and the streams of the process. The third writer is for a person: a [`Person`] is standard error where
 //! that is a terminal.
 //!
@@ -15,7 +15,7 @@
 //! What the sources leave open is decided in `docs/DECISIONS.md`, under "Scripts and the program".
 //!
 //! ```text
-//! let status = program(&rt, &["run", "disk.img", "first.snap"], &mut out, &mut err, &mut Person::at(rt.stderr()));
+//! let (status, _) = program(&rt, &["run", "disk.img", "first.snap"], &mut rt.stdin(), &mut out, rt.stderr(), &mut Person::at(rt.stderr()));
 //! ```
 #![tactic(auto)]
 
@@ -25,6 +25,7 @@ mod copy;
 mod ending;
 mod export;
 mod fault;
+mod import;
 mod output;
 mod person;
 mod progress;

@@ -1,7 +1,7 @@
 ghost use Rattle.std.specs.Prelude.{◌≡◌, OnOk, IfOk, IfErr};
 ghost use Rattle.std.specs.List.{flat_map};
 ghost use Rattle.std.specs.Io.KnownBytes.{Appends};
-ghost use Rattle.sn_replies.specs.Replies.{reply_line};
+ghost use Rattle.sn_script.specs.Replies.{reply_line};
 ghost use Rattle.sn_output.specs.Outputs.{AppendsFront};
 ghost use Rattle.sn_program.specs.Fault.{IsOfFile};
 ghost use Rattle.sn_program.specs.Tasks.{verdict_line};
@@ -9,7 +9,7 @@ ghost use Rattle.sn_program.specs.Tasks.{verdict_line};
 use crate::fault::{ProgramFault, Which, on_file};
 use sn_core::{Reply, Verdict};
 use sn_output::write_front;
-use sn_replies::print_replies;
+use sn_script::print_replies;
 use std::alloc::{AllocError, Global};
 use std::io::Write;
 

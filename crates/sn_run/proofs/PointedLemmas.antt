@@ -16,7 +16,7 @@ use Rattle.sn_model.specs.Machine.{State, Running, Stopped, Mishap, Memory, Read
 use Rattle.sn_model.specs.Settling.{nameless_in, settle}
 use Rattle.sn_model.specs.Steps.{AsksForPoint, Becomes, decision}
 use Rattle.sn_model.specs.World.{World}
-use Rattle.sn_room.specs.Rooms.{done, fits}
+use Rattle.sn_held.specs.Rooms.{done, fits}
 use Rattle.sn_held.specs.Held.{Going, Held, RunsReady}
 use Rattle.sn_cp_progress.specs.Meaning.{Means, RunsWith, progress_over}
 use Rattle.sn_cp_progress.proofs.CallLemmas.{fits_on_next}

@@ -17,7 +17,7 @@ use Rattle.sn_model.specs.Machine.{Running, Anything, CutRun, Lacks, Life, Whole
 use Rattle.sn_model.specs.World.{World, new_world}
 use Rattle.sn_log.specs.Positions.{first_of}
 use Rattle.sn_caller.proofs.StepLemmas.{run_more}
-use Rattle.sn_room.specs.Rooms.{fresh}
+use Rattle.sn_held.specs.Rooms.{fresh}
 use Rattle.sn_sound.specs.Disks.{IsOfDevice}
 use Rattle.sn_held.specs.Held.{Held}
 use Rattle.sn_cp_progress.specs.Meaning.{Means}

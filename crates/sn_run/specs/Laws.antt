@@ -19,7 +19,7 @@ use Rattle.sn_model.specs.Settling.{nameless_in, settle}
 use Rattle.sn_model.specs.Steps.{AsksForPoint}
 use Rattle.sn_model.specs.declared.outcome.Outcome.{Outcome}
 use Rattle.sn_overlay.specs.Needs.{need}
-use Rattle.sn_room.specs.Rooms.{done, fits}
+use Rattle.sn_held.specs.Rooms.{done, fits}
 use Rattle.sn_held.specs.Held.{Going, Held}
 use Rattle.sn_cp_progress.specs.Meaning.{Means}
 use Rattle.sn_examine.specs.Failing.{CostsAtMost}

@@ -7,7 +7,7 @@ use Rattle.sn_layout.specs.declared.geometry.Slot.TheVariants.{A}
 use Rattle.sn_limits.specs.Versions.{limits_written}
 use Rattle.sn_overlay.specs.Overlays.{no_changes}
 use Rattle.sn_held.specs.Held.{Held, Kept}
-use Rattle.sn_room.specs.Rooms.{fresh}
+use Rattle.sn_held.specs.Rooms.{fresh}
 use Rattle.sn_fs.specs.Filesystem.{IsFs, has_stopped, held}
 use Rattle.sn_run.specs.declared.server.Server.{Server}
 use Rattle.sn_run.specs.declared.server.Server.TheVariants.{Mounted, Unmounted}

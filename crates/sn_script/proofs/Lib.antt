@@ -1,3 +1,4 @@
 pub mod CallLaws
 pub mod LineLaws
 pub mod ScriptLaws
+pub mod Printed

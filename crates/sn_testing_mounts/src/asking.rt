@@ -2,8 +2,7 @@
 
 use anyhow::{Context, Result};
 use sn_model::{AclKind, Call, Event, Reply, Word};
-use sn_replies::print_replies;
-use sn_script::read_script;
+use sn_script::{print_replies, read_script};
 use std::alloc::Global;
 use std::{slice, str};
 

@@ -3,8 +3,8 @@
 use anyhow::Result;
 use sn_device::MemDevice;
 use sn_model::{Event, Reply};
-use sn_replies::print_replies;
 use sn_run::{Ran, Unwatched, run};
+use sn_script::print_replies;
 use sn_testing_mounts::event_of;
 use std::alloc::Global;
 use std::str;

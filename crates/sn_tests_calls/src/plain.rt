@@ -3,8 +3,7 @@
 use anyhow::{Result, ensure};
 use sn_model::{End, Errno, Event, Refusal, Reply};
 use sn_plain_world::run_plain;
-use sn_replies::print_replies;
-use sn_script::read_script;
+use sn_script::{print_replies, read_script};
 use sn_testing_tables::{Report, Tally};
 use std::alloc::Global;
 use std::str;

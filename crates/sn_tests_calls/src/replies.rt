@@ -7,7 +7,7 @@ use sn_model::{
     Access, Damage, Denial, Errno, FileData, FileStatus, MountFault, Names, PathNumber, Progress,
     Refusal, Reply, Rule, StoredAcl, Word,
 };
-use sn_replies::print_replies;
+use sn_script::print_replies;
 use sn_testing_tables::Report;
 use std::alloc::Global;
 use std::str;

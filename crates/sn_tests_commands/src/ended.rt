@@ -1,6 +1,7 @@
 use sn_program::program;
 use std::convert::AsStr;
 use std::io;
+use std::io::Read;
 
 /// What a run of the program leaves: its status, and what it wrote to its outputs.
 #[derive(Drop)]
@@ -25,12 +26,17 @@ pub fn staying(person: &str) -> &str {
 }
 
 impl Ended {
-    /// A run of the program on the words of a command line, without its own name.
+    /// A run of the program on the words of a command line, without its own name, where standard input has nothing.
     pub fn of_words<S: AsStr>(rt: &HostRuntime, words: &[S]) -> Ended {
+        Ended::of_input(rt, words, &mut io::empty())
+    }
+
+    /// The same with this as standard input.
+    pub fn of_input<S: AsStr, I: Read>(rt: &HostRuntime, words: &[S], input: &mut I) -> Ended {
         let mut out = Vec::new(rt.alloc());
-        let mut err = Vec::new(rt.alloc());
         let mut person = Vec::new(rt.alloc());
-        let status = program(rt, words, &mut out, &mut err, &mut person);
+        let lines = Vec::new(rt.alloc());
+        let (status, err) = program(rt, words, input, &mut out, lines, &mut person);
         Ended {
             status,
             out,

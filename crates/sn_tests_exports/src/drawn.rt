@@ -4,7 +4,7 @@ use crate::drawing::calls_of;
 use crate::reading::lines_of;
 use crate::walking::Walk;
 use anyhow::{Result, ensure};
-use sn_device::{Fill, MemDevice};
+use sn_device::MemDevice;
 use sn_export_image::{Exported, ImageFault, export_image};
 use sn_testing_mounts::Disk;
 use sn_testing_tables::{Report, Tally};
@@ -62,7 +62,7 @@ pub fn exported(
     path: &str,
     behind: Option<u64>,
 ) -> Result<(Vec<u8>, Result<(), ImageFault>)> {
-    let mut device = MemDevice::from_bytes(alloc, image)?.crash(Fill::Old);
+    let mut device = MemDevice::from_bytes(alloc, image)?;
     if let Some(calls) = behind {
         device.fail_at(calls.saturating_add(1));
     }

@@ -1,26 +1,24 @@
-//! Archives of trees that calls have drawn on a disk in memory, and of an image's file by the program.
+//! Archives of trees that calls have drawn on a disk in memory.
 //!
 //! `drawing` has the calls, `walking` what calls say of the tree after them, and `reading` what a plain reader finds in an archive:
-//! both as a line for each name. `drawn` compares the two, `failing` has exports of which each call of the device fails in turn, and
-//! `exported` the program's command.
+//! both as a line for each name. `drawn` compares the two, and `failing` has exports of which each call of the device fails in turn.
 //!
-//! No clause promises what comes out, since it is compared: `sn_tests_program` runs it.
+//! No clause promises what comes out, since it is compared: `sn_tests_archives` runs it.
 #![tactic(auto)]
 
 mod drawing;
 mod drawn;
-mod exported;
 mod failing;
 mod lines;
 mod reading;
 mod walking;
 
 use anyhow::Result;
+pub use drawn::{Drawn, draw, exported};
 use sn_testing_tables::Report;
 
-/// Compares all archives. A lack of memory, and a file that can't be read or written, are errors.
+/// Compares all archives. A lack of memory is an error.
 pub fn run(report: &mut Report<'_>) -> Result<()> {
     drawn::run(report)?;
-    failing::run(report)?;
-    exported::run(report)
+    failing::run(report)
 }

@@ -2,7 +2,7 @@
 
 use anyhow::{Result, bail};
 use sn_core::{Call, Groups, MemDevice, Reply, Word, mkfs, mount};
-use sn_replies::print_replies;
+use sn_script::print_replies;
 use sn_testing_tables::Report;
 use std::alloc::Global;
 

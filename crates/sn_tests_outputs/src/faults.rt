@@ -87,9 +87,23 @@ const REPLIES: &[u8] = b"ok\nok d 0755 1 0 0 0\nok\n";
 
 /// A reply that can't be written is a fault of a file; the status holds where the fault can't be reported either.
 fn holds_where_closed(rt: &HostRuntime) -> bool {
-    let (mut err, mut person) = (Vec::new(rt.alloc()), Vec::new(rt.alloc()));
-    let unwritten = program(rt, &SCRIPT, &mut Closed, &mut err, &mut person);
-    let untold = program(rt, &["run"], &mut Closed, &mut Closed, &mut Closed);
+    let mut person = Vec::new(rt.alloc());
+    let (unwritten, err) = program(
+        rt,
+        &SCRIPT,
+        &mut io::empty(),
+        &mut Closed,
+        Vec::new(rt.alloc()),
+        &mut person,
+    );
+    let (untold, _) = program(
+        rt,
+        &["run"],
+        &mut io::empty(),
+        &mut Closed,
+        Closed,
+        &mut Closed,
+    );
     let is_told = err.as_slice() == b"snapfs: file\n".as_slice()
         && str::from_utf8(person.as_slice()).map(staying)
             == Ok("snapfs: standard output: broken pipe\n");
@@ -106,12 +120,18 @@ fn tells_files(rt: &HostRuntime) -> bool {
 /// Whatever room an output has, it holds the front of the replies, and status 0 says that it holds all.
 fn holds_the_front(rt: &HostRuntime) -> io::Result<bool> {
     for room in 0..REPLIES.len() + 2 {
-        let mut err = Vec::new(rt.alloc());
         let mut out = Narrow {
             taken: Vec::new(rt.alloc()),
             room,
         };
-        let status = program(rt, &SCRIPT, &mut out, &mut err, &mut io::sink());
+        let (status, _) = program(
+            rt,
+            &SCRIPT,
+            &mut io::empty(),
+            &mut out,
+            io::sink(),
+            &mut io::sink(),
+        );
         let whole = out.taken.as_slice() == REPLIES;
         let front = REPLIES.starts_with(out.taken.as_slice());
         if !front || (status == 0) != whole {
@@ -124,14 +144,21 @@ fn holds_the_front(rt: &HostRuntime) -> io::Result<bool> {
 /// A run that was cut short is reported and has status 0 where what is left was saved, also where its replies can't be
 /// written. An image that is made and can't be answered isn't done.
 fn holds_where_cut_short(rt: &HostRuntime) -> bool {
-    let (mut err, mut made) = (Vec::new(rt.alloc()), Vec::new(rt.alloc()));
     let cut = ["stop-at", "99", "old", SCRIPT[1], SCRIPT[2], "left.img"];
-    let saved = program(rt, &cut, &mut Closed, &mut err, &mut Closed);
-    let unsaid = program(
+    let (saved, err) = program(
+        rt,
+        &cut,
+        &mut io::empty(),
+        &mut Closed,
+        Vec::new(rt.alloc()),
+        &mut Closed,
+    );
+    let (unsaid, made) = program(
         rt,
         &["mkfs", "other.img", "256"],
+        &mut io::empty(),
         &mut Closed,
-        &mut made,
+        Vec::new(rt.alloc()),
         &mut Closed,
     );
     let line = b"snapfs: file\n".as_slice();
@@ -151,8 +178,9 @@ pub fn run_all(rt: &HostRuntime) -> io::Result<u64> {
     program(
         rt,
         &["mkfs", SCRIPT[1], "256"],
+        &mut io::empty(),
         &mut io::sink(),
-        &mut io::sink(),
+        io::sink(),
         &mut io::sink(),
     );
     if !tells_files(rt) {

@@ -1,11 +1,13 @@
-//! Cases of what the program leaves: the lines that report a fault, outputs that take nothing or little, and files of images.
+//! Cases of what the program leaves: the lines that report a fault, outputs that take nothing or little, files of
+//! images, and archives of these.
 //!
-//! `faults` has the lines and the outputs, and `images` what a run leaves of a file, also of one in use. A run that has ended is
-//! that of `sn_tests_commands`.
+//! `faults` has the lines and the outputs, `images` what a run leaves of a file, also of one in use, and `exports` what is written
+//! of one. A run that has ended is that of `sn_tests_commands`.
 //!
 //! No clause promises what comes out, since it is compared: `sn_tests_program` runs it.
 #![tactic(auto)]
 
+mod exports;
 mod faults;
 mod images;
 
@@ -17,6 +19,7 @@ use sn_testing_tables::Report;
 pub fn run(report: &mut Report<'_>) -> Result<()> {
     let wrong = faults::run_all(report.runtime())?;
     images::run(report)?;
+    exports::run(report)?;
     ensure!(wrong == 0, "faults that are told otherwise");
     Ok(())
 }

@@ -15,15 +15,7 @@ use sn_testing_tables::Report;
 use std::env;
 
 /// The parts, in the order in which they run.
-const PARTS: [&str; 7] = [
-    "image",
-    "fs",
-    "live",
-    "directories",
-    "commands",
-    "outputs",
-    "exports",
-];
+const PARTS: [&str; 6] = ["image", "fs", "live", "directories", "commands", "outputs"];
 
 fn run(report: &mut Report<'_>, part: &str) -> Result<()> {
     match part {
@@ -33,7 +25,6 @@ fn run(report: &mut Report<'_>, part: &str) -> Result<()> {
         "directories" => sn_tests_directories::run(report),
         "commands" => sn_tests_commands::run(report),
         "outputs" => sn_tests_outputs::run(report),
-        "exports" => sn_tests_exports::run(report),
         _ => bail!("no such part: {part}"),
     }
 }

@@ -5,7 +5,7 @@
 //! `proofs` to be the way back: what is read is spelled so, and what is spelled so is read.
 //!
 //! `cut` takes a text apart at a byte, `field` has a function for each kind of word, which answers what
-//! `specs/Reading.antt` says or that there was no memory. `sn_script` makes lines of words, `sn_replies` prints them.
+//! `specs/Reading.antt` says or that there was no memory. `sn_script` makes lines of words, and prints them.
 //!
 //! ```
 //! let mode = octal(b"0755")?;

@@ -14,7 +14,7 @@ use Rattle.sn_model.specs.World.{World, trees_of}
 use Rattle.sn_model.specs.Settling.{nameless_in}
 use Rattle.sn_model.specs.declared.outcome.AskedPoint.{AskedPoint}
 use Rattle.sn_model.specs.declared.outcome.AskedPoint.TheVariants.{Restores}
-use Rattle.sn_room.specs.Rooms.{RoomCounts, begun, done, dropping}
+use Rattle.sn_held.specs.Rooms.{RoomCounts, begun, done, dropping}
 use Rattle.sn_cp_held.specs.Snapshots.{live_behind, trees_behind}
 use Rattle.sn_cp_progress.specs.Meaning.{progress_over}
 use Rattle.sn_cp_progress.specs.Progress.{world_to}

@@ -7,7 +7,7 @@ use Rattle.sn_events.specs.Mounted.{holding}
 use Rattle.sn_events.specs.Mounting.{IsLeft, Mounts}
 use Rattle.sn_events.proofs.MountLemmas.{is_left, mounts, refused_memory}
 use Rattle.sn_fs.proofs.mounting.mount.Goals as goal
-use Rattle.sn_room.specs.Rooms.{RoomCounts, fresh}
+use Rattle.sn_held.specs.Rooms.{RoomCounts, fresh}
 use Rattle.sn_held.specs.Images.{IsImage}
 use Rattle.sn_model.specs.World.{World}
 use Rattle.sn_mount.specs.Rooting.{MountsRoot}

@@ -28,7 +28,7 @@ use Rattle.sn_ondisk.specs.Trees.{store_of}
 use Rattle.sn_overlay.specs.Layers.{Layer}
 use Rattle.sn_overlay.specs.Overlays.{layer_of, no_changes}
 use Rattle.sn_held.specs.Held.{Kept}
-use Rattle.sn_room.specs.Rooms.{fresh}
+use Rattle.sn_held.specs.Rooms.{fresh}
 use Rattle.sn_examine.specs.Finding.{HasFound}
 use Rattle.sn_examine.specs.Laws.{IsSomeClean}
 use Rattle.sn_check.specs.Verdicts.{IsCause}

@@ -8,6 +8,6 @@ use Rattle.sn_program.proofs.command.perform.Goals as goal
 pub returns-in-Ok-Told-clause-done : goal.returns-in-Ok-Told-clause-done
 returns-in-Ok-Told-clause-done g c e =
     let same = rw c.in-Ok-Told.is at c.in-Ok-Told.field-0-is in
-    let came : c.execute-done.result ≡ Ok (Told c.in-Ok-Told.fault) = c.in-Ok-Told.is ∙ ap (λ (x : Ending). Ok x) same in
+    let came : c.execute-done.result.done ≡ Ok (Told c.in-Ok-Told.fault) = c.in-Ok-Told.is ∙ ap (λ (x : Ending). Ok x) same in
     let leaves = λ (x : Ending). Leaves c.args.task x (g.W.Write.contents c.args.out.now) (g.W.Write.contents c.execute-done.new.out) in
-    (Some c.in-Ok-Told.fault, told_so c.execute-done.result c.in-Ok-Told.fault leaves came c.execute-done.ensures.done)
+    (Some c.in-Ok-Told.fault, told_so c.execute-done.result.done c.in-Ok-Told.fault leaves came c.execute-done.ensures.done)

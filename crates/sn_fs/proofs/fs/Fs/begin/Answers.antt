@@ -19,7 +19,7 @@ use Rattle.sn_model.specs.Worlds.{IsWorld}
 use Rattle.sn_overlay.specs.Layers.{Layer}
 use Rattle.sn_overlay.specs.Needs.{need}
 use Rattle.sn_overlay.specs.Overlays.{no_changes}
-use Rattle.sn_room.specs.Rooms.{RoomCounts, begun}
+use Rattle.sn_held.specs.Rooms.{RoomCounts, begun}
 use Rattle.sn_events.specs.Mounted.{trees_there}
 use Rattle.sn_events.proofs.BasedLemmas.{base_none}
 use Rattle.sn_events.proofs.BeginLemmas.{unbegun}

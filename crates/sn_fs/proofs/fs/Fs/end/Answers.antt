@@ -19,7 +19,7 @@ use Rattle.sn_model.specs.Settling.{settle}
 use Rattle.sn_model.specs.World.{Trees, World}
 use Rattle.sn_model.specs.Worlds.{IsWorld}
 use Rattle.sn_overlay.specs.Layers.{Layer}
-use Rattle.sn_room.specs.Rooms.{done as done_room}
+use Rattle.sn_held.specs.Rooms.{done as done_room}
 use Rattle.sn_events.specs.Answers.{IsBesideRoot}
 use Rattle.sn_events.specs.Mounted.{tree_at}
 use Rattle.sn_events.proofs.BasedLemmas.{based_none, stands_none}

@@ -13,7 +13,7 @@ use Rattle.sn_model.specs.declared.outcome.AskedPoint.TheVariants.{Plain}
 use Rattle.sn_model.specs.Settling.{settle, settled}
 use Rattle.sn_model.specs.World.{World}
 use Rattle.sn_overlay.specs.Overlays.{layer_of, no_changes}
-use Rattle.sn_room.specs.Rooms.{RoomCounts, dropping, fresh}
+use Rattle.sn_held.specs.Rooms.{RoomCounts, dropping, fresh}
 use Rattle.sn_events.specs.Answers.{BuildsLast}
 use Rattle.sn_events.specs.Dropping.{DropsFiles}
 use Rattle.sn_events.specs.Mounted.{trees_there}

@@ -21,7 +21,7 @@ use Rattle.sn_model.specs.declared.outcome.AskedPoint.{AskedPoint}
 use Rattle.sn_overlay.specs.Layers.{Layer}
 use Rattle.sn_overlay.specs.Needs.{need}
 use Rattle.sn_overlay.specs.Overlays.{no_changes}
-use Rattle.sn_room.specs.Rooms.{RoomCounts, fresh}
+use Rattle.sn_held.specs.Rooms.{RoomCounts, fresh}
 use Rattle.sn_events.specs.Mounted.{tree_at, trees_there}
 use Rattle.sn_events.proofs.BasedLemmas.{base_none, based_none, stands_none, first_there}
 use Rattle.sn_events.specs.Answers.{BuildsFor}

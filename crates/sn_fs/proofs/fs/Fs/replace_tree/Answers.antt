@@ -24,7 +24,7 @@ use Rattle.sn_model.specs.declared.outcome.AskedPoint.TheVariants.{Restores}
 use Rattle.sn_overlay.specs.Layers.{Layer}
 use Rattle.sn_overlay.specs.Needs.{need}
 use Rattle.sn_overlay.specs.Overlays.{no_changes}
-use Rattle.sn_room.specs.Rooms.{RoomCounts, fresh}
+use Rattle.sn_held.specs.Rooms.{RoomCounts, fresh}
 use Rattle.sn_events.specs.Answers.{BuildsFor}
 use Rattle.sn_events.specs.Mounted.{trees_there}
 use Rattle.sn_events.specs.Pointing.{IsToBringBack}

@@ -11,7 +11,7 @@ use Rattle.sn_model.specs.Machine.{refused}
 use Rattle.sn_model.specs.declared.reply.Errno.TheVariants.{Enomem}
 use Rattle.sn_model.specs.declared.reply.Reply.{Reply}
 use Rattle.sn_model.proofs.LoseLemmas.{no_loss}
-use Rattle.sn_room.specs.Rooms.{RoomCounts}
+use Rattle.sn_held.specs.Rooms.{RoomCounts}
 use Rattle.sn_events.specs.Answers.{is_fitting}
 use Rattle.sn_events.specs.Changing.{errno_of}
 use Rattle.sn_events.specs.Serving.{Serves, TellsLack, Turns, reply_to}

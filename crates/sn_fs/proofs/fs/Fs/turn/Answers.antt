@@ -5,7 +5,7 @@ use Rattle.sn_events.specs.Mounted.{going_in, trees_there}
 use Rattle.sn_live_world.specs.World.{changes_of, kept_of, kept_since_of, world_over}
 use Rattle.sn_caller.specs.Numbering.{has_closed}
 use Rattle.sn_model.specs.World.{World}
-use Rattle.sn_room.specs.Rooms.{dropping}
+use Rattle.sn_held.specs.Rooms.{dropping}
 use Rattle.sn_fs.specs.Filesystem.{held, tree_of}
 use Rattle.sn_fs.proofs.MountedLemmas.{turned_frozen}
 use Rattle.sn_fs.proofs.fs.Fs.turn.Goals as goal

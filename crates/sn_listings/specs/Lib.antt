@@ -1,0 +1,4 @@
+pub mod Held
+pub mod Fitting
+pub mod Reading
+pub mod Told

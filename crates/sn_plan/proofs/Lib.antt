@@ -1,0 +1,4 @@
+pub mod Going
+pub mod Following
+pub mod Logins
+pub mod Looked

@@ -1,0 +1,16 @@
+-- What a server does with a file system, in its order.
+use Rattle.std.specs.Prelude.{ℕ, List, ◌++◌, Option, Result}
+use Rattle.sn_model.specs.declared.call.Call.{Call}
+use Rattle.sn_model.specs.declared.reply.Reply.{Reply}
+use Rattle.sn_walk.specs.declared.view.Attributes.{Attributes}
+use Rattle.sn_plan.specs.declared.errors.LookFault.{LookFault}
+
+-- a call of a session with its reply; the number of what a path led to; the attributes of the object with a number
+pub data Act : Type 0 where
+  Called : ℕ → Call → Reply → Act
+  Found : List ℕ → Result (Option ℕ) LookFault → Act
+  Seen : ℕ → Result (Option Attributes) LookFault → Act
+
+-- where something was done before, these acts are done after it
+pub record Grows (old new : List Act → Type 0) (acts : List Act) : Type 0 where
+  pub grows : (before : List Act) → old before → new (before ++ acts)

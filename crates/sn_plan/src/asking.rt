@@ -1,0 +1,91 @@
+//! Calls of a server.
+ghost use Rattle.std.specs.Prelude.{◌≡◌, Ok, IfOk, IfErr};
+ghost use Rattle.sn_fuse_replies.specs.declared.errno.Errno.TheVariants.{ENOMEM};
+ghost use Rattle.sn_plan.specs.Asking.{as_caller, asked, asked_masked, asks, asks_masked, calls, login_by};
+ghost use Rattle.sn_plan.specs.Follows.{Does};
+
+use crate::file_system::FileSystem;
+use crate::server::Server;
+use sn_callers::{ASKER, Caller, login_of};
+use sn_fuse_replies::Errno;
+use sn_model::{Call, Reply, Word};
+use std::alloc::Global;
+
+/// Who asks: the caller of a message, with what the system tells of its groups.
+#[derive(Clone, Copy)]
+pub struct Asker<'a> {
+    pub caller: Caller,
+    /// The text of `/proc/PID/status`, `None` where it couldn't be read.
+    pub status: Option<&'a [u8]>,
+    /// Whether the server's namespace maps all groups.
+    pub all_mapped: bool,
+}
+
+impl<F: FileSystem> Server<F> {
+    /// Makes a call of a session.
+    pub fn call(&mut self, session: u32, call: &Call) -> Reply
+        ensures { Does F.did self.old self.new (calls session call.now) (Ok result) }
+    {
+        self.file_system.call(session, call)
+    }
+
+    // Makes a call in the session of who asks, and logs out.
+    fn call_and_leave(&mut self, call: &Call) -> Reply
+        ensures { Does F.did self.old self.new (as_caller call.now) (Ok result) }
+    {
+        let reply = self.call(ASKER, call);
+        self.call(ASKER, &Call::Logout);
+        reply
+    }
+
+    // Logs in, makes a call and logs out.
+    fn call_as(&mut self, login: &Call, call: &Call) -> Reply
+        ensures { Does F.did self.old self.new (asked login.now call.now) (Ok result) }
+    {
+        let login_reply = self.call(ASKER, login);
+        if let Reply::Refused(_) = login_reply {
+            return login_reply;
+        }
+        self.call_and_leave(call)
+    }
+
+    /// Makes a call as who asks. Where the login is refused, its reply is returned. `EACCES` where the asker's groups aren't known, and then no
+    /// call is made.
+    ///
+    /// Proved: A call as who asks is made by a login of the caller's user and group and the groups that are told, and a logout follows it,
+    /// whatever its reply is; without known groups, or memory for them, none is made.
+    pub fn ask(&mut self, asker: &Asker<'_>, call: &Call) -> Result<Reply, Errno>
+        ensures { Does F.did self.old self.new (asks (login_by asker.now) call.now) result }
+    {
+        let login = login_of(self.alloc, &asker.caller, asker.status, asker.all_mapped)?;
+        Ok(self.call_as(&login, call))
+    }
+
+    // Logs in, sets the umask, makes a call and logs out.
+    fn call_masked(&mut self, login: &Call, mask: u16, call: &Call) -> Reply
+        ensures { Does F.did self.old self.new (asked_masked login.now mask call.now) (Ok result) }
+    {
+        let login_reply = self.call(ASKER, login);
+        if let Reply::Refused(_) = login_reply {
+            return login_reply;
+        }
+        self.call(ASKER, &Call::Umask { mask });
+        self.call_and_leave(call)
+    }
+
+    /// The same as `ask`, for a call that makes an object: with this umask in place of that of a new session.
+    pub fn ask_masked(&mut self, asker: &Asker<'_>, mask: u16, call: &Call) -> Result<Reply, Errno>
+        ensures { Does F.did self.old self.new (asks_masked (login_by asker.now) mask call.now) result }
+    {
+        let login = login_of(self.alloc, &asker.caller, asker.status, asker.all_mapped)?;
+        Ok(self.call_masked(&login, mask, call))
+    }
+}
+
+/// A word of a call. `ENOMEM` where memory is refused.
+pub fn word(alloc: Global, bytes: &[u8]) -> Result<Word, Errno>
+    ensures word { IfOk result (λ word. word ≡ bytes.now) }
+    ensures err { IfErr result (λ e. e ≡ ENOMEM) }
+{
+    Word::new(alloc, bytes).or(Err(Errno::ENOMEM))
+}

@@ -1,0 +1,29 @@
+//! What a server serves.
+ghost use Rattle.std.specs.Prelude.{◌∷◌, [], List};
+ghost use Rattle.sn_plan.specs.Acts.{Act, Called, Found, Seen};
+ghost use Rattle.sn_plan.specs.Acts.{Grows};
+
+use crate::errors::LookFault;
+use sn_model::{Call, Reply};
+use sn_walk::Attributes;
+
+/// What a server serves: it answers calls, and looks at what is there.
+///
+/// Each object has a number, by which the mount shows it: two objects have two, and so has a snapshot that was deleted and one that is made
+/// under its name later.
+pub trait FileSystem {
+    /// Whether these acts are what was done so far, in this order. One of which that isn't known has done none.
+    ghost did: { Self → List Act → Type 0 } = { λ _ _. ⊥ };
+
+    /// The reply to a call of a session.
+    fn call(&mut self, session: u32, call: &Call) -> Reply
+        ensures { Grows (did self.old) (did self.new) (Called session call.now result ∷ []) };
+
+    /// The number of what a path leads user 0 to, `None` where it leads to nothing, also where it is misspelt. Nothing changes.
+    fn find(&mut self, path: &[u8]) -> Result<Option<u64>, LookFault>
+        ensures { Grows (did self.old) (did self.new) (Found path.now result ∷ []) };
+
+    /// The attributes of the object with a number, `None` where there is none. Nothing changes.
+    fn node(&mut self, number: u64) -> Result<Option<Attributes>, LookFault>
+        ensures { Grows (did self.old) (did self.new) (Seen number result ∷ []) };
+}

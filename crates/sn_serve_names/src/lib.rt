@@ -1,0 +1,33 @@
+//! The messages of a mount that are about names: LOOKUP, MKDIR, UNLINK, RMDIR, RENAME, LINK and ACCESS.
+//!
+//! The model. Each message has a plan (`specs/Messages`), of the parts that `sn_plan` has, and the function that answers it does what the plan
+//! asks for. A name of the mount is looked at as the name of the image that denotes it, with its path (`specs/Names`); `specs/Entries` says
+//! what an answer tells of a node.
+//!
+//! In the directory of snapshots MKDIR makes a snapshot and RMDIR deletes one.
+//!
+//! The way through: `names` has the names, `entries` what is told of a node, `meeting` how it gets its id, `asking` the calls, and `looking`,
+//! `making`, `removing` and `moving` the messages.
+//!
+//! What the sources leave open is decided in `docs/DECISIONS.md`, under "Messages on names".
+//!
+//! ```text
+//! let entry = lookup(&mut server, &asker, parent, name)?;
+//! unlink(&mut server, &asker, parent, name)?;
+//! ```
+#![tactic(auto)]
+
+mod asking;
+mod entries;
+mod looking;
+mod making;
+mod meeting;
+mod moving;
+mod names;
+mod removing;
+
+pub use entries::{attributes_of, entry_of};
+pub use looking::{access, lookup};
+pub use making::mkdir;
+pub use moving::{link, rename};
+pub use removing::{rmdir, unlink};
