@@ -1,5 +1,5 @@
 //! The open files of a mount, by their handles.
-ghost use Rattle.std.specs.Prelude.{◌≡◌, ◌<◌, None, Some, is_none, IfOk, IfSome, length, position, replicate, slice_set};
+ghost use Rattle.std.specs.Prelude.{◌≡◌, ◌<◌, None, Some, is_none, IfOk, IfSome, OnSome, length, position, replicate, slice_set};
 ghost use Rattle.sn_callers.specs.Files.{file_at};
 
 use std::alloc::{AllocError, Global};
@@ -64,7 +64,8 @@ impl OpenFiles {
 
     /// The open file that a handle stands for. `None` where it stands for none (`EBADF`).
     pub fn get(&self, handle: u64) -> Option<OpenFile>
-        ensures { result ≡ file_at self.now handle }
+        ensures file { result ≡ file_at self.now handle }
+        ensures within { OnSome result (handle < 4032) }
     {
         match self.places.get(handle as usize) {
             Some(file) => *file,

@@ -1,5 +1,5 @@
 -- The content of a file, as it comes.
-use Rattle.std.proofs.Common.{◌≡◌, ℕ, ◌+◌, ◌-◌, ◌<◌, ◌≤◌, min, true, false, List, [], ◌++◌, length, take, ⊎_elim, inl, sym, ap, subst, ◌∙◌, append_assoc, length-append, take-take, arith}
+use Rattle.std.proofs.Common.{◌≡◌, ℕ, ◌+◌, ◌-◌, ◌<◌, ◌≤◌, min, true, false, List, [], ◌++◌, length, take, ⊎_elim, sym, ap, subst, ◌∙◌, append_assoc, length-append, take-take, arith}
 use Rattle.std.specs.Prelude.{Option, Some, None, Result, Ok, Err, IfErr, IsErrAnd}
 use Rattle.std.proofs.Math.Seq.{take-append-add}
 use Rattle.std.proofs.lemmas.List.{append-nil, length-take-le, take-append-le}
@@ -35,7 +35,7 @@ pub came_call : {A : Type 0} (s : State) (i : Option (List ℕ)) (content : List
     → Arrives s i content t j → Came s i content t j (stop_of r)
 came_call s i content t j (Ok a) is h = h
 came_call s i content t j (Err (Refused errno)) is h = h
-came_call s i content t j (Err Memory) is h = (t, j, h, inl tt)
+came_call s i content t j (Err Memory) is h = (t, j, h, tt)
 came_call s i content t j (Err Damaged) is h = let never : false ≡ true = is in cc
 came_call s i content t j (Err Ended) is h = let never : false ≡ true = is in cc
 came_call s i content t j (Err (Unread e)) is h = let never : false ≡ true = is in cc

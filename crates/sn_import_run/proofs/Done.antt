@@ -6,7 +6,7 @@ use Rattle.std.specs.Bool.{MatchBool}
 use Rattle.std.specs.Io.KnownBytes.{Consumes}
 use Rattle.sn_import.specs.declared.object.Object.{Object}
 use Rattle.sn_import_entry.specs.declared.names.Names.{Names}
-use Rattle.sn_untar.specs.Steps.{State, Steps, start}
+use Rattle.sn_untar.specs.Steps.{State, Steps, is_ended, start}
 use Rattle.sn_untar.specs.declared.told.Told.{Told}
 use Rattle.sn_untar.specs.declared.told.Told.TheVariants as told
 use Rattle.sn_import_run.specs.Acts.{Act}
@@ -15,7 +15,7 @@ use Rattle.sn_import_run.specs.Entries.{IsDone, IsTaken}
 use Rattle.sn_import_run.specs.Files.{Arrives, Came}
 use Rattle.sn_import_run.specs.Imports.{AreDone, AreRead, IsImport, SetsRights, all, broken, end_told, goes_on, is_over, within}
 use Rattle.sn_import_run.specs.Stops.{ends_reading}
-use Rattle.sn_import_run.specs.Streams.{Breaks, EndsAt, IsReadTo, Part, Takes, begun, longer, parts_after, with_content}
+use Rattle.sn_import_run.specs.Streams.{Breaks, BreaksOff, EndsAt, IsReadTo, Part, Takes, begun, longer, parts_after, with_content}
 use Rattle.sn_import_run.specs.declared.stop.Stop.{Stop}
 use Rattle.sn_import_run.specs.declared.stop.Stop.TheVariants.{Refused, Memory, Damaged, Ended, Unread}
 use Rattle.sn_import_run.proofs.Entry.{done_longer}
@@ -211,26 +211,27 @@ pub read_whole : (names : Names) (into : List ℕ) (i j : Option (List ℕ)) (s 
 read_whole names into i j s count acts ds more p ends is =
     subst (λ (os : List Object). IsRead names into i acts os None) (sym is) (p.parts, (s, j, p.takes, ends), all acts ds p.done)
 
-broken_ends : (parts : List Part) (s : State) (j : Option (List ℕ)) (stop : Stop) → Breaks s j stop → EndsAt parts s j (Some stop)
-broken_ends parts s j (Refused errno) h = tt
-broken_ends parts s j Memory h = tt
-broken_ends parts s j Damaged h = inl h
-broken_ends parts s j Ended h = inl h
-broken_ends parts s j (Unread e) h = inl h
+-- it isn't ended, and breaks
+pub breaks_off : (s : State) (j : Option (List ℕ)) (stop : Stop) → is_ended s.phase ≡ false → Breaks s j stop → BreaksOff s j stop
+breaks_off s j (Refused errno) goes h = tt
+breaks_off s j Memory goes h = tt
+breaks_off s j Damaged goes h = (goes, h)
+breaks_off s j Ended goes h = (goes, h)
+breaks_off s j (Unread e) goes h = (goes, h)
 
 -- between two entries
 pub read_end : {A : Type 0} (names : Names) (into : List ℕ) (i j : Option (List ℕ)) (s : State) (count : ℕ) (acts : List Act) (ds : List Object) (is_empty : Bool) (stop : Stop) (r : Result A Stop)
-    (p : Progress names into i s j count acts ds) → Breaks s j stop → (is_empty ≡ true → (p.parts ≡ []) × (s ≡ start)) → OnOk r ((is_empty ≡ true) × (stop ≡ Ended)) → IfErr r (λ other. other ≡ stop)
+    (p : Progress names into i s j count acts ds) → is_ended s.phase ≡ false → Breaks s j stop → (is_empty ≡ true → (p.parts ≡ []) × (s ≡ start)) → OnOk r ((is_empty ≡ true) × (stop ≡ Ended)) → IfErr r (λ other. other ≡ stop)
     → IsRead names into i (acts ++ end_told count (stop_of r)) ds (stop_of r)
-read_end names into i j s count acts ds is_empty stop (Ok a) p breaks empty whole same =
+read_end names into i j s count acts ds is_empty stop (Ok a) p goes breaks empty whole same =
     let none : (is_empty ≡ true) × (stop ≡ Ended) = whole in
     let fresh = empty none.0 in
     let spent : Breaks s j Ended = subst (λ (e : Stop). Breaks s j e) none.1 breaks in
     subst (λ (xs : List Act). IsRead names into i xs ds None) (sym (append-nil acts)) (read_whole names into i j s count acts ds ds p (inr (fresh.0, fresh.1, spent)) refl)
-read_end names into i j s count acts ds is_empty stop (Err e) p breaks empty whole same =
+read_end names into i j s count acts ds is_empty stop (Err e) p goes breaks empty whole same =
     let is : e ≡ stop = same in
     subst (λ (n : ℕ). IsRead names into i (acts ++ end_told n (Some e)) ds (Some e)) (sym p.count_is)
-    (p.parts, (s, j, p.takes, broken_ends p.parts s j e (subst (λ (other : Stop). Breaks s j other) (sym is) breaks)), broken acts ds e p.done)
+    (p.parts, (s, j, p.takes, breaks_off s j e goes (subst (λ (other : Stop). Breaks s j other) (sym is) breaks)), broken acts ds e p.done)
 
 -- in an entry
 pub read_within : {A : Type 0} (names : Names) (into : List ℕ) (i : Option (List ℕ)) (acts : List Act) (ds more : List Object) (e : Stop) (r : Result A Stop)

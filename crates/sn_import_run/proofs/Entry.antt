@@ -131,4 +131,4 @@ memory_calls object (Err stop) h =
 
 pub refused_came : (s : State) (i : Option (List ℕ)) (fault : ObjectFault) → Arrives s i [] s i → Came s i [] s i (fault_stop fault)
 refused_came s i (missing.Entry f) h = h
-refused_came s i missing.Memory h = (s, i, h, inl tt)
+refused_came s i missing.Memory h = (s, i, h, tt)

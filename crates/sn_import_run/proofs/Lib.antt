@@ -1,5 +1,6 @@
 pub mod Made
 pub mod Parts
+pub mod Awaiting
 pub mod Filled
 pub mod Contents
 pub mod Entry

@@ -6,7 +6,7 @@ ghost use Rattle.sn_import_run.specs.Acts.{Act};
 ghost use Rattle.sn_import_run.specs.Carried.{Adds, Grows, stop_of};
 ghost use Rattle.sn_import_run.specs.Entries as entries;
 ghost use Rattle.sn_import_run.specs.Entries.{IsDone, IsMade, kept};
-ghost use Rattle.sn_import_run.specs.Files.{Came};
+ghost use Rattle.sn_import_run.specs.Files.{AwaitsKind, AwaitsWhat, Came};
 ghost use Rattle.sn_import_run.specs.Streams.{begun, longer};
 ghost use Rattle.sn_import_run.specs.declared.stop.Stop.TheVariants.{Memory as no_memory};
 
@@ -37,6 +37,7 @@ fn follow<R: Read, C: Calls>(
     fd: u32,
     size: u64,
 ) -> Result<(), Stop>
+    requires { AwaitsWhat object.now.what (state_of untar.old) size }
     ensures { (came : List ℕ) × Came (state_of untar.old) (R.remaining archive.old) came (state_of untar.new) (R.remaining archive.new) (stop_of result)
         × Adds (C.did to.old) (C.did to.new) (λ acts. entries.IsFinished object.now.what fd object.now size came acts (stop_of result)) }
 {
@@ -55,6 +56,7 @@ fn carry<R: Read, C: Calls>(
     object: &Object,
     size: u64,
 ) -> Result<(), Stop>
+    requires { AwaitsWhat object.now.what (state_of untar.old) size }
     ensures { (came : List ℕ) × Came (state_of untar.old) (R.remaining archive.old) came (state_of untar.new) (R.remaining archive.new) (stop_of result)
         × Adds (C.did to.old) (C.did to.new) (λ acts. IsMade object.now size came acts (stop_of result)) }
 {
@@ -84,6 +86,7 @@ fn carry_kept<R: Read, C: Calls>(
     size: u64,
     directories: &mut Vec<Object>,
 ) -> Result<(), Stop>
+    requires { AwaitsWhat object.what (state_of untar.old) size }
     ensures kept { directories.new.items ≡ directories.old.items ++ kept object (stop_of result) }
     ensures made { (came : List ℕ) × Came (state_of untar.old) (R.remaining archive.old) came (state_of untar.new) (R.remaining archive.new) (stop_of result)
         × Adds (C.did to.old) (C.did to.new) (λ acts. IsMade object size came acts (stop_of result)) }
@@ -128,6 +131,7 @@ fn make_object<R: Read, C: Calls>(
     object: Object,
     directories: &mut Vec<Object>,
 ) -> Result<(), Stop>
+    requires { AwaitsWhat object.what (state_of untar.old) member.now.size }
     ensures kept { directories.new.items ≡ directories.old.items ++ kept object (stop_of result) }
     ensures made { (came : List ℕ) × Came (state_of untar.old) (R.remaining archive.old) came (state_of untar.new) (R.remaining archive.new) (stop_of result)
         × Adds (C.did to.old) (C.did to.new) (λ acts. (made : List Act) × (acts ≡ entries.set_uid_told place member.now ++ made ++ entries.stop_told place member.now (stop_of result))
@@ -170,6 +174,7 @@ pub fn make_entry<R: Read, C: Calls>(
     member: &Member,
     directories: &mut Vec<Object>,
 ) -> Result<(), Stop>
+    requires { AwaitsKind member.now.kind (state_of untar.old) member.now.size }
     ensures { (came : List ℕ) × Came (state_of untar.old) (R.remaining archive.old) came (state_of untar.new) (R.remaining archive.new) (stop_of result)
         × Adds (C.did to.old) (C.did to.new) (λ acts. (own : List Made) × (directories.new.items ≡ directories.old.items ++ own)
         × IsDone names.now directory.now place (longer (begun member.now false) came) acts own (stop_of result)) }

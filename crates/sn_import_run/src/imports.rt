@@ -4,7 +4,7 @@ ghost use Rattle.sn_import.specs.declared.object.Object.{Object as Made};
 ghost use Rattle.sn_untar.specs.Steps.{state_of};
 ghost use Rattle.sn_import_run.specs.Carried.{Adds, Grows, stop_of};
 ghost use Rattle.sn_import_run.specs.Entries.{IsTaken};
-ghost use Rattle.sn_import_run.specs.Files.{Came};
+ghost use Rattle.sn_import_run.specs.Files.{AwaitsTold, Came};
 ghost use Rattle.sn_import_run.specs.Imports as imports;
 ghost use Rattle.sn_import_run.specs.Imports.{AreRead, IsImport, IsPassed};
 ghost use Rattle.sn_import_run.specs.declared.stop.Stop.{Stop as Ending};
@@ -40,7 +40,8 @@ fn take<R: Read, C: Calls>(
     count: &mut u64,
     directories: &mut Vec<Object>,
 ) -> Result<(), Stop>
-    requires { count.old < 2 ^ 64 - 1 }
+    requires few { count.old < 2 ^ 64 - 1 }
+    requires awaits { AwaitsTold told.now (state_of untar.old) }
     ensures { (came : List ℕ) × Came (state_of untar.old) (R.remaining archive.old) came (state_of untar.new) (R.remaining archive.new) (stop_of result)
         × Adds (C.did to.old) (C.did to.new) (λ acts. (own : List Made) × (directories.new.items ≡ directories.old.items ++ own)
         × IsTaken names.now directory.now count.old told.now came acts own (stop_of result) count.new) }
@@ -81,7 +82,8 @@ fn take_on<R: Read, C: Calls>(
     count: &mut u64,
     directories: &mut Vec<Object>,
 ) -> Result<(), Stop>
-    requires { count.old < 2 ^ 64 - 1 }
+    requires few { count.old < 2 ^ 64 - 1 }
+    requires awaits { AwaitsTold told.now (state_of untar.old) }
     ensures { (stop : Option Ending) × (came : List ℕ) × IsPassed result stop
         × Came (state_of untar.old) (R.remaining archive.old) came (state_of untar.new) (R.remaining archive.new) stop
         × Adds (C.did to.old) (C.did to.new) (λ acts. (own : List Made) × (directories.new.items ≡ directories.old.items ++ own)
@@ -193,7 +195,8 @@ fn is_over(outcome: &Result<(), Stop>) -> bool
 /// Proved: The writes of a file have its content, with the descriptor that its `open` was answered; the content of an entry that isn't made
 /// isn't read as anything else. What is reported is each entry that isn't made, or not to its end, with the reason, and S_ISUID.
 /// Proved: The entries are those that a reader (`sn_untar`) finds in the blocks of the input, up to the archive's end, or to where an input
-/// without a byte begins. Else the damage, or the end of the input, is reported, and is there; or memory was refused, or a read failed.
+/// without a byte begins. Else the damage, or the end of the input, is reported, and is there before the archive's end; or memory was
+/// refused, or a read failed.
 pub fn import<R: Read, C: Calls>(
     alloc: Global,
     names: &Names<'_>,

@@ -8,41 +8,42 @@ use Rattle.sn_model.specs.declared.call.Call.{Call}
 use Rattle.sn_model.specs.declared.reply.Reply.{Reply}
 use Rattle.sn_node_table.specs.Told.{table_of}
 use Rattle.sn_walk.specs.declared.view.Attributes.{Attributes}
-use Rattle.sn_plan.specs.Acts.{Act, Called, Found, Seen, Grows}
-use Rattle.sn_plan.specs.Asking.{calls, finds, sees}
+use Rattle.sn_plan.specs.Acts.{Act, Called, Counted, Found, Seen, Grows}
+use Rattle.sn_plan.specs.Asking.{calls, counts, finds, sees}
 use Rattle.sn_plan.specs.Errors.{fault_errno}
-use Rattle.sn_plan.specs.Plans.{Becomes, Change, Kept, Plan, Gives, Refuses, Takes, Turns, Knows, Keeps, given, ◌>>=◌}
-use Rattle.sn_plan.specs.Follows.{Does, Goes, Leads, kept_of, stays, takes, lacks, called, found, unfound, seen, unseen, knows, keeps}
+use Rattle.sn_plan.specs.Plans.{Becomes, Change, Kept, Plan, Gives, Refuses, Takes, Turns, Knows, Keeps, files_after, given, ◌>>=◌}
+use Rattle.sn_plan.specs.Follows.{Does, Goes, Leads, kept_of, stays, takes, lacks, called, found, unfound, seen, unseen, counted, knows, keeps}
 use Rattle.sn_plan.specs.declared.errors.LookFault.{LookFault}
+use Rattle.sn_plan.specs.declared.file_system.Space.{Space}
 use Rattle.sn_plan.specs.declared.server.Server.{Server}
 use Rattle.sn_plan.proofs.Going.{leads_before, leads_on}
 
-grows_none : {F : Type 0} (did : F → List Act → Type 0) (a : F) → Grows (did a) (did a) []
-grows_none did a = record { grows = λ before d. subst (did a) (sym (append-nil before)) d }
+grows_none : {F : Type 0} (did : F → F → List Act → Type 0) (a : F) → Grows (did a) (did a) []
+grows_none did a = record { grows = λ first before d. subst (did a first) (sym (append-nil before)) d }
 
-grows_on : {F : Type 0} (did : F → List Act → Type 0) (a b c : F) (x y : List Act) → Grows (did a) (did b) x → Grows (did b) (did c) y → Grows (did a) (did c) (x ++ y)
-grows_on did a b c x y g h = record { grows = λ before d. subst (did c) (append_assoc before x y) (h.grows (before ++ x) (g.grows before d)) }
+grows_on : {F : Type 0} (did : F → F → List Act → Type 0) (a b c : F) (x y : List Act) → Grows (did a) (did b) x → Grows (did b) (did c) y → Grows (did a) (did c) (x ++ y)
+grows_on did a b c x y g h = record { grows = λ first before d. subst (did c first) (append_assoc before x y) (h.grows first (before ++ x) (g.grows first before d)) }
 
-pub goes_none : {F A : Type 0} (did : F → List Act → Type 0) (s : Server F) (p : Plan A) → Goes did s s p p
+pub goes_none : {F A : Type 0} (did : F → F → List Act → Type 0) (s : Server F) (p : Plan A) → Goes did s s p p
 goes_none did s p = record { acts = []; grows = grows_none did s.file_system; leads = stays }
 
-pub goes_on : {F A : Type 0} {did : F → List Act → Type 0} {s t u : Server F} {p q r : Plan A} → Goes did s t p q → Goes did t u q r → Goes did s u p r
+pub goes_on : {F A : Type 0} {did : F → F → List Act → Type 0} {s t u : Server F} {p q r : Plan A} → Goes did s t p q → Goes did t u q r → Goes did s u p r
 goes_on {did = did} {s = s} {t = t} {u = u} g h = record {
   acts = g.acts ++ h.acts;
   grows = grows_on did s.file_system t.file_system u.file_system g.acts h.acts g.grows h.grows;
   leads = leads_on g.leads h.leads;
 }
 
-pub goes_before : {F A B : Type 0} {did : F → List Act → Type 0} {s t : Server F} {p q : Plan A} (k : A → Plan B) → Goes did s t p q → Goes did s t (p >>= k) (q >>= k)
+pub goes_before : {F A B : Type 0} {did : F → F → List Act → Type 0} {s t : Server F} {p q : Plan A} (k : A → Plan B) → Goes did s t p q → Goes did s t (p >>= k) (q >>= k)
 goes_before k g = record { acts = g.acts; grows = g.grows; leads = leads_before k g.leads }
 
 -- the same error
-pub does_as_error : {F A : Type 0} {did : F → List Act → Type 0} {s t : Server F} {p : Plan A} {d e : Errno} → d ≡ e → Does did s t p (Err d) → Does did s t p (Err e)
+pub does_as_error : {F A : Type 0} {did : F → F → List Act → Type 0} {s t : Server F} {p : Plan A} {d e : Errno} → d ≡ e → Does did s t p (Err d) → Does did s t p (Err e)
 does_as_error {did = did} {s = s} {t = t} {p = p} is h = subst (λ (x : Errno). Does did s t p (Err x)) is h
 
 -- ---- one step
 
-pub does_call : {F : Type 0} (did : F → List Act → Type 0) (s t : Server F) (session : ℕ) (call : Call) (reply : Reply)
+pub does_call : {F : Type 0} (did : F → F → List Act → Type 0) (s t : Server F) (session : ℕ) (call : Call) (reply : Reply)
     → Grows (did s.file_system) (did t.file_system) (Called session call reply ∷ []) → kept_of s ≡ kept_of t → Does did s t (calls session call) (Ok reply)
 unfolding calls given
 does_call did s t session call reply g same = record {
@@ -53,7 +54,7 @@ does_call did s t session call reply g same = record {
   };
 }
 
-pub does_find : {F : Type 0} (did : F → List Act → Type 0) (s t : Server F) (path : List ℕ) (looked : Result (Option ℕ) LookFault) (number : Option ℕ)
+pub does_find : {F : Type 0} (did : F → F → List Act → Type 0) (s t : Server F) (path : List ℕ) (looked : Result (Option ℕ) LookFault) (number : Option ℕ)
     → Grows (did s.file_system) (did t.file_system) (Found path looked ∷ []) → looked ≡ Ok number → kept_of s ≡ kept_of t → Does did s t (finds path) (Ok number)
 unfolding finds given
 does_find did s t path looked number g is same = record {
@@ -64,7 +65,7 @@ does_find did s t path looked number g is same = record {
   };
 }
 
-pub does_not_find : {F : Type 0} (did : F → List Act → Type 0) (s t : Server F) (path : List ℕ) (looked : Result (Option ℕ) LookFault) (fault : LookFault) (e : Errno)
+pub does_not_find : {F : Type 0} (did : F → F → List Act → Type 0) (s t : Server F) (path : List ℕ) (looked : Result (Option ℕ) LookFault) (fault : LookFault) (e : Errno)
     → Grows (did s.file_system) (did t.file_system) (Found path looked ∷ []) → looked ≡ Err fault → kept_of s ≡ kept_of t → e ≡ fault_errno fault → Does did s t (finds path) (Err e)
 unfolding finds given
 does_not_find did s t path looked fault e g failed same is = does_as_error (sym is) (record {
@@ -75,7 +76,7 @@ does_not_find did s t path looked fault e g failed same is = does_as_error (sym 
   };
 })
 
-pub does_see : {F : Type 0} (did : F → List Act → Type 0) (s t : Server F) (number : ℕ) (looked : Result (Option Attributes) LookFault) (attributes : Option Attributes)
+pub does_see : {F : Type 0} (did : F → F → List Act → Type 0) (s t : Server F) (number : ℕ) (looked : Result (Option Attributes) LookFault) (attributes : Option Attributes)
     → Grows (did s.file_system) (did t.file_system) (Seen number looked ∷ []) → looked ≡ Ok attributes → kept_of s ≡ kept_of t → Does did s t (sees number) (Ok attributes)
 unfolding sees given
 does_see did s t number looked attributes g is same = record {
@@ -86,7 +87,7 @@ does_see did s t number looked attributes g is same = record {
   };
 }
 
-pub does_not_see : {F : Type 0} (did : F → List Act → Type 0) (s t : Server F) (number : ℕ) (looked : Result (Option Attributes) LookFault) (fault : LookFault) (e : Errno)
+pub does_not_see : {F : Type 0} (did : F → F → List Act → Type 0) (s t : Server F) (number : ℕ) (looked : Result (Option Attributes) LookFault) (fault : LookFault) (e : Errno)
     → Grows (did s.file_system) (did t.file_system) (Seen number looked ∷ []) → looked ≡ Err fault → kept_of s ≡ kept_of t → e ≡ fault_errno fault → Does did s t (sees number) (Err e)
 unfolding sees given
 does_not_see did s t number looked fault e g failed same is = does_as_error (sym is) (record {
@@ -97,45 +98,56 @@ does_not_see did s t number looked fault e g failed same is = does_as_error (sym
   };
 })
 
+pub does_count : {F : Type 0} (did : F → F → List Act → Type 0) (s t : Server F) (space : Space)
+    → Grows (did s.file_system) (did t.file_system) (Counted space ∷ []) → kept_of s ≡ kept_of t → Does did s t counts (Ok space)
+unfolding counts given
+does_count did s t space g same = record {
+  goes = record {
+    acts = Counted space ∷ [];
+    grows = g;
+    leads = subst (λ (u : Kept). Leads counts (kept_of s) (Counted space ∷ []) (given (Ok space)) u) same (counted stays);
+  };
+}
+
 -- ---- one after the other
 
 -- a plan that gives a value, and then what follows
-pub after : {F A B : Type 0} {did : F → List Act → Type 0} {s t u : Server F} {p : Plan A} (k : A → Plan B) {a : A} {r : Result B Errno}
+pub after : {F A B : Type 0} {did : F → F → List Act → Type 0} {s t u : Server F} {p : Plan A} (k : A → Plan B) {a : A} {r : Result B Errno}
     → Does did s t p (Ok a) → Does did t u (k a) r → Does did s u (p >>= k) r
 unfolding given ◌>>=◌
 after k h g = record { goes = goes_on (goes_before k h.goes) g.goes }
 
 -- a plan that ends with an error
-pub fails : {F A B : Type 0} {did : F → List Act → Type 0} {s t : Server F} {p : Plan A} (k : A → Plan B) {e : Errno}
+pub fails : {F A B : Type 0} {did : F → F → List Act → Type 0} {s t : Server F} {p : Plan A} (k : A → Plan B) {e : Errno}
     → Does did s t p (Err e) → Does did s t (p >>= k) (Err e)
 unfolding given ◌>>=◌
 fails k h = record { goes = goes_before k h.goes }
 
 -- another value that is the same
-pub does_as : {F A : Type 0} {did : F → List Act → Type 0} {s t : Server F} {p : Plan A} {q r : Result A Errno} → q ≡ r → Does did s t p q → Does did s t p r
+pub does_as : {F A : Type 0} {did : F → F → List Act → Type 0} {s t : Server F} {p : Plan A} {q r : Result A Errno} → q ≡ r → Does did s t p q → Does did s t p r
 does_as {A = A} {did = did} {s = s} {t = t} {p = p} is h = subst (λ (x : Result A Errno). Does did s t p x) is h
 
-pub gives : {F A : Type 0} (did : F → List Act → Type 0) (s : Server F) (r : Result A Errno) → Does did s s (given r) r
+pub gives : {F A : Type 0} (did : F → F → List Act → Type 0) (s : Server F) (r : Result A Errno) → Does did s s (given r) r
 gives did s r = record { goes = goes_none did s (given r) }
 
-pub gives_ok : {F A : Type 0} (did : F → List Act → Type 0) (s : Server F) (a : A) → Does did s s (Gives a) (Ok a)
+pub gives_ok : {F A : Type 0} (did : F → F → List Act → Type 0) (s : Server F) (a : A) → Does did s s (Gives a) (Ok a)
 unfolding given
 gives_ok did s a = record { goes = goes_none did s (Gives a) }
 
-pub knows_it : {F A : Type 0} {did : F → List Act → Type 0} {s t : Server F} {k : Kept → Plan A} {r : Result A Errno} → Does did s t (k (kept_of s)) r → Does did s t (Knows k) r
+pub knows_it : {F A : Type 0} {did : F → F → List Act → Type 0} {s t : Server F} {k : Kept → Plan A} {r : Result A Errno} → Does did s t (k (kept_of s)) r → Does did s t (Knows k) r
 knows_it h = record { goes = record { acts = h.goes.acts; grows = h.goes.grows; leads = knows h.goes.leads } }
 
-pub takes_it : {F A : Type 0} {did : F → List Act → Type 0} {s t : Server F} {p : Plan A} {r : Result A Errno} → Does did s t p r → Does did s t (Takes p) r
+pub takes_it : {F A : Type 0} {did : F → F → List Act → Type 0} {s t : Server F} {p : Plan A} {r : Result A Errno} → Does did s t p r → Does did s t (Takes p) r
 takes_it h = record { goes = record { acts = h.goes.acts; grows = h.goes.grows; leads = takes h.goes.leads } }
 
-pub lacks_it : {F A : Type 0} (did : F → List Act → Type 0) (s : Server F) (p : Plan A) → Does did s s (Takes p) (Err ENOMEM)
+pub lacks_it : {F A : Type 0} (did : F → F → List Act → Type 0) (s : Server F) (p : Plan A) → Does did s s (Takes p) (Err ENOMEM)
 unfolding given
 lacks_it did s p = record { goes = record { acts = []; grows = grows_none did s.file_system; leads = lacks } }
 
-pub lacking : {F A : Type 0} {did : F → List Act → Type 0} {s : Server F} {p : Plan A} {e : Errno} → e ≡ ENOMEM → Does did s s (Takes p) (Err e)
+pub lacking : {F A : Type 0} {did : F → F → List Act → Type 0} {s : Server F} {p : Plan A} {e : Errno} → e ≡ ENOMEM → Does did s s (Takes p) (Err e)
 lacking {did = did} {s = s} {p = p} is = does_as_error (sym is) (lacks_it did s p)
 
-pub keeps_it : {F A : Type 0} {did : F → List Act → Type 0} {s t u : Server F} {change : Change} {p : Plan A} {r : Result A Errno}
+pub keeps_it : {F A : Type 0} {did : F → F → List Act → Type 0} {s t u : Server F} {change : Change} {p : Plan A} {r : Result A Errno}
     → s.file_system ≡ t.file_system → Becomes change (kept_of s) (kept_of t) → Does did t u p r → Does did s u (Keeps change p) r
 keeps_it {F = F} {did = did} {s = s} {t = t} {u = u} same becomes h = record {
   goes = record {
@@ -146,20 +158,20 @@ keeps_it {F = F} {did = did} {s = s} {t = t} {u = u} same becomes h = record {
 }
 
 -- an error that is passed on
-pub passed_on : {F A : Type 0} {did : F → List Act → Type 0} {s t : Server F} {p : Plan A} (r : Result A Errno) (e : Errno)
+pub passed_on : {F A : Type 0} {did : F → F → List Act → Type 0} {s t : Server F} {p : Plan A} (r : Result A Errno) (e : Errno)
     → IsErrAnd r (λ x. x ≡ e) → Does did s t p (Err e) → Does did s t p r
 passed_on (Ok a) e h d = absurd h
 passed_on (Err x) e h d = does_as_error (sym h) d
 
 -- another name for a state
-pub done_from : {F A : Type 0} {did : F → List Act → Type 0} {s t u : Server F} {p : Plan A} {r : Result A Errno} → t ≡ s → Does did t u p r → Does did s u p r
+pub done_from : {F A : Type 0} {did : F → F → List Act → Type 0} {s t u : Server F} {p : Plan A} {r : Result A Errno} → t ≡ s → Does did t u p r → Does did s u p r
 done_from {F = F} {did = did} {u = u} {p = p} {r = r} is h = subst (λ (x : Server F). Does did x u p r) is h
 
-pub done_to : {F A : Type 0} {did : F → List Act → Type 0} {s t u : Server F} {p : Plan A} {r : Result A Errno} → t ≡ u → Does did s u p r → Does did s t p r
+pub done_to : {F A : Type 0} {did : F → F → List Act → Type 0} {s t u : Server F} {p : Plan A} {r : Result A Errno} → t ≡ u → Does did s u p r → Does did s t p r
 done_to {F = F} {did = did} {s = s} {p = p} {r = r} is h = subst (λ (x : Server F). Does did s x p r) (sym is) h
 
 -- another state of which the same is known
-pub stays_so : {F A : Type 0} {did : F → List Act → Type 0} {s t : Server F} {p : Plan A} {r : Result A Errno}
+pub stays_so : {F A : Type 0} {did : F → F → List Act → Type 0} {s t : Server F} {p : Plan A} {r : Result A Errno}
     → s.file_system ≡ t.file_system → kept_of s ≡ kept_of t → Does did s s p r → Does did s t p r
 stays_so {F = F} {did = did} {s = s} {t = t} {p = p} {r = r} same kept h = record {
   goes = record {
@@ -170,66 +182,66 @@ stays_so {F = F} {did = did} {s = s} {t = t} {p = p} {r = r} same kept h = recor
 }
 
 -- another plan that is the same
-pub does_same : {F A : Type 0} {did : F → List Act → Type 0} {s t : Server F} {p q : Plan A} {r : Result A Errno} → p ≡ q → Does did s t p r → Does did s t q r
+pub does_same : {F A : Type 0} {did : F → F → List Act → Type 0} {s t : Server F} {p q : Plan A} {r : Result A Errno} → p ≡ q → Does did s t p r → Does did s t q r
 does_same {A = A} {did = did} {s = s} {t = t} {r = r} is h = subst (λ (x : Plan A). Does did s t x r) is h
 
 -- ---- the exits of a function that answers a message
 
 -- a part gave a value
-pub and_then : {F A B : Type 0} {did : F → List Act → Type 0} {s t u : Server F} {p : Plan A} {q : Result A Errno} (k : A → Plan B) {a : A} {r : Result B Errno}
+pub and_then : {F A B : Type 0} {did : F → F → List Act → Type 0} {s t u : Server F} {p : Plan A} {q : Result A Errno} (k : A → Plan B) {a : A} {r : Result B Errno}
     → Does did s t p q → q ≡ Ok a → Does did t u (k a) r → Does did s u (p >>= k) r
 and_then k h is g = after k (does_as is h) g
 
 -- it gave an error, which is passed on
-pub stops : {F A B : Type 0} {did : F → List Act → Type 0} {s t : Server F} {p : Plan A} {q : Result A Errno} (k : A → Plan B) {e : Errno} (r : Result B Errno)
+pub stops : {F A B : Type 0} {did : F → F → List Act → Type 0} {s t : Server F} {p : Plan A} {q : Result A Errno} (k : A → Plan B) {e : Errno} (r : Result B Errno)
     → IsErrAnd r (λ x. x ≡ e) → Does did s t p q → q ≡ Err e → Does did s t (p >>= k) r
 stops k {e = e} r passed h is = passed_on r e passed (fails k (does_as is h))
 
 -- a result that is known
-pub after_given : {F A B : Type 0} {did : F → List Act → Type 0} {s t : Server F} {x : Result A Errno} (k : A → Plan B) {a : A} {r : Result B Errno}
+pub after_given : {F A B : Type 0} {did : F → F → List Act → Type 0} {s t : Server F} {x : Result A Errno} (k : A → Plan B) {a : A} {r : Result B Errno}
     → x ≡ Ok a → Does did s t (k a) r → Does did s t (given x >>= k) r
 unfolding given ◌>>=◌
 after_given {A = A} {did = did} {s = s} {t = t} k {r = r} is h = subst (λ (y : Result A Errno). Does did s t (given y >>= k) r) (sym is) h
 
-pub fails_given : {F A B : Type 0} {did : F → List Act → Type 0} {s : Server F} {x : Result A Errno} (k : A → Plan B) {e : Errno}
+pub fails_given : {F A B : Type 0} {did : F → F → List Act → Type 0} {s : Server F} {x : Result A Errno} (k : A → Plan B) {e : Errno}
     → x ≡ Err e → Does did s s (given x >>= k) (Err e)
 unfolding given ◌>>=◌
 fails_given {A = A} {did = did} {s = s} k {e = e} is = subst (λ (y : Result A Errno). Does did s s (given y >>= k) (Err e)) (sym is) (gives did s (Err e))
 
 -- a fact of what is kept
-pub after_known : {F A B : Type 0} {did : F → List Act → Type 0} {s t : Server F} (f : Kept → A) (k : A → Plan B) {a : A} {r : Result B Errno}
+pub after_known : {F A B : Type 0} {did : F → F → List Act → Type 0} {s t : Server F} (f : Kept → A) (k : A → Plan B) {a : A} {r : Result B Errno}
     → a ≡ f (kept_of s) → Does did s t (k a) r → Does did s t (Knows (λ kept. Gives (f kept)) >>= k) r
 unfolding ◌>>=◌
 after_known {A = A} {did = did} {s = s} {t = t} f k {r = r} is h = knows_it (subst (λ (x : A). Does did s t (k x) r) is h)
 
 -- one of two plans
-pub chosen : {F A : Type 0} {did : F → List Act → Type 0} {s t : Server F} {b : Bool} {p : Plan A} (q : Plan A) {r : Result A Errno} → b ≡ true → Does did s t p r → Does did s t (if b then p else q) r
+pub chosen : {F A : Type 0} {did : F → F → List Act → Type 0} {s t : Server F} {b : Bool} {p : Plan A} (q : Plan A) {r : Result A Errno} → b ≡ true → Does did s t p r → Does did s t (if b then p else q) r
 chosen {did = did} {s = s} {t = t} {p = p} q {r = r} is h = subst (λ (x : Bool). Does did s t (if x then p else q) r) (sym is) h
 
-pub not_chosen : {F A : Type 0} {did : F → List Act → Type 0} {s t : Server F} {b : Bool} (p : Plan A) {q : Plan A} {r : Result A Errno} → b ≡ false → Does did s t q r → Does did s t (if b then p else q) r
+pub not_chosen : {F A : Type 0} {did : F → F → List Act → Type 0} {s t : Server F} {b : Bool} (p : Plan A) {q : Plan A} {r : Result A Errno} → b ≡ false → Does did s t q r → Does did s t (if b then p else q) r
 not_chosen {did = did} {s = s} {t = t} p {q = q} {r = r} is h = subst (λ (x : Bool). Does did s t (if x then p else q) r) (sym is) h
 
 -- the end: a result, a value or an error
-pub gives_as : {F A : Type 0} {did : F → List Act → Type 0} {s : Server F} {q r : Result A Errno} → r ≡ q → Does did s s (given q) r
+pub gives_as : {F A : Type 0} {did : F → F → List Act → Type 0} {s : Server F} {q r : Result A Errno} → r ≡ q → Does did s s (given q) r
 gives_as {did = did} {s = s} {q = q} is = does_as (sym is) (gives did s q)
 
-pub gives_it : {F A : Type 0} {did : F → List Act → Type 0} {s : Server F} {a b : A} → a ≡ b → Does did s s (Gives b) (Ok a)
+pub gives_it : {F A : Type 0} {did : F → F → List Act → Type 0} {s : Server F} {a b : A} → a ≡ b → Does did s s (Gives b) (Ok a)
 unfolding given
 gives_it {A = A} {did = did} {s = s} {b = b} is = subst (λ (x : A). Does did s s (Gives b) (Ok x)) (sym is) (gives_ok did s b)
 
-pub refuses : {F A : Type 0} {did : F → List Act → Type 0} {s : Server F} {e : Errno} → Does did s s (let p : Plan A = Refuses e in p) (Err e)
+pub refuses : {F A : Type 0} {did : F → F → List Act → Type 0} {s : Server F} {e : Errno} → Does did s s (let p : Plan A = Refuses e in p) (Err e)
 unfolding given
 refuses {did = did} {s = s} {e = e} = gives did s (Err e)
 
--- a change of the nodes, and a value
-pub changes : {F A : Type 0} {did : F → List Act → Type 0} {s t : Server F} {change : Change} (a : A)
-    → s.file_system ≡ t.file_system → t.files ≡ s.files → Turns change (table_of s.nodes) (table_of t.nodes) → Does did s t (Keeps change (Gives a)) (Ok a)
+-- a change, and a value
+pub changes : {F A : Type 0} {did : F → F → List Act → Type 0} {s t : Server F} {change : Change} (a : A)
+    → s.file_system ≡ t.file_system → t.files ≡ files_after change s.files → Turns change (table_of s.nodes) (table_of t.nodes) → Does did s t (Keeps change (Gives a)) (Ok a)
 changes {did = did} {t = t} a same files turns = keeps_it same (record { nodes = turns; files = files }) (gives_ok did t a)
 
 -- what takes memory, as a word: it is what it should be, or refused
 pub is_held : {A : Type 0} (it : A) (r : Result A Errno) (a : A) → IfOk r (λ x. x ≡ it) → r ≡ Ok a → a ≡ it
 is_held {A = A} it r a h is = subst (λ (x : Result A Errno). IfOk x (λ y. y ≡ it)) is h
 
-pub is_not_held : {F A B : Type 0} {did : F → List Act → Type 0} {s : Server F} {p : Plan A} (q : Result B Errno) {e : Errno} (r : Result A Errno)
+pub is_not_held : {F A B : Type 0} {did : F → F → List Act → Type 0} {s : Server F} {p : Plan A} (q : Result B Errno) {e : Errno} (r : Result A Errno)
     → IfErr q (λ x. x ≡ ENOMEM) → q ≡ Err e → IsErrAnd r (λ x. x ≡ e) → Does did s s (Takes p) r
 is_not_held {B = B} q {e = e} r h is passed = passed_on r e passed (lacking (subst (λ (x : Result B Errno). IfErr x (λ y. y ≡ ENOMEM)) is h))

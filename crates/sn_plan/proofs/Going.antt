@@ -2,7 +2,7 @@
 use Rattle.std.proofs.Common.{List, ◌++◌}
 use Rattle.sn_plan.specs.Acts.{Act}
 use Rattle.sn_plan.specs.Plans.{Kept, Plan, ◌>>=◌}
-use Rattle.sn_plan.specs.Follows.{Leads, stays, takes, lacks, called, found, unfound, seen, unseen, knows, keeps}
+use Rattle.sn_plan.specs.Follows.{Leads, stays, takes, lacks, called, found, unfound, seen, unseen, counted, knows, keeps}
 
 pub leads_on : {A : Type 0} {p q r : Plan A} {t u v : Kept} {a b : List Act} → Leads p t a q u → Leads q u b r v → Leads p t (a ++ b) r v
 leads_on stays g = g
@@ -13,6 +13,7 @@ leads_on (found h) g = found (leads_on h g)
 leads_on unfound stays = unfound
 leads_on (seen h) g = seen (leads_on h g)
 leads_on unseen stays = unseen
+leads_on (counted h) g = counted (leads_on h g)
 leads_on (knows h) g = knows (leads_on h g)
 leads_on (keeps becomes h) g = keeps becomes (leads_on h g)
 
@@ -27,5 +28,6 @@ leads_before k (found h) = found (leads_before k h)
 leads_before k unfound = unfound
 leads_before k (seen h) = seen (leads_before k h)
 leads_before k unseen = unseen
+leads_before k (counted h) = counted (leads_before k h)
 leads_before k (knows h) = knows (leads_before k h)
 leads_before k (keeps becomes h) = keeps becomes (leads_before k h)

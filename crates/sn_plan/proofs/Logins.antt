@@ -21,7 +21,7 @@ one_error : {d e : Errno} → (let failed : Result Call Errno = Err d in failed)
 one_error is = cc
 
 -- a login that is refused is the reply
-pub stays_out : {F : Type 0} (did : F → List Act → Type 0) (s : Server F) (next : Plan Reply) (reply : Reply) (refusal : Refusal)
+pub stays_out : {F : Type 0} (did : F → F → List Act → Type 0) (s : Server F) (next : Plan Reply) (reply : Reply) (refusal : Refusal)
     → reply ≡ Refused refusal → Does did s s (once_in next reply) (Ok reply)
 stays_out did s next reply refusal is = subst (λ (r : Reply). Does did s s (once_in next r) (Ok r)) (sym is) (gives_ok did s (Refused refusal))
 
@@ -38,12 +38,12 @@ next_once next (Progress progress) other = refl
 next_once next (Refused refusal) other = absurd (other refusal refl)
 next_once next (Unmounted fault) other = refl
 
-pub goes_in : {F : Type 0} {did : F → List Act → Type 0} {s t : Server F} {next : Plan Reply} {r : Result Reply Errno} (reply : Reply)
+pub goes_in : {F : Type 0} {did : F → F → List Act → Type 0} {s t : Server F} {next : Plan Reply} {r : Result Reply Errno} (reply : Reply)
     → ((refusal : Refusal) → reply ≡ Refused refusal → ⊥) → Does did s t next r → Does did s t (once_in next reply) r
 goes_in {did = did} {s = s} {t = t} {next = next} {r = r} reply other h = subst (λ (p : Plan Reply). Does did s t p r) (next_once next reply other) h
 
 -- the login is known
-pub is_asked : {F : Type 0} {did : F → List Act → Type 0} {s t : Server F} (x y : Result Call Errno) (login : Call) (k : Call → Plan Reply) {r : Result Reply Errno}
+pub is_asked : {F : Type 0} {did : F → F → List Act → Type 0} {s t : Server F} (x y : Result Call Errno) (login : Call) (k : Call → Plan Reply) {r : Result Reply Errno}
     → (y ≡ x) ⊎ (y ≡ Err ENOMEM) → y ≡ Ok login → Does did s t (k login) r → Does did s t (Takes (given x >>= k)) r
 unfolding given ◌>>=◌
 is_asked {did = did} {s = s} {t = t} x y login k {r = r} known is h = takes_it (⊎_elim
@@ -52,7 +52,7 @@ is_asked {did = did} {s = s} {t = t} x y login k {r = r} known is h = takes_it (
     known)
 
 -- it isn't
-pub is_not_asked : {F : Type 0} (did : F → List Act → Type 0) (s : Server F) (x y : Result Call Errno) (k : Call → Plan Reply) (e : Errno)
+pub is_not_asked : {F : Type 0} (did : F → F → List Act → Type 0) (s : Server F) (x y : Result Call Errno) (k : Call → Plan Reply) (e : Errno)
     → (y ≡ x) ⊎ (y ≡ Err ENOMEM) → y ≡ Err e → Does did s s (Takes (given x >>= k)) (Err e)
 unfolding given ◌>>=◌
 is_not_asked did s x y k e known is = ⊎_elim

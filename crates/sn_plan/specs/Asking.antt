@@ -8,8 +8,9 @@ use Rattle.sn_model.specs.declared.call.Call.TheVariants.{Logout, Umask}
 use Rattle.sn_model.specs.declared.reply.Reply.{Reply}
 use Rattle.sn_model.specs.declared.reply.Reply.TheVariants.{Refused}
 use Rattle.sn_walk.specs.declared.view.Attributes.{Attributes}
-use Rattle.sn_plan.specs.Plans.{Plan, Gives, Takes, Calls, Finds, Sees, given, ◌>>=◌}
+use Rattle.sn_plan.specs.Plans.{Plan, Gives, Takes, Calls, Counts, Finds, Sees, given, ◌>>=◌}
 use Rattle.sn_plan.specs.declared.asking.Asker.{Asker}
+use Rattle.sn_plan.specs.declared.file_system.Space.{Space}
 
 -- a call of a session, which gives its reply
 unfoldable pub calls : ℕ → Call → Plan Reply
@@ -20,6 +21,9 @@ finds path = Finds path (λ found. Gives found)
 
 unfoldable pub sees : ℕ → Plan (Option Attributes)
 sees number = Sees number (λ seen. Gives seen)
+
+unfoldable pub counts : Plan Space
+counts = Counts (λ space. Gives space)
 
 -- session 1 is the caller's, for one call
 unfoldable pub as_caller : Call → Plan Reply

@@ -7,10 +7,11 @@ use Rattle.sn_model.specs.declared.call.Call.{Call}
 use Rattle.sn_model.specs.declared.reply.Reply.{Reply}
 use Rattle.sn_node_table.specs.Told.{table_of}
 use Rattle.sn_walk.specs.declared.view.Attributes.{Attributes}
-use Rattle.sn_plan.specs.Acts.{Act, Called, Found, Seen, Grows}
+use Rattle.sn_plan.specs.Acts.{Act, Called, Counted, Found, Seen, Grows}
 use Rattle.sn_plan.specs.Errors.{fault_errno}
-use Rattle.sn_plan.specs.Plans.{Kept, Change, Becomes, Plan, Refuses, Takes, Calls, Finds, Sees, Knows, Keeps, given}
+use Rattle.sn_plan.specs.Plans.{Kept, Change, Becomes, Plan, Refuses, Takes, Calls, Finds, Sees, Counts, Knows, Keeps, given}
 use Rattle.sn_plan.specs.declared.errors.LookFault.{LookFault}
+use Rattle.sn_plan.specs.declared.file_system.Space.{Space}
 use Rattle.sn_plan.specs.declared.server.Server.{Server}
 
 -- Acts lead from a plan to what is left of it, and from what is kept to what is kept then. A refusal of memory, and a look that fails, end it
@@ -29,6 +30,8 @@ pub data Leads {A : Type 0} : Plan A → Kept → List Act → Plan A → Kept �
       → Leads (k attributes) t acts q u → Leads (Sees number k) t (Seen number (Ok attributes) ∷ acts) q u
   unseen : {number : ℕ} {fault : LookFault} {k : Option Attributes → Plan A} {t : Kept}
       → Leads (Sees number k) t (Seen number (Err fault) ∷ []) (Refuses (fault_errno fault)) t
+  counted : {space : Space} {k : Space → Plan A} {q : Plan A} {t u : Kept} {acts : List Act}
+      → Leads (k space) t acts q u → Leads (Counts k) t (Counted space ∷ acts) q u
   knows : {k : Kept → Plan A} {q : Plan A} {t u : Kept} {acts : List Act} → Leads (k t) t acts q u → Leads (Knows k) t acts q u
   keeps : {change : Change} {p q : Plan A} {t v u : Kept} {acts : List Act} → Becomes change t v → Leads p v acts q u → Leads (Keeps change p) t acts q u
 
@@ -36,13 +39,13 @@ abbrev pub kept_of : {F : Type 0} → Server F → Kept
 kept_of s = record { nodes = table_of s.nodes; files = s.files }
 
 -- a server has done acts that lead from a plan to what is left of it
-pub record Goes {F A : Type 0} (did : F → List Act → Type 0) (old new : Server F) (p q : Plan A) : Type 0 where
+pub record Goes {F A : Type 0} (did : F → F → List Act → Type 0) (old new : Server F) (p q : Plan A) : Type 0 where
   pub acts : List Act
   pub grows : Grows (did old.file_system) (did new.file_system) acts
   pub leads : Leads p (kept_of old) acts q (kept_of new)
 
 -- a server has done what a plan asks for, and this is what it gives
-pub record Does {F A : Type 0} (did : F → List Act → Type 0) (old new : Server F) (p : Plan A) (r : Result A Errno) : Type 0 where
+pub record Does {F A : Type 0} (did : F → F → List Act → Type 0) (old new : Server F) (p : Plan A) (r : Result A Errno) : Type 0 where
   pub goes : Goes did old new p (given r)
 
 -- the same of a text, or of none
@@ -51,7 +54,7 @@ text_of (Ok (Some text)) = Ok (Some text.items)
 text_of (Ok None) = Ok None
 text_of (Err e) = Err e
 
-abbrev pub Tells : {F : Type 0} → (F → List Act → Type 0) → Server F → Server F → Plan (Option (List ℕ)) → Result (Option (ArrayVec ℕ)) Errno → Type 0
+abbrev pub Tells : {F : Type 0} → (F → F → List Act → Type 0) → Server F → Server F → Plan (Option (List ℕ)) → Result (Option (ArrayVec ℕ)) Errno → Type 0
 Tells did old new p r = Does did old new p (text_of r)
 
 -- the same of a text that is there
@@ -59,5 +62,5 @@ abbrev pub bytes_of : Result (ArrayVec ℕ) Errno → Result (List ℕ) Errno
 bytes_of (Ok text) = Ok text.items
 bytes_of (Err e) = Err e
 
-abbrev pub Writes : {F : Type 0} → (F → List Act → Type 0) → Server F → Server F → Plan (List ℕ) → Result (ArrayVec ℕ) Errno → Type 0
+abbrev pub Writes : {F : Type 0} → (F → F → List Act → Type 0) → Server F → Server F → Plan (List ℕ) → Result (ArrayVec ℕ) Errno → Type 0
 Writes did old new p r = Does did old new p (bytes_of r)

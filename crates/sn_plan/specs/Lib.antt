@@ -5,3 +5,4 @@ pub mod Follows
 pub mod Asking
 pub mod Replies
 pub mod Places
+pub mod Handles

@@ -1,19 +1,28 @@
 //! What a server serves.
 ghost use Rattle.std.specs.Prelude.{◌∷◌, [], List};
-ghost use Rattle.sn_plan.specs.Acts.{Act, Called, Found, Seen};
+ghost use Rattle.sn_plan.specs.Acts.{Act, Called, Counted, Found, Seen};
 ghost use Rattle.sn_plan.specs.Acts.{Grows};
 
 use crate::errors::LookFault;
 use sn_model::{Call, Reply};
 use sn_walk::Attributes;
 
+/// How much room a file system has.
+#[derive(Clone, Copy, PartialEq, Eq, Debug)]
+pub struct Space {
+    /// The blocks of its data area.
+    pub blocks: u64,
+    /// The free ones that no change was charged with, and that no tree holds that is to go.
+    pub left: u64,
+}
+
 /// What a server serves: it answers calls, and looks at what is there.
 ///
 /// Each object has a number, by which the mount shows it: two objects have two, and so has a snapshot that was deleted and one that is made
 /// under its name later.
 pub trait FileSystem {
-    /// Whether these acts are what was done so far, in this order. One of which that isn't known has done none.
-    ghost did: { Self → List Act → Type 0 } = { λ _ _. ⊥ };
+    /// Whether these acts are what was done from the second one on up to the first, in this order. Of one of which that isn't known nothing is.
+    ghost did: { Self → Self → List Act → Type 0 } = { λ _ _ _. ⊥ };
 
     /// The reply to a call of a session.
     fn call(&mut self, session: u32, call: &Call) -> Reply
@@ -26,4 +35,8 @@ pub trait FileSystem {
     /// The attributes of the object with a number, `None` where there is none. Nothing changes.
     fn node(&mut self, number: u64) -> Result<Option<Attributes>, LookFault>
         ensures { Grows (did self.old) (did self.new) (Seen number result ∷ []) };
+
+    /// How much room there is. Nothing changes.
+    fn space(&mut self) -> Space
+        ensures { Grows (did self.old) (did self.new) (Counted result ∷ []) };
 }

@@ -16,10 +16,13 @@
 //!   Else the name that it was made of is forgotten, and the node's next one is tried ([`Server::place`], [`Server::path`],
 //!   [`Server::child`]).
 //!
+//! - `vacant` and `open_file` (`specs/Handles`): the handle of the next open file, and what a handle stands for ([`Server::vacant`],
+//!   [`Server::open_file`]). The changes of both tables are in `handles`.
+//!
 //! A refusal of memory is `ENOMEM`, and may come only where a plan takes some (`Takes`): never between a login and its logout. A look that
 //! fails ends a message with `EIO` or `ENOMEM`.
 //!
-//! The way through: `file_system` has the trait, `server` what is held, `asking` the calls, `looking` the looks, `places` the paths, `errors`
+//! The way through: `file_system` has the trait, `server` what is held, `asking` the calls, `looking` the looks, `places` the paths, `handles` the counts and the open files, `errors`
 //! and `replies` what calls answered, as a message's answer has it.
 //!
 //! What the sources leave open is decided in `docs/DECISIONS.md`, under "Plans of messages".
@@ -34,6 +37,7 @@
 mod asking;
 mod errors;
 mod file_system;
+mod handles;
 mod looking;
 mod places;
 mod replies;
@@ -41,6 +45,6 @@ mod server;
 
 pub use asking::{Asker, word};
 pub use errors::{LookFault, errno_of};
-pub use file_system::FileSystem;
+pub use file_system::{FileSystem, Space};
 pub use replies::{done, status};
 pub use server::Server;

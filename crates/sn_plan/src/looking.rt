@@ -1,8 +1,9 @@
 //! Looks of a server.
-ghost use Rattle.sn_plan.specs.Asking.{finds, sees};
+ghost use Rattle.std.specs.Prelude.{Ok};
+ghost use Rattle.sn_plan.specs.Asking.{counts, finds, sees};
 ghost use Rattle.sn_plan.specs.Follows.{Does};
 
-use crate::file_system::FileSystem;
+use crate::file_system::{FileSystem, Space};
 use crate::server::Server;
 use sn_fuse_replies::Errno;
 use sn_walk::Attributes;
@@ -16,6 +17,13 @@ impl<F: FileSystem> Server<F> {
             Ok(found) => Ok(found),
             Err(fault) => Err(fault.errno()),
         }
+    }
+
+    /// How much room there is.
+    pub fn space(&mut self) -> Space
+        ensures { Does F.did self.old self.new counts (Ok result) }
+    {
+        self.file_system.space()
     }
 
     /// The attributes of the object with a number.

@@ -20,7 +20,7 @@ pub image_missing : (known : Result (List ℕ) Errno) (r : Result (ArrayVec ℕ)
 image_missing known r m is = subst (λ (x : Result (ArrayVec ℕ) Errno). MatchResult x (λ a. known ≡ Ok a.items) (λ e. known ≡ Err e)) is m
 
 -- whether a directory is that of the snapshots
-pub after_snapshots : {F B : Type 0} {did : F → List Act → Type 0} {s t : Server F} (id : ℕ) (k : Bool → Plan B) {b : Bool} {r : Result B Errno}
+pub after_snapshots : {F B : Type 0} {did : F → F → List Act → Type 0} {s t : Server F} (id : ℕ) (k : Bool → Plan B) {b : Bool} {r : Result B Errno}
     → b ≡ is_snapshots id (kept_of s) → Does did s t (k b) r → Does did s t (are_snapshots id >>= k) r
 unfolding are_snapshots
 after_snapshots id k is h = after_known (is_snapshots id) k is h

@@ -8,7 +8,7 @@ use sn_model::{Call, FileStatus};
 use sn_plan::{Asker, FileSystem, Server, done, status, word};
 
 /// Makes a call as who asks. The error of one that is refused.
-pub(crate) fn does<F: FileSystem>(
+pub fn does<F: FileSystem>(
     server: &mut Server<F>,
     asker: &Asker<'_>,
     call: &Call,
@@ -20,7 +20,7 @@ pub(crate) fn does<F: FileSystem>(
 }
 
 /// What who asks is told of what is at a path.
-pub(crate) fn status_as<F: FileSystem>(
+pub fn status_as<F: FileSystem>(
     server: &mut Server<F>,
     asker: &Asker<'_>,
     path: &[u8],

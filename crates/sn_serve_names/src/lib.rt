@@ -6,6 +6,9 @@
 //!
 //! In the directory of snapshots MKDIR makes a snapshot and RMDIR deletes one.
 //!
+//! The other messages use what these share: [`child_of`], the name of a directory with its path; [`met_at`] and [`made_at`], the answer for what
+//! was found or made under it; [`status_at`], [`status_as`] and [`does`], what user 0 and who asks are told.
+//!
 //! The way through: `names` has the names, `entries` what is told of a node, `meeting` how it gets its id, `asking` the calls, and `looking`,
 //! `making`, `removing` and `moving` the messages.
 //!
@@ -26,8 +29,11 @@ mod moving;
 mod names;
 mod removing;
 
+pub use asking::{does, status_as};
 pub use entries::{attributes_of, entry_of};
 pub use looking::{access, lookup};
 pub use making::mkdir;
+pub use meeting::{made_at, met_at, number_at, status_at};
 pub use moving::{link, rename};
+pub use names::{Child, child_of, is_snapshots};
 pub use removing::{rmdir, unlink};

@@ -12,7 +12,7 @@ use sn_node_table::NodeFault;
 use sn_plan::{FileSystem, Server, status, word};
 
 /// The number of what is at a path. `ENOENT` where nothing is.
-fn number_at<F: FileSystem>(server: &mut Server<F>, path: &[u8]) -> Result<u64, Errno>
+pub fn number_at<F: FileSystem>(server: &mut Server<F>, path: &[u8]) -> Result<u64, Errno>
     ensures { Does F.did server.old server.new (entries.number_at path.now) result }
 {
     let found = server.find(path)?;
@@ -20,10 +20,7 @@ fn number_at<F: FileSystem>(server: &mut Server<F>, path: &[u8]) -> Result<u64, 
 }
 
 /// What user 0 is told of what is at a path.
-pub(crate) fn status_at<F: FileSystem>(
-    server: &mut Server<F>,
-    path: &[u8],
-) -> Result<FileStatus, Errno>
+pub fn status_at<F: FileSystem>(server: &mut Server<F>, path: &[u8]) -> Result<FileStatus, Errno>
     ensures { Does F.did server.old server.new (entries.status_at path.now) result }
 {
     let path = word(server.alloc, path)?;
@@ -72,7 +69,7 @@ fn make<F: FileSystem>(
 }
 
 /// The answer for an object that was found under a name of a directory.
-pub(crate) fn met_at<F: FileSystem>(
+pub fn met_at<F: FileSystem>(
     server: &mut Server<F>,
     parent: u64,
     child: &Child,
@@ -86,7 +83,7 @@ pub(crate) fn met_at<F: FileSystem>(
 }
 
 /// The answer for an object that was made under a name of a directory.
-pub(crate) fn made_at<F: FileSystem>(
+pub fn made_at<F: FileSystem>(
     server: &mut Server<F>,
     parent: u64,
     child: &Child,

@@ -16,7 +16,7 @@ const SNAPSHOTS: u64 = 65_537;
 
 /// A name of a directory, for calls and for the table of nodes. Whether something has it isn't said.
 #[derive(Drop)]
-pub(crate) struct Child {
+pub struct Child {
     name: ArrayVec<u8, NAME_MAX>,
     path: PathText,
 }
@@ -58,7 +58,7 @@ fn image_of(name: &[u8]) -> Result<ArrayVec<u8, NAME_MAX>, Errno>
 
 /// A name of a directory, whose own path is looked at. `EINVAL` where no directory can have that name; `ENAMETOOLONG` where that of the image
 /// has over 255 bytes, or the path over 1,023; `ESTALE` where the id has no node, or no name leads to it.
-pub(crate) fn child_of<F: FileSystem>(
+pub fn child_of<F: FileSystem>(
     server: &mut Server<F>,
     parent: u64,
     name: &[u8],
@@ -71,7 +71,7 @@ pub(crate) fn child_of<F: FileSystem>(
 }
 
 /// Whether an id is that of the directory of snapshots.
-pub(crate) fn is_snapshots<F: FileSystem>(server: &Server<F>, id: u64) -> bool
+pub fn is_snapshots<F: FileSystem>(server: &Server<F>, id: u64) -> bool
     ensures { result ≡ names.is_snapshots id (kept_of server.now) }
 {
     server.nodes.inode(id) == Some(SNAPSHOTS)

@@ -1,2 +1,3 @@
 pub mod ServedLemmas
 pub mod RunLemmas
+pub mod PaceLemmas

@@ -1,8 +1,8 @@
 -- What events lead a mounted file system to.
 use Rattle.std.proofs.Common.{◌≡◌, ◌+◌, ℕ, zero, suc, Bool, false, List, [], ◌∷◌, ◌++◌, length, replicate, refl, sym, ap, subst, ◌∙◌, true≢false, length-append, arith}
-use Rattle.std.specs.Prelude.{IsTrue}
+use Rattle.std.specs.Prelude.{IsTrue, IfErr, OnOk, Result, Ok, Err}
 use Rattle.sn_cp_progress.specs.Meaning.{Means}
-use Rattle.sn_cp_progress.proofs.MeaningLemmas.{runs_with}
+use Rattle.sn_cp_progress.proofs.MeaningLemmas.{counted_with, runs_with}
 use Rattle.sn_device.specs.Disk.{Disk, reads}
 use Rattle.sn_device.specs.Sectors.{Contents}
 use Rattle.sn_device.specs.declared.status.Status.{Status}
@@ -10,10 +10,13 @@ use Rattle.sn_events.specs.Answers.{Answers}
 use Rattle.sn_events.specs.Mounting.{Mounts}
 use Rattle.sn_examine.specs.Laws.{IsSomeClean}
 use Rattle.sn_examine.proofs.ImageLemmas.{clean_image}
+use Rattle.sn_fs.specs.Looking.{IsUnseen}
 use Rattle.sn_held.specs.Held.{Held}
 use Rattle.sn_held.specs.Images.{IsImage}
 use Rattle.sn_limits.specs.Versions.{limits_written}
 use Rattle.sn_limits.proofs.VersionLemmas.{written_allows}
+use Rattle.sn_live_world.specs.declared.fault.LookFault.{LookFault}
+use Rattle.sn_live_world.specs.declared.fault.LookFault.TheVariants as look
 use Rattle.sn_model.specs.declared.call.Event.{Event}
 use Rattle.sn_model.specs.declared.call.Event.TheVariants as event
 use Rattle.sn_model.specs.declared.end.End.{End}
@@ -139,3 +142,36 @@ steps_more told old mid new first more = (
 
 pub steps_one : (told : Bool) (reply : Reply) (old new : Served) → (IsTrue told → Leads (event.Step ∷ []) (reply ∷ []) old new) → Steps told old new
 steps_one told reply old new leads = (reply ∷ [], leads)
+
+-- ---- looks
+
+-- one that fails leaves what is served
+unseen_keeps : (fault : LookFault) (old new : Held) (has_stopped : Bool) → IsUnseen fault old new → served_of new has_stopped ≡ served_of old has_stopped
+unseen_keeps look.Memory old new has_stopped is = ap (λ (h : Held). served_of h has_stopped) is
+unseen_keeps look.Read old new has_stopped is = ap (λ (h : Held). served_of h has_stopped) is.0
+
+-- what the device counts of a read decides nothing
+counted_means : (h : Held) (has_stopped : Bool) (status : Status) (state : State) → Means h has_stopped state → Means (record h { status = status }) has_stopped state
+counted_means h has_stopped status (Running world) m = (m.0, counted_with h.point h world status m.1)
+counted_means h has_stopped status (Stopped before after) m = m
+
+unseen_means : (fault : LookFault) (old new : Held) (has_stopped : Bool) (state : State) → IsUnseen fault old new → Means old has_stopped state → Means new has_stopped state
+unseen_means look.Memory old new has_stopped state is m = subst (λ (h : Held). Means h has_stopped state) (sym is) m
+unseen_means look.Read old new has_stopped state is m =
+    subst (λ (h : Held). Means h has_stopped state) (sym is.0) (counted_means old has_stopped new.status state m)
+
+module _ {T : Type 0} (told : Bool) (result : Result T LookFault) (old new : Held) (had_stopped has_stopped : Bool) (same : has_stopped ≡ had_stopped)
+    (quiet : IsTrue told → OnOk result (new ≡ old)) (unseen : IsTrue told → IfErr result (λ fault. IsUnseen fault old new)) where
+  kept_by : (r : Result T LookFault) → OnOk r (new ≡ old) → IfErr r (λ fault. IsUnseen fault old new) → served_of new had_stopped ≡ served_of old had_stopped
+  kept_by (Ok x) is _ = ap (λ (h : Held). served_of h had_stopped) is
+  kept_by (Err fault) _ is = unseen_keeps fault old new had_stopped is
+
+  meant_by : (r : Result T LookFault) (state : State) → OnOk r (new ≡ old) → IfErr r (λ fault. IsUnseen fault old new) → Means old had_stopped state → Means new had_stopped state
+  meant_by (Ok x) state is _ m = subst (λ (h : Held). Means h had_stopped state) (sym is) m
+  meant_by (Err fault) state _ is m = unseen_means fault old new had_stopped state is m
+
+  pub look_keeps : IsTrue told → served_of new has_stopped ≡ served_of old had_stopped
+  look_keeps is = ap (served_of new) same ∙ kept_by result (quiet is) (unseen is)
+
+  pub look_means : MeansSome told old had_stopped → MeansSome told new has_stopped
+  look_means some is = ((some is).0, subst (λ (b : Bool). Means new b (some is).0) (sym same) (meant_by result (some is).0 (quiet is) (unseen is) (some is).1))

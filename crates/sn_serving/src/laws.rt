@@ -1,4 +1,5 @@
 //! What the events that were chosen are together.
+ghost use Rattle.sn_serving.specs.Paces.{PointsEndInTime};
 ghost use Rattle.sn_serving.specs.Served.{ServedIsRun};
 
 /// A mount, the events that were chosen, and the unmount are a run.
@@ -7,4 +8,12 @@ ghost use Rattle.sn_serving.specs.Served.{ServedIsRun};
 /// disk was an image of, and a crash leaves what that leaves.
 pub fn serving_laws()
     ensures { ServedIsRun }
+{}
+
+/// The steps that are due end a point in time.
+///
+/// Proved: With the steps that are due after each call, a point in progress ends before the records of 28,672 bytes that fit in the half of the
+/// log are logged, so that no such call makes one.
+pub fn pace_laws()
+    ensures { PointsEndInTime }
 {}

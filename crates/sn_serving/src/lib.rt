@@ -6,7 +6,7 @@
 //! anything but the state before an event or after it. The law [`serving_laws`] says that a mount, the events that were chosen, and the
 //! unmount are together a run of the machine with all that a crash leaves of it, as the contract of `run` (`sn_run`) says.
 //!
-//! The way through: `serving` has the calls and the unmount, `pace` how many steps of consistency points are due after a call
+//! The way through: `serving` has the calls, the looks and the unmount, `pace` how many steps of consistency points are due after a call
 //! (`specs/Paces`), so that none has to make a whole point, and `laws` the law.
 //!
 //! What the sources leave open is decided in `docs/DECISIONS.md`, under "Mount and calls over a device".
@@ -23,6 +23,6 @@ mod laws;
 mod pace;
 mod serving;
 
-pub use laws::serving_laws;
+pub use laws::{pace_laws, serving_laws};
 pub use pace::{Room, steps_due};
 pub use serving::Serving;

@@ -15,7 +15,7 @@ pub struct Room {
     pub left: u32,
 }
 
-// The sectors of the longest record, that of a write of 28,672 bytes.
+// The sectors of the record of a write of 28,672 bytes, the most that a mount and an import write at once.
 const RECORD_SECTORS: u64 = 59;
 
 // Half of a half of the log.

@@ -3,7 +3,8 @@ ghost use Rattle.std.specs.Prelude.{◌≡◌, ◌++◌, ◌∷◌, [], List, Is
 ghost use Rattle.sn_check.specs.Verdicts.{IsCause};
 ghost use Rattle.sn_device.specs.Disk.{reads};
 ghost use Rattle.sn_held.specs.Images.{IsImage};
-ghost use Rattle.sn_model.specs.World.{World};
+ghost use Rattle.sn_live_view.specs.Looking.{known_by};
+ghost use Rattle.sn_model.specs.World.{World, trees_of, viewed_trees};
 ghost use Rattle.sn_model.specs.declared.call.Event.{Event as Chosen};
 ghost use Rattle.sn_model.specs.declared.call.Event.TheVariants as event;
 ghost use Rattle.sn_model.specs.declared.end.End.TheVariants as ending;
@@ -11,9 +12,13 @@ ghost use Rattle.sn_model.specs.declared.reply.Reply.{Reply as Told};
 ghost use Rattle.sn_run.specs.Ending.{IsLastEnd};
 ghost use Rattle.sn_run.specs.Runs.{IsRunOf};
 ghost use Rattle.sn_serving.specs.Served.{IsMountOf, Leads, Unmounts};
+ghost use Rattle.sn_walk.specs.Views.{attributes_at};
 
 use crate::pace::{Room, steps_due};
-use sn_core::{Call, Device, End, Progress, Reply, Unmounted, mount};
+use sn_core::{
+    Attributes, Call, Device, End, Known, LookFault, Object, Path, Progress, Reply, Unmounted,
+    mount,
+};
 use sn_run::Server;
 use std::alloc::Global;
 use std::marker::Model;
@@ -84,6 +89,37 @@ impl<D: Device + Drop> Serving<D> {
         ensures { IsTrue D.tells_bytes → Leads (event.Step ∷ []) (result ∷ []) self.old self.new }
     {
         self.server.step()
+    }
+
+    /// What a path leads user 0 to, as `Fs::find` (`sn_fs`) does. `Read` where a block can't be read, and where it has stopped.
+    ///
+    /// Proved, also of `Serving::node`: What user 0 is told is what the model's walk finds in the world that is served, and nothing
+    /// changes.
+    pub fn find(&mut self, path: Path<'_>) -> Result<Option<Known>, LookFault>
+        ensures found { IsTrue D.tells_bytes → IfOk result (λ known. known ≡ known_by (viewed_trees (trees_of self.old.world)) path.entry) }
+        ensures quiet { IsTrue D.tells_bytes → self.new ≡ self.old }
+    {
+        if self.has_stopped() {
+            return Err(LookFault::Read);
+        }
+        match &mut self.server {
+            Server::Mounted(fs) => fs.find(path),
+            Server::Unmounted(_) => Err(LookFault::Read),
+        }
+    }
+
+    /// What is known of an object, as `Fs::node` (`sn_fs`) does. Faults are those of [`Serving::find`].
+    pub fn node(&mut self, object: Object) -> Result<Option<Attributes>, LookFault>
+        ensures found { IsTrue D.tells_bytes → IfOk result (λ attributes. attributes ≡ attributes_at (viewed_trees (trees_of self.old.world)) object) }
+        ensures quiet { IsTrue D.tells_bytes → self.new ≡ self.old }
+    {
+        if self.has_stopped() {
+            return Err(LookFault::Read);
+        }
+        match &mut self.server {
+            Server::Mounted(fs) => fs.node(object),
+            Server::Unmounted(_) => Err(LookFault::Read),
+        }
     }
 
     /// What is left of the log, of the disk, and of the point in progress. Of one that has stopped it says nothing.

@@ -1,8 +1,8 @@
-use Rattle.std.proofs.Common.{◌++◌, [], List, false, arith, inl, refl, subst, sym, ◌∙◌}
+use Rattle.std.proofs.Common.{◌++◌, [], List, false, ap, arith, inl, refl, subst, sym, ◌∙◌}
 use Rattle.std.proofs.lemmas.Bool.{false≢true}
 use Rattle.std.specs.declared.option.Option.{Option}
 use Rattle.sn_import.specs.declared.object.Object.{Object}
-use Rattle.sn_untar.specs.Steps.{State, start, state_of}
+use Rattle.sn_untar.specs.Steps.{State, is_ended, start, state_of}
 use Rattle.sn_import_run.specs.Carried.{stop_of}
 use Rattle.sn_import_run.specs.Entries.{IsTaken}
 use Rattle.sn_import_run.specs.Files.{Came}
@@ -10,6 +10,7 @@ use Rattle.sn_import_run.specs.Imports.{end_told}
 use Rattle.sn_import_run.specs.Streams.{Takes}
 use Rattle.sn_import_run.specs.declared.stop.Stop.{Stop}
 use Rattle.sn_import_run.specs.declared.stop.Stop.TheVariants.{Unread}
+use Rattle.sn_import_run.proofs.Awaiting.{told_awaits}
 use Rattle.sn_import_run.proofs.Done.{Progress, read_end, read_whole, read_within, taken_count, taken_last, taken_next}
 use Rattle.sn_import_run.proofs.Made.{adds_more, adds_none}
 use Rattle.sn_import_run.proofs.Parts.{takes_none}
@@ -19,6 +20,7 @@ pub loop-turn-init : goal.loop-turn-init
 loop-turn-init g c =
     let input = g.R.Read.remaining c.args.archive.now in (
       omega arith,
+      ap (λ (s : State). is_ended s.phase) c.new-untar.ensures,
       (
         [],
         adds_none (g.C.Calls.did c.args.to.now),
@@ -39,17 +41,22 @@ end-requires g c = omega (arith, c.loop-turn.invariant.0)
 
 pub returns-in-Err : goal.returns-in-Err
 returns-in-Err g c =
-    let v = c.loop-turn.invariant.1 in
+    let v = c.loop-turn.invariant.2 in
     let told = end_told c.loop-turn.count (stop_of c.end.result) in
-    let r = read_end c.args.names.now c.args.directory.now (g.R.Read.remaining c.args.archive.now) _ _ c.loop-turn.count v.0 c.loop-turn.directories.items c.loop-turn.is_empty c.in-Err.stop c.end.result v.2.0 c.in-Err.ensures.broken v.2.1 c.end.ensures.whole c.end.ensures.same in
+    let r = read_end c.args.names.now c.args.directory.now (g.R.Read.remaining c.args.archive.now) _ _ c.loop-turn.count v.0 c.loop-turn.directories.items c.loop-turn.is_empty c.in-Err.stop c.end.result v.2.0 c.loop-turn.invariant.1 c.in-Err.ensures.broken v.2.1 c.end.ensures.whole c.end.ensures.same in
     (r.0, r.1, (v.0 ++ told, adds_more _ _ _ v.0 told v.1 c.end.ensures.told, r.2))
 
-pub take_on-requires : goal.take_on-requires
-take_on-requires g c = omega (arith, c.loop-turn.invariant.0)
+pub take_on-requires-clause-few : goal.take_on-requires-clause-few
+take_on-requires-clause-few g c = omega (arith, c.loop-turn.invariant.0)
+
+pub take_on-requires-clause-awaits : goal.take_on-requires-clause-awaits
+take_on-requires-clause-awaits g c =
+    let p = c.loop-turn.invariant.2.2.0 in
+    told_awaits (g.R.Read.remaining c.args.archive.now) _ p.parts (state_of c.loop-turn.untar) c.next_told.new.block c.in-Ok.told (state_of c.next_told.new.untar) p.takes c.in-Ok.ensures.step
 
 pub returns-in_err-take_on : goal.returns-in_err-take_on
 returns-in_err-take_on g c =
-    let v = c.loop-turn.invariant.1 in
+    let v = c.loop-turn.invariant.2 in
     let k = c.in_err-take_on.ensures in
     let names = c.args.names.now in
     let into = c.args.directory.now in
@@ -63,7 +70,7 @@ returns-in_err-take_on g c =
 
 pub returns-then-is_whole : goal.returns-then-is_whole
 returns-then-is_whole g c =
-    let v = c.loop-turn.invariant.1 in
+    let v = c.loop-turn.invariant.2 in
     let k = c.in_ok-take_on.ensures in
     let names = c.args.names.now in
     let into = c.args.directory.now in
@@ -77,13 +84,14 @@ returns-then-is_whole g c =
 pub loop-turn-preserved : goal.loop-turn-preserved
 loop-turn-preserved g c =
     let v = c.loop-turn.invariant in
-    let w = v.1 in
+    let w = v.2 in
     let k = c.in_ok-take_on.ensures in
     let names = c.args.names.now in
     let into = c.args.directory.now in
     let input = g.R.Read.remaining c.args.archive.now in
     let few = taken_count names into c.loop-turn.count c.in-Ok.told k.1 k.4.0 k.4.2.0 k.0 c.take_on.new.count k.4.2.2 in (
       omega (arith, few, v.0),
+      sym c.is_whole.ensures ∙ c.if-is_whole.false,
       (
         w.0 ++ k.4.0,
         adds_more _ _ _ w.0 k.4.0 w.1 k.4.1,
@@ -101,7 +109,7 @@ end-requires-2 g c = omega (arith, c.loop-turn.invariant.0)
 
 pub returns : goal.returns
 returns g c =
-    let v = c.loop-turn.invariant.1 in
+    let v = c.loop-turn.invariant.2 in
     let told = end_told c.loop-turn.count (stop_of c.end-2.result) in
-    let r = read_end c.args.names.now c.args.directory.now (g.R.Read.remaining c.args.archive.now) _ _ c.loop-turn.count v.0 c.loop-turn.directories.items false (Unread c.from-error.result) c.end-2.result v.2.0 tt (λ is. absurd (false≢true is)) c.end-2.ensures.whole c.end-2.ensures.same in
+    let r = read_end c.args.names.now c.args.directory.now (g.R.Read.remaining c.args.archive.now) _ _ c.loop-turn.count v.0 c.loop-turn.directories.items false (Unread c.from-error.result) c.end-2.result v.2.0 c.loop-turn.invariant.1 tt (λ is. absurd (false≢true is)) c.end-2.ensures.whole c.end-2.ensures.same in
     (r.0, r.1, (v.0 ++ told, adds_more _ _ _ v.0 told v.1 c.end-2.ensures.told, r.2))

@@ -1,0 +1,15 @@
+pub mod Steps
+pub mod Setting
+pub mod Held
+pub mod Writes
+pub mod Closing
+pub mod Opening
+pub mod Vacant
+pub mod Directories
+pub mod Links
+pub mod Contents
+pub mod Modes
+pub mod Rights
+pub mod Files
+pub mod Imports
+pub mod Named

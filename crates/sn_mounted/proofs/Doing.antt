@@ -1,0 +1,62 @@
+-- What was done, act by act, is part of a run.
+use Rattle.std.proofs.Common.{◌≡◌, ℕ, zero, suc, Bool, List, [], ◌∷◌, ◌++◌, length, replicate, refl, sym, ap, subst}
+use Rattle.std.proofs.lemmas.List.{append-nil}
+use Rattle.std.specs.Prelude.{IsTrue}
+use Rattle.sn_model.specs.declared.call.Event.{Event}
+use Rattle.sn_model.specs.declared.call.Event.TheVariants as event
+use Rattle.sn_model.specs.declared.reply.Reply.{Reply}
+use Rattle.sn_plan.specs.Acts.{Act, Called, Counted, Found, Seen, Grows}
+use Rattle.sn_serving.specs.Served.{Leads, Served}
+use Rattle.sn_serving.proofs.ServedLemmas.{leads_more, leads_none}
+use Rattle.sn_mounted.specs.Doing.{Did, DidFrom, Does, begins, calls, counts, does, finds, sees, steps}
+use Rattle.sn_mounted.specs.Runs.{AreEventsOf, DidIsRun, IsLook, IsPartOfRun, call, look, none, step}
+use Rattle.sn_mounted.specs.Shown.{Shown}
+
+pub grows_by : (told : Bool) (act : Act) (old new : Shown) → Does told act old new → Grows (DidFrom told old) (DidFrom told new) (act ∷ [])
+grows_by told act old new h = record { grows = λ first before d. does d h }
+
+-- ---- events
+
+events_more : {a b : List Act} {e f : List Event} {r s : List Reply} → AreEventsOf a e r → AreEventsOf b f s → AreEventsOf (a ++ b) (e ++ f) (r ++ s)
+events_more none more = more
+events_more (call are) more = call (events_more are more)
+events_more (step are) more = step (events_more are more)
+events_more (look is are) more = look is (events_more are more)
+
+events_of_steps : (replies : List Reply) → AreEventsOf [] (replicate (length replies) event.Step) replies
+events_of_steps [] = none
+events_of_steps (reply ∷ replies) = step (events_of_steps replies)
+
+-- what one act does is part of a run
+looks_on : (told : Bool) (act : Act) (old new : Shown) → IsLook act → (IsTrue told → new.served ≡ old.served) → IsPartOfRun told old new (act ∷ [])
+looks_on told act old new is same = record {
+  events = [];
+  replies = [];
+  are = look is none;
+  leads = λ known. subst (λ (s : Served). Leads [] [] old.served s) (sym (same known)) (leads_none old.served);
+}
+
+act_runs : (told : Bool) (act : Act) (old new : Shown) → Does told act old new → IsPartOfRun told old new (act ∷ [])
+act_runs told (Called session c reply) old new (calls leads places) = record { events = event.Call session c ∷ []; replies = reply ∷ []; are = call none; leads = leads }
+act_runs told (Found path found) old new (finds same is) = looks_on told (Found path found) old new tt same
+act_runs told (Seen number seen) old new (sees same places is) = looks_on told (Seen number seen) old new tt same
+act_runs told (Counted space) old new counts = looks_on told (Counted space) old old tt (λ known. refl)
+
+runs_more : (told : Bool) (a b : List Act) (first old new : Shown) → IsPartOfRun told first old a → IsPartOfRun told old new b → IsPartOfRun told first new (a ++ b)
+runs_more told a b first old new h more = record {
+  events = h.events ++ more.events;
+  replies = h.replies ++ more.replies;
+  are = events_more h.are more.are;
+  leads = λ is. leads_more h.events more.events h.replies more.replies first.served old.served new.served (h.leads is) (more.leads is);
+}
+
+pub did_runs : DidIsRun
+did_runs told first now acts begins = record { events = []; replies = []; are = none; leads = λ is. leads_none first.served }
+did_runs told first now acts (does {old} {new} {acts = before} {act} d h) = runs_more told before (act ∷ []) first old new (did_runs told first old before d) (act_runs told act old new h)
+did_runs told first now acts (steps {old} {new} {acts = before} {replies} d leads same) =
+    subst (λ (done : List Act). IsPartOfRun told first new done) (append-nil before) (runs_more told before [] first old new (did_runs told first old before d) (record {
+      events = replicate (length replies) event.Step;
+      replies = replies;
+      are = events_of_steps replies;
+      leads = leads;
+    }))

@@ -1,0 +1,28 @@
+use Rattle.std.proofs.Common.{◌≡◌, [], sym}
+use Rattle.std.proofs.lemmas.List.{append-nil}
+use Rattle.std.specs.Prelude.{Some}
+use Rattle.sn_fuse_replies.specs.declared.answer.Answer.TheVariants.{Error}
+use Rattle.sn_fuse_replies.specs.declared.errno.Errno.TheVariants.{EINVAL, ENOSYS}
+use Rattle.sn_serve.specs.Exchanges.{spelled}
+use Rattle.sn_serve.specs.Exchanges.IsExchange.{short, unknown, misspelt, request}
+use Rattle.sn_serve.proofs.answering.answer.Goals as goal
+
+pub returns-in-Short : goal.returns-in-Short
+returns-in-Short g c = ([], short (c.decode.ensures.short.0 c.in-Short.is), sym (append-nil c.args.out.now.items))
+
+pub returns-in-Unknown : goal.returns-in-Unknown
+returns-in-Unknown g c =
+    let h = c.in-Unknown.head in
+    (spelled h.unique (Some (Error ENOSYS)), unknown ((c.decode.ensures.unknown h).0 c.in-Unknown.is), c.refuse.ensures.ok)
+
+pub returns-in-Misspelt : goal.returns-in-Misspelt
+returns-in-Misspelt g c =
+    let h = c.in-Misspelt.head in
+    (spelled h.unique (Some (Error EINVAL)), misspelt ((c.decode.ensures.misspelt h).0 c.in-Misspelt.is), c.refuse-in-Misspelt.ensures.ok)
+
+pub returns : goal.returns
+returns g c =
+    let h = c.in-Request.head in
+    let op = c.in-Request.op in
+    let e = c.reply.ensures in
+    (spelled h.unique e.0, request ((c.decode.ensures.request h op).0 c.in-Request.is) (record { told = c.perform_as-told.result; performs = c.perform_as-told.ensures; told_reply = e.1 }), e.2)

@@ -1,0 +1,160 @@
+//! A message and its reply.
+ghost use Rattle.std.specs.Prelude.{◌≡◌, ◌++◌, ◌∷◌, [], ℕ, List, Option, Some, OnErr, OnOk, true};
+ghost use Rattle.sn_fuse_replies.specs.Answer.{reply_bytes};
+ghost use Rattle.sn_fuse_replies.specs.declared.answer.Answer.{Answer as TheAnswer};
+ghost use Rattle.sn_fuse_replies.specs.declared.answer.Answer.TheVariants.{Error};
+ghost use Rattle.sn_serve.specs.Exchanges as exchanges;
+ghost use Rattle.sn_serve.specs.Exchanges.{IsExchange, IsRefusal, IsReply, IsToldBy, Performs, spelled};
+
+use crate::performing::perform;
+use crate::processes::Processes;
+use crate::service::Service;
+use crate::told::{Told, encode_reply};
+use sn_callers::Caller;
+use sn_fuse::{Decoded, Head, Op, decode};
+use sn_fuse_replies::{Answer, Errno, encode};
+use sn_plan::{Asker, FileSystem};
+use std::alloc::AllocError;
+
+fn has_reply(op: &Op<'_>) -> bool
+    ensures { result ≡ exchanges.has_reply op.now }
+{
+    !matches!(
+        op,
+        Op::Forget { .. } | Op::BatchForget { .. } | Op::Interrupt { .. }
+    )
+}
+
+// Whether anything is asked as who asks: what goes by a handle, or asks nothing, needs no groups. A WRITE may come of a page that is written back
+// long after its process ended.
+fn asks(op: &Op<'_>) -> bool {
+    !matches!(
+        op,
+        Op::Read { .. }
+            | Op::Write { .. }
+            | Op::Release { .. }
+            | Op::ReadDir { .. }
+            | Op::ReleaseDir { .. }
+            | Op::Forget { .. }
+            | Op::BatchForget { .. }
+            | Op::Flush { .. }
+            | Op::Fsync { .. }
+            | Op::FsyncDir { .. }
+            | Op::Statfs
+            | Op::Init { .. }
+            | Op::Interrupt { .. }
+    )
+}
+
+// The text that tells the groups of who asks. Those of user 0 aren't looked at.
+fn status_of<P: Processes>(processes: &mut P, head: &Head, op: &Op<'_>) -> Option<Vec<u8>> {
+    if head.user == 0 || !asks(op) {
+        return None;
+    }
+    processes.status(head.process)
+}
+
+// Appends the reply with an error.
+fn refuse(out: &mut Vec<u8>, unique: u64, errno: Errno) -> Result<(), AllocError>
+    ensures ok { OnOk result (out.new.items ≡ out.old.items ++ spelled unique (Some (Error errno))) }
+    ensures err { OnErr result (out.new.items ≡ out.old.items) }
+{
+    encode(out, unique, &Answer::Error { errno })
+}
+
+// Does what a request asks for, as who sent it.
+fn perform_as<F: FileSystem, P: Processes>(
+    service: &mut Service<F>,
+    processes: &mut P,
+    head: &Head,
+    op: &Op<'_>,
+) -> Result<Told, Errno>
+    ensures { Performs F.did head.now op.now service.old service.new result }
+{
+    let status = status_of(processes, head, op);
+    let asker = Asker {
+        caller: Caller {
+            user: head.user,
+            group: head.group,
+        },
+        status: status.as_deref(),
+        all_mapped: processes.all_mapped(),
+    };
+    perform(
+        &mut service.server,
+        &mut service.listings,
+        &asker,
+        head.node,
+        op,
+    )
+}
+
+// Appends the reply of what is told, or that there was no memory for it.
+fn reply_told(out: &mut Vec<u8>, unique: u64, told: &Result<Told, Errno>) -> Result<(), AllocError>
+    ensures { (answer : TheAnswer) × IsToldBy told.now answer × OnOk result (out.new.items ≡ out.old.items ++ reply_bytes unique answer) }
+{
+    match encode_reply(out, unique, told) {
+        Ok(()) => Ok(()),
+        Err(_) => refuse(out, unique, Errno::ENOMEM),
+    }
+}
+
+// Appends the reply to a request that has one.
+fn reply(
+    out: &mut Vec<u8>,
+    head: &Head,
+    op: &Op<'_>,
+    told: &Result<Told, Errno>,
+) -> Result<(), AllocError>
+    ensures { (reply : Option TheAnswer) × IsReply op.now told.now reply × OnOk result (out.new.items ≡ out.old.items ++ spelled head.now.unique reply) }
+{
+    if has_reply(op) {
+        reply_told(out, head.unique, told)
+    } else {
+        Ok(())
+    }
+}
+
+/// Answers a message where nothing can be done any longer: with `EIO`, where it is a request that has a reply.
+///
+/// Proved: One that has stopped answers each request with `EIO`, and does nothing.
+pub fn refuse_message(message: &[u8], out: &mut Vec<u8>) -> Result<(), AllocError>
+    ensures { (reply : List ℕ) × IsRefusal message.now reply × OnOk result (out.new.items ≡ out.old.items ++ reply) }
+{
+    match decode(message) {
+        Decoded::Short => Ok(()),
+        Decoded::Unknown { head } => refuse(out, head.unique, Errno::ENOSYS),
+        Decoded::Misspelt { head } => refuse(out, head.unique, Errno::EINVAL),
+        Decoded::Request { head, op } => {
+            if has_reply(&op) {
+                refuse(out, head.unique, Errno::EIO)
+            } else {
+                Ok(())
+            }
+        }
+    }
+}
+
+/// Answers a message: does what it asks for, and appends the reply, where it has one. Fails where memory is refused even for a reply without data: then
+/// what it asked for may be done, and nothing was appended.
+///
+/// Proved: A message is answered once, with its own number: an unknown operation with `ENOSYS`, a misspelt one with `EINVAL`, and a request by
+/// what its plan asks for, as the user and group in its head with the groups that the system tells of its process; a FORGET and an
+/// INTERRUPT have no reply.
+pub fn answer<F: FileSystem, P: Processes>(
+    service: &mut Service<F>,
+    processes: &mut P,
+    message: &[u8],
+    out: &mut Vec<u8>,
+) -> Result<(), AllocError>
+    ensures { (reply : List ℕ) × IsExchange F.did message.now service.old service.new reply × OnOk result (out.new.items ≡ out.old.items ++ reply) }
+{
+    let (head, op) = match decode(message) {
+        Decoded::Short => return Ok(()),
+        Decoded::Unknown { head } => return refuse(out, head.unique, Errno::ENOSYS),
+        Decoded::Misspelt { head } => return refuse(out, head.unique, Errno::EINVAL),
+        Decoded::Request { head, op } => (head, op),
+    };
+    let told = perform_as(service, processes, &head, &op);
+    reply(out, &head, &op, &told)
+}

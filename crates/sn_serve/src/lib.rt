@@ -1,0 +1,33 @@
+//! A server of a mount: it answers messages, each by what its plan asks for.
+//!
+//! The model. `plan_of` (`specs/Messages`) is the plan of each message, from those of the crates that are about names, files, attributes and
+//! directories. `Answers` says that it was followed, and what became of the directories that are open, which are held beside what a plan keeps.
+//! `IsExchange` (`specs/Exchanges`) is what [`answer`] does with the bytes of a message: which requests they spell is for `sn_fuse`, and how a
+//! reply is spelled for `sn_fuse_replies`.
+//!
+//! A request is made as its sender: user and group are those in the head of the message, and the groups those that [`Processes`] tells.
+//!
+//! The way through: `groups` and `performing` do what a request asks for, `told` is what it is answered with, and `answering` has the
+//! message and the reply. `service` is what is held, and `processes` who tells of senders.
+//!
+//! What the sources leave open is decided in `docs/DECISIONS.md`, under "Messages and replies".
+//!
+//! ```text
+//! answer(&mut service, &mut processes, message, &mut out)?;
+//! output.write(&out)?;
+//! ```
+#![tactic(auto)]
+
+mod answering;
+mod entries;
+mod groups;
+mod performing;
+mod processes;
+mod service;
+mod told;
+
+pub use answering::{answer, refuse_message};
+pub use entries::Entries;
+pub use processes::Processes;
+pub use service::Service;
+pub use told::Told;

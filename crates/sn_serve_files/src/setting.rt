@@ -1,0 +1,207 @@
+//! What a SETATTR sets.
+ghost use Rattle.std.specs.Prelude.{◌≡◌, ◌<◌, ◌%◌, ◌||◌, OnSome};
+ghost use Rattle.sn_model.specs.declared.call.Call.TheVariants.{Chmod};
+ghost use Rattle.sn_plan.specs.Asking.{login_by};
+ghost use Rattle.sn_plan.specs.Follows.{Does, kept_of};
+ghost use Rattle.sn_serve_files.specs.Flags as flags;
+ghost use Rattle.sn_serve_files.specs.Messages as messages;
+ghost use Rattle.sn_serve_names.specs.Messages.{takes};
+
+use crate::sizing::{size_at, size_of_open};
+use bitflags::Flags;
+use sn_callers::OpenFile;
+use sn_fuse::NewAttributes;
+use sn_fuse_flags::AttributeFlags;
+use sn_fuse_replies::Errno;
+use sn_model::{Call, Word};
+use sn_plan::{Asker, FileSystem, Server, word};
+use sn_serve_names::does;
+
+/// How many modes S_ISGID, S_ISVTX and the permission bits make.
+const MODES: u32 = 2048;
+
+/// The open file through which the size is set.
+fn file_of<F: FileSystem>(server: &Server<F>, new: &NewAttributes) -> Option<OpenFile>
+    ensures file { result ≡ flags.file_of new.now (kept_of server.now) }
+    ensures within { OnSome result (new.now.handle < 4032) }
+{
+    if new.flags.contains(AttributeFlags::HANDLE) {
+        server.files.get(new.handle)
+    } else {
+        None
+    }
+}
+
+/// Sets the size of a node's file as who asks.
+fn size_of_node<F: FileSystem>(
+    server: &mut Server<F>,
+    asker: &Asker<'_>,
+    node: u64,
+    size: u64,
+) -> Result<(), Errno>
+    ensures { Does F.did server.old server.new (messages.size_of_node (login_by asker.now) node size) result }
+{
+    let path = server.path(node)?;
+    size_at(server, asker, path.as_slice(), size)
+}
+
+/// Sets the size, through the open file of the message where it names one.
+fn new_size<F: FileSystem>(
+    server: &mut Server<F>,
+    asker: &Asker<'_>,
+    node: u64,
+    new: &NewAttributes,
+) -> Result<(), Errno>
+    ensures { Does F.did server.old server.new (messages.new_size (login_by asker.now) node new.now) result }
+{
+    match file_of(server, new) {
+        Some(file) => size_of_open(server, new.handle, file, new.size),
+        None => size_of_node(server, asker, node, new.size),
+    }
+}
+
+fn sets_size(new: &NewAttributes) -> bool
+    ensures { result ≡ flags.sets_size new.now }
+{
+    new.flags.contains(AttributeFlags::SIZE)
+}
+
+fn set_size<F: FileSystem>(
+    server: &mut Server<F>,
+    asker: &Asker<'_>,
+    node: u64,
+    new: &NewAttributes,
+) -> Result<(), Errno>
+    ensures { Does F.did server.old server.new (messages.where_set (flags.sets_size new.now) (messages.new_size (login_by asker.now) node new.now)) result }
+{
+    if sets_size(new) {
+        new_size(server, asker, node, new)
+    } else {
+        Ok(())
+    }
+}
+
+fn value_if(is_set: bool, value: u32) -> Option<u32>
+    ensures { result ≡ flags.value_if is_set value }
+{
+    if is_set { Some(value) } else { None }
+}
+
+/// The call that sets who owns what is at a path. Who isn't set stays.
+fn chown_call(path: Word, new: &NewAttributes) -> Call
+    ensures { result ≡ messages.chown_call path new.now }
+{
+    Call::Chown {
+        path,
+        uid: value_if(new.flags.contains(AttributeFlags::USER), new.user),
+        gid: value_if(new.flags.contains(AttributeFlags::GROUP), new.group),
+    }
+}
+
+fn chown_at<F: FileSystem>(
+    server: &mut Server<F>,
+    asker: &Asker<'_>,
+    path: &[u8],
+    new: &NewAttributes,
+) -> Result<(), Errno>
+    ensures { Does F.did server.old server.new (takes (login_by asker.now) (messages.chown_call path.now new.now)) result }
+{
+    let path = word(server.alloc, path)?;
+    does(server, asker, &chown_call(path, new))
+}
+
+fn new_owner<F: FileSystem>(
+    server: &mut Server<F>,
+    asker: &Asker<'_>,
+    node: u64,
+    new: &NewAttributes,
+) -> Result<(), Errno>
+    ensures { Does F.did server.old server.new (messages.new_owner (login_by asker.now) node new.now) result }
+{
+    let path = server.path(node)?;
+    chown_at(server, asker, path.as_slice(), new)
+}
+
+fn sets_owner(new: &NewAttributes) -> bool
+    ensures { result ≡ (flags.sets_user new.now || flags.sets_group new.now) }
+{
+    new.flags.contains(AttributeFlags::USER) || new.flags.contains(AttributeFlags::GROUP)
+}
+
+fn set_owner<F: FileSystem>(
+    server: &mut Server<F>,
+    asker: &Asker<'_>,
+    node: u64,
+    new: &NewAttributes,
+) -> Result<(), Errno>
+    ensures { Does F.did server.old server.new (messages.where_set (flags.sets_user new.now || flags.sets_group new.now) (messages.new_owner (login_by asker.now) node new.now)) result }
+{
+    if sets_owner(new) {
+        new_owner(server, asker, node, new)
+    } else {
+        Ok(())
+    }
+}
+
+fn chmod_at<F: FileSystem>(
+    server: &mut Server<F>,
+    asker: &Asker<'_>,
+    path: &[u8],
+    mode: u32,
+) -> Result<(), Errno>
+    ensures { Does F.did server.old server.new (takes (login_by asker.now) (Chmod path.now (mode % 2048))) result }
+{
+    let path = word(server.alloc, path)?;
+    let mode = (mode % MODES) as u16;
+    does(server, asker, &Call::Chmod { path, mode })
+}
+
+fn new_mode<F: FileSystem>(
+    server: &mut Server<F>,
+    asker: &Asker<'_>,
+    node: u64,
+    new: &NewAttributes,
+) -> Result<(), Errno>
+    ensures { Does F.did server.old server.new (messages.new_mode (login_by asker.now) node new.now) result }
+{
+    let path = server.path(node)?;
+    chmod_at(server, asker, path.as_slice(), new.mode)
+}
+
+fn sets_mode(new: &NewAttributes) -> bool
+    ensures { result ≡ flags.sets_mode new.now }
+{
+    new.flags.contains(AttributeFlags::MODE)
+}
+
+fn set_mode<F: FileSystem>(
+    server: &mut Server<F>,
+    asker: &Asker<'_>,
+    node: u64,
+    new: &NewAttributes,
+) -> Result<(), Errno>
+    ensures { Does F.did server.old server.new (messages.where_set (flags.sets_mode new.now) (messages.new_mode (login_by asker.now) node new.now)) result }
+{
+    if sets_mode(new) {
+        new_mode(server, asker, node, new)
+    } else {
+        Ok(())
+    }
+}
+
+/// What SETATTR sets: size, owner and mode, in this order. Of the mode the permission bits, S_ISGID and S_ISVTX count; times aren't kept yet.
+///
+/// Proved: What SETATTR sets is set by calls as who asks, each by a path that was looked at; the size through the descriptor of an open file
+/// that the message names, where it names one.
+pub fn set_attributes<F: FileSystem>(
+    server: &mut Server<F>,
+    asker: &Asker<'_>,
+    node: u64,
+    new: &NewAttributes,
+) -> Result<(), Errno>
+    ensures { Does F.did server.old server.new (messages.set_attributes (login_by asker.now) node new.now) result }
+{
+    set_size(server, asker, node, new)?;
+    set_owner(server, asker, node, new)?;
+    set_mode(server, asker, node, new)
+}

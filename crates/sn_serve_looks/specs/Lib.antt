@@ -1,0 +1,5 @@
+pub mod Telling
+pub mod Xattrs
+pub mod Acls
+pub mod Room
+pub mod Messages
