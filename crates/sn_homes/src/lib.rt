@@ -11,7 +11,7 @@
 //!
 //! The way through: `homes` has the places, `numbers` the two ways, and `laws` what follows.
 //!
-//! Memory: 40 bytes for each snapshot that was met.
+//! Memory: a name of at most 31 bytes for each snapshot that was met, which is kept until the mount ends.
 //!
 //! What the sources leave open is decided in `docs/DECISIONS.md`, under "Numbers of objects".
 //!

@@ -139,8 +139,7 @@ pub fn refuse_message(message: &[u8], out: &mut Vec<u8>) -> Result<(), AllocErro
 /// what it asked for may be done, and nothing was appended.
 ///
 /// Proved: A message is answered once, with its own number: an unknown operation with `ENOSYS`, a misspelt one with `EINVAL`, and a request by
-/// what its plan asks for, as the user and group in its head with the groups that the system tells of its process; a FORGET and an
-/// INTERRUPT have no reply.
+/// what its plan asks for, as the user and group in its head, with groups that some text tells; a FORGET and an INTERRUPT have no reply.
 pub fn answer<F: FileSystem, P: Processes>(
     service: &mut Service<F>,
     processes: &mut P,

@@ -5,7 +5,8 @@
 //! `IsExchange` (`specs/Exchanges`) is what [`answer`] does with the bytes of a message: which requests they spell is for `sn_fuse`, and how a
 //! reply is spelled for `sn_fuse_replies`.
 //!
-//! A request is made as its sender: user and group are those in the head of the message, and the groups those that [`Processes`] tells.
+//! A request is made as its sender: user and group are those in the head of the message. The groups are read from a text that
+//! [`Processes`] gives; that it is the text of the sender's process no clause says.
 //!
 //! The way through: `groups` and `performing` do what a request asks for, `told` is what it is answered with, and `answering` has the
 //! message and the reply. `service` is what is held, and `processes` who tells of senders.
