@@ -1,0 +1,17 @@
+pub mod Growth
+pub mod Children
+pub mod Ahead
+pub mod Paths
+pub mod Cycles
+pub mod Places
+pub mod Above
+pub mod Visits
+pub mod Acts
+pub mod State
+pub mod Makings
+pub mod Entries
+pub mod Granting
+pub mod Tops
+pub mod Whole
+pub mod Listings
+pub mod Again

@@ -1,0 +1,4 @@
+pub mod Copies
+pub mod Targets
+pub mod Reports
+pub mod Laws
