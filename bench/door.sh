@@ -84,6 +84,13 @@ if [ -f "$release/snapfs" ]; then
     printf '0 login 0 0 -\n0 mkdir /x 0755\n' >"$work/x.snap"
     case_of "a limit on files stops a run, after its replies" 1 "$(printf 'ok\nok\nsnapfs: stopped')" \
         bare bash -c "ulimit -f 200; ./snapfs run $image $work/x.snap"
+    case_of "mount takes an image and a folder" 2 "$USAGE" bare ./snapfs mount "$image"
+    case_of "no third word is taken" 2 "$USAGE" bare ./snapfs mount "$image" "$work" more
+    case_of "unmount takes a folder" 2 "$USAGE" bare ./snapfs unmount
+    case_of "what isn't mounted isn't unmounted" 1 "snapfs: no image is mounted at $work" bare ./snapfs unmount "$work"
+    below="snapfs: $image is below $work"
+    [ "$(id -u)" = 0 ] || below="snapfs: only root mounts for all: add -- COMMAND, which alone sees the mount then"
+    case_of "an image isn't mounted over itself" 1 "$below" bare ./snapfs mount "$image" "$work"
     if command -v script >/dev/null; then
         case_of "a person is shown the commands" 2 "$(printf '%s\n' "$USAGE" && cat "$top/crates/sn_tests_program/data/help")" \
             to_a_person ./snapfs --help

@@ -55,9 +55,10 @@ def look(top, seen):
     found = {}
     for name in os.listdir("/proc"):
         if name.isdigit():
+            # (a process may end while it is looked at)
             try:
                 found[int(name)] = stat_of(name)
-            except OSError:
+            except (OSError, ValueError, IndexError):
                 pass
     inside = {top}
     for pid in sorted(found, key=lambda it: found[it][1]):

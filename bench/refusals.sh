@@ -12,7 +12,7 @@
 #
 # A check with one refusal, of an image with records in its log, gives the verdict that it gives without it, or
 # `snapfs: memory`, `snapfs: M5` or `snapfs: file`. An export of that image writes the archive or its front. An import of that archive with
-one refusal leaves a sound image, tells of memory alone, and made again without one, makes all of it.
+# one refusal leaves a sound image, tells of memory alone, and made again without one, makes all of it.
 #
 # A part of the test program with one refusal may say that it found no memory, or that the device in memory has come to its end for
 # want of it; that of builds makes one that was refused memory again, of the same root and overlay, and goes on. Each case that it finds wrong has to be so for

@@ -18,14 +18,14 @@ use Rattle.clap.specs.declared.parser.matches.ArgMatches.TheViews.{out-SubComman
 use Rattle.clap.specs.declared.parser.matches.Found.{Found}
 use Rattle.clap.proofs.WalkLemmas.{first_value-rows}
 use Rattle.clap.specs.declared.parser.matches.SubCommand.{SubCommand}
-use Rattle.sn_command.specs.Commands.{check, export, import, mkfs, run, snapfs, stop_at}
+use Rattle.sn_command.specs.Commands.{check, export, import, mkfs, run, serve, snapfs, stop_at}
 use Rattle.sn_command.specs.Tasks.{AsksFor, IsRead, Spells}
 use Rattle.sn_command.specs.Words.{is_misfit}
 use Rattle.sn_command.specs.declared.command.Task.{Task}
 use Rattle.sn_command.specs.declared.command.Task.TheVariants as task
 use Rattle.sn_command.proofs.LeafLemmas.{is_none}
-use Rattle.sn_command.proofs.Leaves.{check_fits, check_image, check_words, export_fits, export_image, export_path, export_words, import_fits, import_image, import_path, import_words, leaf, mkfs_blocks, mkfs_fits, mkfs_image, mkfs_words, run_fits, run_image, run_script, run_words, stop_at_fill, stop_at_fits, stop_at_image, stop_at_k, stop_at_out, stop_at_script, stop_at_words}
-use Rattle.sn_command.proofs.TopLemmas.{check_entered, check_faults, export_entered, export_faults, import_entered, import_faults, mkfs_entered, mkfs_faults, none_faults, run_entered, run_faults, stop_at_entered, stop_at_faults, unknown, unknown_faults}
+use Rattle.sn_command.proofs.Leaves.{check_fits, check_image, check_words, export_fits, export_image, export_path, export_words, import_fits, import_image, import_path, import_words, leaf, mkfs_blocks, mkfs_fits, mkfs_image, mkfs_words, run_fits, run_image, run_script, run_words, serve_fits, serve_image, serve_words, stop_at_fill, stop_at_fits, stop_at_image, stop_at_k, stop_at_out, stop_at_script, stop_at_words}
+use Rattle.sn_command.proofs.TopLemmas.{check_entered, check_faults, export_entered, export_faults, import_entered, import_faults, mkfs_entered, mkfs_faults, none_faults, run_entered, run_faults, serve_entered, serve_faults, stop_at_entered, stop_at_faults, unknown, unknown_faults}
 use Rattle.sn_command.proofs.WalkLemmas.{first_fits, others_fit}
 
 abbrev text_or_none : Option Text → Text
@@ -54,50 +54,58 @@ IsExport words = (a : Text) × (b : Text) × (words ≡ codes "export" ∷ a ∷
 abbrev IsImport : List Text → Type 0
 IsImport words = (a : Text) × (b : Text) × (words ≡ codes "import" ∷ a ∷ b ∷ [])
 
+abbrev IsServe : List Text → Type 0
+IsServe words = (a : Text) × (words ≡ codes "serve" ∷ a ∷ [])
+
 abbrev IsParsed : List Text → Type 0
-IsParsed words = IsMkfs words ⊎ (IsRun words ⊎ (IsStopAt words ⊎ (IsCheck words ⊎ (IsExport words ⊎ IsImport words))))
+IsParsed words = IsMkfs words ⊎ (IsRun words ⊎ (IsStopAt words ⊎ (IsCheck words ⊎ (IsExport words ⊎ (IsImport words ⊎ IsServe words)))))
 
 named : (word : Text) (words : List Text) → list_any is_misfit (word ∷ words) ≡ false → fault_of snapfs (word ∷ words) ≡ []
-    → (b c d e g h : Bool) → bytes_eq (codes "mkfs") word ≡ b → bytes_eq (codes "run") word ≡ c → bytes_eq (codes "stop-at") word ≡ d → bytes_eq (codes "check") word ≡ e → bytes_eq (codes "export") word ≡ g → bytes_eq (codes "import") word ≡ h → IsParsed (word ∷ words)
-named word words fit faultless true c d e g h one two three four five six =
+    → (b c d e g h k : Bool) → bytes_eq (codes "mkfs") word ≡ b → bytes_eq (codes "run") word ≡ c → bytes_eq (codes "stop-at") word ≡ d → bytes_eq (codes "check") word ≡ e → bytes_eq (codes "export") word ≡ g → bytes_eq (codes "import") word ≡ h → bytes_eq (codes "serve") word ≡ k → IsParsed (word ∷ words)
+named word words fit faultless true c d e g h k one two three four five six seven =
     let is : codes "mkfs" ≡ word = (bytes_eq-Decides (codes "mkfs") word).0 one in
     let faults : fault_of snapfs (codes "mkfs" ∷ words) ≡ [] = ap (λ w. fault_of snapfs (w ∷ words)) is ∙ faultless in
     let found = mkfs_words words (others_fit word words fit) (sym (mkfs_faults words) ∙ faults) in
     inl (found.0, found.1, ap₂ (λ w ws. w ∷ ws) (sym is) found.2)
-named word words fit faultless false true d e g h one two three four five six =
+named word words fit faultless false true d e g h k one two three four five six seven =
     let is : codes "run" ≡ word = (bytes_eq-Decides (codes "run") word).0 two in
     let faults : fault_of snapfs (codes "run" ∷ words) ≡ [] = ap (λ w. fault_of snapfs (w ∷ words)) is ∙ faultless in
     let found = run_words words (others_fit word words fit) (sym (run_faults words) ∙ faults) in
     inr (inl (found.0, found.1, ap₂ (λ w ws. w ∷ ws) (sym is) found.2))
-named word words fit faultless false false true e g h one two three four five six =
+named word words fit faultless false false true e g h k one two three four five six seven =
     let is : codes "stop-at" ≡ word = (bytes_eq-Decides (codes "stop-at") word).0 three in
     let faults : fault_of snapfs (codes "stop-at" ∷ words) ≡ [] = ap (λ w. fault_of snapfs (w ∷ words)) is ∙ faultless in
     let found = stop_at_words words (others_fit word words fit) (sym (stop_at_faults words) ∙ faults) in
     inr (inr (inl (found.0, found.1, found.2, found.3, found.4, ap₂ (λ w ws. w ∷ ws) (sym is) found.5)))
-named word words fit faultless false false false true g h one two three four five six =
+named word words fit faultless false false false true g h k one two three four five six seven =
     let is : codes "check" ≡ word = (bytes_eq-Decides (codes "check") word).0 four in
     let faults : fault_of snapfs (codes "check" ∷ words) ≡ [] = ap (λ w. fault_of snapfs (w ∷ words)) is ∙ faultless in
     let found = check_words words (others_fit word words fit) (sym (check_faults words) ∙ faults) in
     inr (inr (inr (inl (found.0, ap₂ (λ w ws. w ∷ ws) (sym is) found.1))))
-named word words fit faultless false false false false true h one two three four five six =
+named word words fit faultless false false false false true h k one two three four five six seven =
     let is : codes "export" ≡ word = (bytes_eq-Decides (codes "export") word).0 five in
     let faults : fault_of snapfs (codes "export" ∷ words) ≡ [] = ap (λ w. fault_of snapfs (w ∷ words)) is ∙ faultless in
     let found = export_words words (others_fit word words fit) (sym (export_faults words) ∙ faults) in
     inr (inr (inr (inr (inl (found.0, found.1, ap₂ (λ w ws. w ∷ ws) (sym is) found.2)))))
-named word words fit faultless false false false false false true one two three four five six =
+named word words fit faultless false false false false false true k one two three four five six seven =
     let is : codes "import" ≡ word = (bytes_eq-Decides (codes "import") word).0 six in
     let faults : fault_of snapfs (codes "import" ∷ words) ≡ [] = ap (λ w. fault_of snapfs (w ∷ words)) is ∙ faultless in
     let found = import_words words (others_fit word words fit) (sym (import_faults words) ∙ faults) in
-    inr (inr (inr (inr (inr (found.0, found.1, ap₂ (λ w ws. w ∷ ws) (sym is) found.2)))))
-named word words fit faultless false false false false false false one two three four five six =
+    inr (inr (inr (inr (inr (inl (found.0, found.1, ap₂ (λ w ws. w ∷ ws) (sym is) found.2))))))
+named word words fit faultless false false false false false false true one two three four five six seven =
+    let is : codes "serve" ≡ word = (bytes_eq-Decides (codes "serve") word).0 seven in
+    let faults : fault_of snapfs (codes "serve" ∷ words) ≡ [] = ap (λ w. fault_of snapfs (w ∷ words)) is ∙ faultless in
+    let found = serve_words words (others_fit word words fit) (sym (serve_faults words) ∙ faults) in
+    inr (inr (inr (inr (inr (inr (found.0, ap₂ (λ w ws. w ∷ ws) (sym is) found.1))))))
+named word words fit faultless false false false false false false false one two three four five six seven =
     let other : (name : Text) → bytes_eq name word ≡ false → name ≡ word → ⊥ =
     λ name e is. true≢false (sym ((bytes_eq-Decides name word).1 is) ∙ e) in
-    let none = unknown word (other (codes "mkfs") one) (other (codes "run") two) (other (codes "stop-at") three) (other (codes "check") four) (other (codes "export") five) (other (codes "import") six) in
+    let none = unknown word (other (codes "mkfs") one) (other (codes "run") two) (other (codes "stop-at") three) (other (codes "check") four) (other (codes "export") five) (other (codes "import") six) (other (codes "serve") seven) in
     absurd (true≢false (sym (ap is_none faultless) ∙ unknown_faults word words (first_fits word words fit) none))
 
 pub parsed : (words : List Text) → list_any is_misfit words ≡ false → fault_of snapfs words ≡ [] → IsParsed words
 parsed [] fit faultless = absurd (true≢false (sym (ap is_none faultless) ∙ none_faults))
-parsed (word ∷ words) fit faultless = named word words fit faultless _ _ _ _ _ _ refl refl refl refl refl refl
+parsed (word ∷ words) fit faultless = named word words fit faultless _ _ _ _ _ _ _ refl refl refl refl refl refl refl
 
 -- ---- a task that is read is spelled so
 
@@ -115,6 +123,7 @@ mkfs_spelled a b fit (task.StopAt cut how image script out) h = absurd (true≢f
 mkfs_spelled a b fit (task.Check image) h = absurd (true≢false (ap (bytes_eq (codes "mkfs")) h.0))
 mkfs_spelled a b fit (task.Export image path) h = absurd (true≢false (ap (bytes_eq (codes "mkfs")) h.0))
 mkfs_spelled a b fit (task.Import image path) h = absurd (true≢false (ap (bytes_eq (codes "mkfs")) h.0))
+mkfs_spelled a b fit (task.Serve image) h = absurd (true≢false (ap (bytes_eq (codes "mkfs")) h.0))
 
 run_spelled : (a b : Text) → list_any is_misfit (a ∷ b ∷ []) ≡ false → (asked : Task) → IsRead (codes "run") (read_of (rows_after (leaf run).rules [] (a ∷ b ∷ []))) asked
     → Spells (codes "run" ∷ a ∷ b ∷ []) asked
@@ -127,6 +136,7 @@ run_spelled a b fit (task.StopAt cut how image script out) h = absurd (true≢fa
 run_spelled a b fit (task.Check image) h = absurd (true≢false (ap (bytes_eq (codes "run")) h.0))
 run_spelled a b fit (task.Export image path) h = absurd (true≢false (ap (bytes_eq (codes "run")) h.0))
 run_spelled a b fit (task.Import image path) h = absurd (true≢false (ap (bytes_eq (codes "run")) h.0))
+run_spelled a b fit (task.Serve image) h = absurd (true≢false (ap (bytes_eq (codes "run")) h.0))
 
 stop_at_spelled : (a b c d f : Text) → list_any is_misfit (a ∷ b ∷ c ∷ d ∷ f ∷ []) ≡ false → (asked : Task)
     → IsRead (codes "stop-at") (read_of (rows_after (leaf stop_at).rules [] (a ∷ b ∷ c ∷ d ∷ f ∷ []))) asked → Spells (codes "stop-at" ∷ a ∷ b ∷ c ∷ d ∷ f ∷ []) asked
@@ -145,6 +155,7 @@ stop_at_spelled a b c d f fit (task.StopAt cut how image script out) h =
 stop_at_spelled a b c d f fit (task.Check image) h = absurd (true≢false (ap (bytes_eq (codes "stop-at")) h.0))
 stop_at_spelled a b c d f fit (task.Export image path) h = absurd (true≢false (ap (bytes_eq (codes "stop-at")) h.0))
 stop_at_spelled a b c d f fit (task.Import image path) h = absurd (true≢false (ap (bytes_eq (codes "stop-at")) h.0))
+stop_at_spelled a b c d f fit (task.Serve image) h = absurd (true≢false (ap (bytes_eq (codes "stop-at")) h.0))
 
 check_spelled : (a : Text) → list_any is_misfit (a ∷ []) ≡ false → (asked : Task) → IsRead (codes "check") (read_of (rows_after (leaf check).rules [] (a ∷ []))) asked → Spells (codes "check" ∷ a ∷ []) asked
 check_spelled a fit (task.Mkfs image blocks) h = absurd (true≢false (ap (bytes_eq (codes "check")) h.0))
@@ -155,6 +166,7 @@ check_spelled a fit (task.Check image) h =
     ap (λ x. codes "check" ∷ x ∷ []) one
 check_spelled a fit (task.Export image path) h = absurd (true≢false (ap (bytes_eq (codes "check")) h.0))
 check_spelled a fit (task.Import image path) h = absurd (true≢false (ap (bytes_eq (codes "check")) h.0))
+check_spelled a fit (task.Serve image) h = absurd (true≢false (ap (bytes_eq (codes "check")) h.0))
 
 export_spelled : (a b : Text) → list_any is_misfit (a ∷ b ∷ []) ≡ false → (asked : Task) → IsRead (codes "export") (read_of (rows_after (leaf export).rules [] (a ∷ b ∷ []))) asked
     → Spells (codes "export" ∷ a ∷ b ∷ []) asked
@@ -167,6 +179,7 @@ export_spelled a b fit (task.Export image path) h =
     let two : b ≡ path.now = same_text b path.now (sym (export_path a b fit) ∙ h.2) in
     ap₂ (λ x y. codes "export" ∷ x ∷ y ∷ []) one two
 export_spelled a b fit (task.Import image path) h = absurd (true≢false (ap (bytes_eq (codes "export")) h.0))
+export_spelled a b fit (task.Serve image) h = absurd (true≢false (ap (bytes_eq (codes "export")) h.0))
 
 import_spelled : (a b : Text) → list_any is_misfit (a ∷ b ∷ []) ≡ false → (asked : Task) → IsRead (codes "import") (read_of (rows_after (leaf import).rules [] (a ∷ b ∷ []))) asked
     → Spells (codes "import" ∷ a ∷ b ∷ []) asked
@@ -179,6 +192,18 @@ import_spelled a b fit (task.Import image path) h =
     let one : a ≡ image.now = same_text a image.now (sym (import_image a b fit) ∙ h.1) in
     let two : b ≡ path.now = same_text b path.now (sym (import_path a b fit) ∙ h.2) in
     ap₂ (λ x y. codes "import" ∷ x ∷ y ∷ []) one two
+import_spelled a b fit (task.Serve image) h = absurd (true≢false (ap (bytes_eq (codes "import")) h.0))
+
+serve_spelled : (a : Text) → list_any is_misfit (a ∷ []) ≡ false → (asked : Task) → IsRead (codes "serve") (read_of (rows_after (leaf serve).rules [] (a ∷ []))) asked → Spells (codes "serve" ∷ a ∷ []) asked
+serve_spelled a fit (task.Mkfs image blocks) h = absurd (true≢false (ap (bytes_eq (codes "serve")) h.0))
+serve_spelled a fit (task.Run image script) h = absurd (true≢false (ap (bytes_eq (codes "serve")) h.0))
+serve_spelled a fit (task.StopAt cut how image script out) h = absurd (true≢false (ap (bytes_eq (codes "serve")) h.0))
+serve_spelled a fit (task.Check image) h = absurd (true≢false (ap (bytes_eq (codes "serve")) h.0))
+serve_spelled a fit (task.Export image path) h = absurd (true≢false (ap (bytes_eq (codes "serve")) h.0))
+serve_spelled a fit (task.Import image path) h = absurd (true≢false (ap (bytes_eq (codes "serve")) h.0))
+serve_spelled a fit (task.Serve image) h =
+    let one : a ≡ image.now = same_text a image.now (sym (serve_image a fit) ∙ h.1) in
+    ap (λ x. codes "serve" ∷ x ∷ []) one
 
 abbrev pair_or : Text × List Row → Option (Text × List Row) → Text × List Row
 pair_or d o = unwrap_or o d
@@ -207,8 +232,10 @@ spelled words fit faultless p met = elim (parsed words fit faultless) [
       (λ f e. at (codes "check" ∷ h.0 ∷ []) _ p (check_entered (h.0 ∷ [])) e (check_spelled h.0 (others_fit (codes "check") (h.0 ∷ []) f))) fit met
   | inr (inr (inr (inr (inl h)))) ↦ subst (λ ws. list_any is_misfit ws ≡ false → subcommand_of snapfs ws ≡ Some p → SpelledAs ws p) (sym h.2)
       (λ f e. at (codes "export" ∷ h.0 ∷ h.1 ∷ []) _ p (export_entered (h.0 ∷ h.1 ∷ [])) e (export_spelled h.0 h.1 (others_fit (codes "export") (h.0 ∷ h.1 ∷ []) f))) fit met
-  | inr (inr (inr (inr (inr h)))) ↦ subst (λ ws. list_any is_misfit ws ≡ false → subcommand_of snapfs ws ≡ Some p → SpelledAs ws p) (sym h.2)
+  | inr (inr (inr (inr (inr (inl h))))) ↦ subst (λ ws. list_any is_misfit ws ≡ false → subcommand_of snapfs ws ≡ Some p → SpelledAs ws p) (sym h.2)
       (λ f e. at (codes "import" ∷ h.0 ∷ h.1 ∷ []) _ p (import_entered (h.0 ∷ h.1 ∷ [])) e (import_spelled h.0 h.1 (others_fit (codes "import") (h.0 ∷ h.1 ∷ []) f))) fit met
+  | inr (inr (inr (inr (inr (inr h))))) ↦ subst (λ ws. list_any is_misfit ws ≡ false → subcommand_of snapfs ws ≡ Some p → SpelledAs ws p) (sym h.1)
+      (λ f e. at (codes "serve" ∷ h.0 ∷ []) _ p (serve_entered (h.0 ∷ [])) e (serve_spelled h.0 (others_fit (codes "serve") (h.0 ∷ []) f))) fit met
 ]
 
 -- ---- what words ask for is found in them
@@ -288,6 +315,16 @@ spells_found words (task.Import image path) fit h = subst (λ ws. list_any is_mi
       rows = rows_after (leaf import).rules [] (a ∷ b ∷ []);
       met = import_entered (a ∷ b ∷ []);
       read = (refl, import_image a b f, import_path a b f);
+    }) fit
+spells_found words (task.Serve image) fit h = subst (λ ws. list_any is_misfit ws ≡ false → IsFound ws (task.Serve image)) (sym h) (λ all.
+    let a = image.now in
+    let f : list_any is_misfit (a ∷ []) ≡ false = others_fit (codes "serve") (a ∷ []) all in
+    record {
+      faultless = serve_faults (a ∷ []) ∙ serve_fits a f;
+      name = codes "serve";
+      rows = rows_after (leaf serve).rules [] (a ∷ []);
+      met = serve_entered (a ∷ []);
+      read = (refl, serve_image a f);
     }) fit
 
 pub found : (words : List Text) (asked : Task) → AsksFor words asked → IsFound words asked

@@ -6,7 +6,7 @@ use Rattle.clap.specs.Simple.{App, Shape, built_leaf, inherited}
 use Rattle.clap.specs.Walk.{Held, Text, idle, rows_after}
 use Rattle.clap.specs.Words.{first_of}
 use Rattle.clap.proofs.OnLiterals.{clap_on_literals}
-use Rattle.sn_command.specs.Commands.{check, export, import, mkfs, run, stop_at, top}
+use Rattle.sn_command.specs.Commands.{check, export, import, mkfs, run, serve, stop_at, top}
 use Rattle.sn_command.specs.Words.{is_misfit}
 use Rattle.sn_command.proofs.LeafLemmas.{is_none, leaf_fault, leaf_is, or_else_some, rows_are, start}
 use Rattle.sn_command.proofs.WalkLemmas.{IsOpen, OpenAlong, faults_along, front_fits}
@@ -268,3 +268,33 @@ import_words [] fit e = absurd (true≢false (sym (ap is_none e) ∙ import_0))
 import_words (a ∷ []) fit e = absurd (true≢false (sym (ap is_none e) ∙ import_1 a fit))
 import_words (a ∷ b ∷ []) fit e = (a, b, refl)
 import_words (a ∷ b ∷ d ∷ more) fit e = absurd (true≢false (sym (ap is_none e) ∙ import_more a b d more fit))
+
+-- ---- serve
+
+serve_open : (a : Text) → OpenAlong (leaf serve).rules start (a ∷ [])
+serve_open a = (opened _ _, tt)
+
+pub serve_fits : (a : Text) → list_any is_misfit (a ∷ []) ≡ false → leaf_fault (leaf serve) (a ∷ []) ≡ []
+unfolding clap_on_literals
+serve_fits a fit = leaf_is (leaf serve) (a ∷ []) fit (serve_open a) ∙ refl
+
+pub serve_image : (a : Text) → list_any is_misfit (a ∷ []) ≡ false → first_of (codes "IMAGE") (rows_after (leaf serve).rules [] (a ∷ [])) ≡ Some a
+unfolding clap_on_literals
+serve_image a fit = ap (first_of (codes "IMAGE")) (rows_are (leaf serve) (a ∷ []) fit (serve_open a)) ∙ refl
+
+serve_0 : is_none (leaf_fault (leaf serve) []) ≡ false
+unfolding clap_on_literals
+serve_0 = refl
+
+serve_more : (a d : Text) (more : List Text) → list_any is_misfit (a ∷ d ∷ more) ≡ false → is_none (leaf_fault (leaf serve) (a ∷ d ∷ more)) ≡ false
+unfolding clap_on_literals
+serve_more a d more fit =
+    let front : list_any is_misfit (a ∷ d ∷ []) ≡ false = front_fits (a ∷ d ∷ []) more fit in
+    let opens : OpenAlong (leaf serve).rules start (a ∷ d ∷ []) = (opened _ _, (opened _ _, tt)) in
+    or_else_some (walk_fault (leaf serve) [] start (a ∷ d ∷ more)) _ (ap is_none (faults_along (leaf serve) start (a ∷ d ∷ []) more front opens) ∙ refl)
+
+-- it takes 1 word
+pub serve_words : (words : List Text) → list_any is_misfit words ≡ false → leaf_fault (leaf serve) words ≡ [] → (a : Text) × (words ≡ a ∷ [])
+serve_words [] fit e = absurd (true≢false (sym (ap is_none e) ∙ serve_0))
+serve_words (a ∷ []) fit e = (a, refl)
+serve_words (a ∷ d ∷ more) fit e = absurd (true≢false (sym (ap is_none e) ∙ serve_more a d more fit))

@@ -9,7 +9,7 @@ use Rattle.clap.specs.Kinds.{Kinds, or_else}
 use Rattle.clap.specs.Walk.{Names, Text, Walk, finished, idle, nothing_held, rows_after, settled, subcommand_met, walk, walked}
 use Rattle.clap.proofs.OnLiterals.{clap_on_literals}
 use Rattle.clap.proofs.WalkLemmas.{walk_stopped}
-use Rattle.sn_command.specs.Commands.{check, export, import, mkfs, run, snapfs, stop_at}
+use Rattle.sn_command.specs.Commands.{check, export, import, mkfs, run, serve, snapfs, stop_at}
 use Rattle.sn_command.specs.Words.{is_misfit}
 use Rattle.sn_command.proofs.LeafLemmas.{is_none, leaf_fault, or_else_some, start}
 use Rattle.sn_command.proofs.Leaves.{leaf}
@@ -143,6 +143,23 @@ import_faults words = ap₂ by_walk (import_walk_faults words) (import_walk word
 pub import_entered : (words : List Text) → subcommand_of snapfs (codes "import" ∷ words) ≡ Some (codes "import", rows_after (leaf import).rules [] words)
 import_entered words = ap (λ (w : Walk). entered whole w.stopped) (import_walk words)
 
+-- ---- serve
+
+serve_walk : (words : List Text) → walk whole.top.rules names nothing_held (codes "serve" ∷ words) ≡ met (codes "serve") words
+unfolding walked
+serve_walk words = sym (walk_stopped whole.top.rules names start (codes "serve") [] words)
+
+serve_walk_faults : (words : List Text) → walk_fault whole.top names start (codes "serve" ∷ words) ≡ []
+unfolding walk_fault walked
+serve_walk_faults words = stopped_faults whole.top start (codes "serve") [] words
+
+pub serve_faults : (words : List Text) → fault_of snapfs (codes "serve" ∷ words) ≡ leaf_fault (leaf serve) words
+unfolding defaults_fault
+serve_faults words = ap₂ by_walk (serve_walk_faults words) (serve_walk words) ∙ or_else_none (leaf_fault (leaf serve) words)
+
+pub serve_entered : (words : List Text) → subcommand_of snapfs (codes "serve" ∷ words) ≡ Some (codes "serve", rows_after (leaf serve).rules [] words)
+serve_entered words = ap (λ (w : Walk). entered whole w.stopped) (serve_walk words)
+
 -- ---- no command
 
 pub none_faults : is_none (fault_of snapfs []) ≡ false
@@ -172,6 +189,6 @@ differs name word other = go (bytes_eq name word) (λ e. other ((bytes_eq-Decide
     go true never = absurd (never refl)
     go false never = refl
 
-pub unknown : (word : Text) → (codes "mkfs" ≡ word → ⊥) → (codes "run" ≡ word → ⊥) → (codes "stop-at" ≡ word → ⊥) → (codes "check" ≡ word → ⊥) → (codes "export" ≡ word → ⊥) → (codes "import" ≡ word → ⊥) → subcommand_met names idle word ≡ None
-unknown word one two three four five six =
-    rw (differs (codes "mkfs") word one, differs (codes "run") word two, differs (codes "stop-at") word three, differs (codes "check") word four, differs (codes "export") word five, differs (codes "import") word six) refl
+pub unknown : (word : Text) → (codes "mkfs" ≡ word → ⊥) → (codes "run" ≡ word → ⊥) → (codes "stop-at" ≡ word → ⊥) → (codes "check" ≡ word → ⊥) → (codes "export" ≡ word → ⊥) → (codes "import" ≡ word → ⊥) → (codes "serve" ≡ word → ⊥) → subcommand_met names idle word ≡ None
+unknown word one two three four five six seven =
+    rw (differs (codes "mkfs") word one, differs (codes "run") word two, differs (codes "stop-at") word three, differs (codes "check") word four, differs (codes "export") word five, differs (codes "import") word six, differs (codes "serve") word seven) refl

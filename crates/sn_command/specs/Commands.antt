@@ -24,6 +24,9 @@ export = with_rule (with_rule (new_app (codes "export")) (required (codes "IMAGE
 abbrev pub import : App
 import = with_rule (with_rule (new_app (codes "import")) (required (codes "IMAGE"))) (required (codes "PATH"))
 
+abbrev pub serve : App
+serve = with_rule (new_app (codes "serve")) (required (codes "IMAGE"))
+
 abbrev pub top : App
 top = record (new_app (codes "snapfs")) {
   top = record (new_app (codes "snapfs")).top { no_binary_name = true; subcommand_required = true; disable_help_subcommand = true };
@@ -31,4 +34,4 @@ top = record (new_app (codes "snapfs")) {
 
 -- all that may follow the program's name
 abbrev pub snapfs : App
-snapfs = with_subcommand (with_subcommand (with_subcommand (with_subcommand (with_subcommand (with_subcommand top mkfs.top) run.top) stop_at.top) check.top) export.top) import.top
+snapfs = with_subcommand (with_subcommand (with_subcommand (with_subcommand (with_subcommand (with_subcommand (with_subcommand top mkfs.top) run.top) stop_at.top) check.top) export.top) import.top) serve.top

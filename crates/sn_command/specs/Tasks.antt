@@ -25,6 +25,7 @@ Spells words (task.StopAt cut how image script out) = (word : List ℕ) × (fill
 Spells words (task.Check image) = words ≡ codes "check" ∷ image.now ∷ []
 Spells words (task.Export image path) = words ≡ codes "export" ∷ image.now ∷ path.now ∷ []
 Spells words (task.Import image path) = words ≡ codes "import" ∷ image.now ∷ path.now ∷ []
+Spells words (task.Serve image) = words ≡ codes "serve" ∷ image.now ∷ []
 
 -- and none of them is empty or begins with a dash
 abbrev pub AsksFor : List (List ℕ) → Task → Type 0
@@ -41,3 +42,4 @@ IsRead name read (task.StopAt cut how image script out) = (name ≡ codes "stop-
 IsRead name read (task.Check image) = (name ≡ codes "check") × (read (codes "IMAGE") ≡ Some image.now)
 IsRead name read (task.Export image path) = (name ≡ codes "export") × (read (codes "IMAGE") ≡ Some image.now) × (read (codes "PATH") ≡ Some path.now)
 IsRead name read (task.Import image path) = (name ≡ codes "import") × (read (codes "IMAGE") ≡ Some image.now) × (read (codes "PATH") ≡ Some path.now)
+IsRead name read (task.Serve image) = (name ≡ codes "serve") × (read (codes "IMAGE") ≡ Some image.now)

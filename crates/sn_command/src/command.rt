@@ -48,6 +48,10 @@ pub enum Task<'a> {
         image: &'a str,
         path: &'a str,
     },
+    /// Answers the messages of a mount over an image.
+    Serve {
+        image: &'a str,
+    },
 }
 
 /// An empty word, or one that begins with a dash: there are no options.

@@ -2,7 +2,7 @@
 ghost use Rattle.std.specs.Prelude.{◌≡◌, false, IfOk, IfErr};
 ghost use Rattle.clap.specs.Words.{app_of, rule_of};
 ghost use Rattle.clap.specs.declared.builder.command.Command.TheViews.{out-Command as fields_of};
-ghost use Rattle.sn_command.specs.Commands.{required, mkfs, run, stop_at, check, export, import, snapfs};
+ghost use Rattle.sn_command.specs.Commands.{required, mkfs, run, stop_at, check, export, import, serve, snapfs};
 ghost use Rattle.sn_command.specs.declared.fault.WordsFault.TheVariants as fault;
 
 use crate::fault::WordsFault;
@@ -84,6 +84,15 @@ fn import<'a>(alloc: Global) -> Result<Command<'a>, WordsFault>
     Ok(command)
 }
 
+fn serve<'a>(alloc: Global) -> Result<Command<'a>, WordsFault>
+    ensures app { IfOk result (λ c. app_of c ≡ serve) }
+    ensures memory { IfErr result (λ why. why ≡ fault.Memory) }
+    ensures local { IfOk result (λ c. (fields_of c).has_globals ≡ false) }
+{
+    let command = Command::new(alloc, "serve").arg(word(alloc, "IMAGE"))?;
+    Ok(command)
+}
+
 /// All of them. Help is none: it is refused as any other word is.
 pub(crate) fn commands<'a>(alloc: Global) -> Result<Command<'a>, WordsFault>
     ensures app { IfOk result (λ c. app_of c ≡ snapfs) }
@@ -98,6 +107,7 @@ pub(crate) fn commands<'a>(alloc: Global) -> Result<Command<'a>, WordsFault>
         .subcommand(stop_at(alloc)?)?
         .subcommand(check(alloc)?)?
         .subcommand(export(alloc)?)?
-        .subcommand(import(alloc)?)?;
+        .subcommand(import(alloc)?)?
+        .subcommand(serve(alloc)?)?;
     Ok(command)
 }

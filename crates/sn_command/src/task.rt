@@ -108,6 +108,15 @@ fn import<'a>(found: &ArgMatches<'a>) -> Result<Task<'a>, WordsFault>
     })
 }
 
+fn serve<'a>(found: &ArgMatches<'a>) -> Result<Task<'a>, WordsFault>
+    ensures read { IfOk result (IsRead (codes "serve") (first_value (found_of found.now))) }
+    ensures unread { (task : Asked) → IsRead (codes "serve") (first_value (found_of found.now)) task → IfErr result (λ why. why ≡ fault.Memory) }
+{
+    Ok(Task::Serve {
+        image: text(found, "IMAGE")?,
+    })
+}
+
 /// The task of the command with this name, whose words were found.
 pub(crate) fn task_of<'a>(name: &str, found: &ArgMatches<'a>) -> Result<Task<'a>, WordsFault>
     ensures read { IfOk result (IsRead name.now (first_value (found_of found.now))) }
@@ -120,6 +129,7 @@ pub(crate) fn task_of<'a>(name: &str, found: &ArgMatches<'a>) -> Result<Task<'a>
         "check" => check(found),
         "export" => export(found),
         "import" => import(found),
+        "serve" => serve(found),
         _ => Err(WordsFault::Usage),
     }
 }

@@ -15,6 +15,11 @@ use Rattle.sn_mounted.specs.Shown.{Shown}
 pub grows_by : (told : Bool) (act : Act) (old new : Shown) → Does told act old new → Grows (DidFrom told old) (DidFrom told new) (act ∷ [])
 grows_by told act old new h = record { grows = λ first before d. does d h }
 
+pub grows_by_steps : (told : Bool) (replies : List Reply) (old new : Shown) → (IsTrue told → Leads (replicate (length replies) event.Step) replies old.served new.served) → new.places ≡ old.places
+    → Grows (DidFrom told old) (DidFrom told new) []
+grows_by_steps told replies old new leads same =
+    record { grows = λ first before d. subst (λ (done : List Act). Did told first new done) (sym (append-nil before)) (steps {replies = replies} d leads same) }
+
 -- ---- events
 
 events_more : {a b : List Act} {e f : List Event} {r s : List Reply} → AreEventsOf a e r → AreEventsOf b f s → AreEventsOf (a ++ b) (e ++ f) (r ++ s)

@@ -120,7 +120,7 @@ impl<D: Device + Drop> Mounted<D> {
     }
 
     /// Whether a failure of the device has stopped it.
-    pub fn has_stopped(&self) -> bool
+    pub fn is_stopped(&self) -> bool
         ensures { result ≡ self.now.served.has_stopped }
     {
         self.serving.has_stopped()
@@ -200,7 +200,7 @@ impl<D: Device + Drop> Mounted<D> {
     }
 
     /// Makes the steps that are due after calls that were logged, as `Serving::keep_pace` does.
-    pub fn keep_pace(&mut self)
+    pub fn make_steps(&mut self)
         ensures steps { (replies : List Told) × (IsTrue D.tells_bytes → Leads (replicate (length replies) event.Step) replies self.old.served self.new.served) }
         ensures places { self.new.places ≡ self.old.places }
     {
@@ -222,6 +222,8 @@ impl<D: Device + Drop> FileSystem for Mounted<D> {
 
     ghost did = { DidFrom D.tells_bytes };
 
+    ghost stopped = { λ m. m.served.has_stopped };
+
     fn call(&mut self, session: u32, call: &Call) -> Reply {
         self.answer(session, call)
     }
@@ -236,5 +238,13 @@ impl<D: Device + Drop> FileSystem for Mounted<D> {
 
     fn space(&mut self) -> Space {
         self.left()
+    }
+
+    fn has_stopped(&self) -> bool {
+        self.is_stopped()
+    }
+
+    fn keep_pace(&mut self) {
+        self.make_steps();
     }
 }

@@ -1,5 +1,5 @@
 //! What a server serves.
-ghost use Rattle.std.specs.Prelude.{◌∷◌, [], List};
+ghost use Rattle.std.specs.Prelude.{◌≡◌, ◌∷◌, [], List, Bool, false};
 ghost use Rattle.sn_plan.specs.Acts.{Act, Called, Counted, Found, Seen};
 ghost use Rattle.sn_plan.specs.Acts.{Grows};
 
@@ -24,6 +24,9 @@ pub trait FileSystem {
     /// Whether these acts are what was done from the second one on up to the first, in this order. Of one of which that isn't known nothing is.
     ghost did: { Self → Self → List Act → Type 0 } = { λ _ _ _. ⊥ };
 
+    /// Whether a failure has stopped it for good.
+    ghost stopped: { Self → Bool } = { λ _. false };
+
     /// The reply to a call of a session.
     fn call(&mut self, session: u32, call: &Call) -> Reply
         ensures { Grows (did self.old) (did self.new) (Called session call.now result ∷ []) };
@@ -39,4 +42,12 @@ pub trait FileSystem {
     /// How much room there is. Nothing changes.
     fn space(&mut self) -> Space
         ensures { Grows (did self.old) (did self.new) (Counted result ∷ []) };
+
+    /// Whether a failure has stopped it for good: then it carries out no call.
+    fn has_stopped(&self) -> bool
+        ensures { result ≡ stopped self.now };
+
+    /// Does the work that is due after calls, for which nobody waits. It is no act.
+    fn keep_pace(&mut self)
+        ensures { Grows (did self.old) (did self.new) [] };
 }

@@ -1,3 +1,4 @@
 pub mod AnswerLemmas
 pub mod CopyLemmas
 pub mod ReaderLemmas
+pub mod ServeLemmas

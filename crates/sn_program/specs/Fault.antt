@@ -10,8 +10,12 @@ use Rattle.sn_import_image.specs.declared.fault.ImportFault.TheVariants as impor
 use Rattle.sn_script.specs.declared.fault.ScriptFault.TheVariants as reading
 use Rattle.sn_command.specs.declared.fault.WordsFault.{WordsFault}
 use Rattle.sn_command.specs.declared.fault.WordsFault.TheVariants as words
+use Rattle.sn_serve_image.specs.declared.fault.ServeFault.{ServeFault}
+use Rattle.sn_serve_image.specs.declared.fault.ServeFault.TheVariants as serve
 use Rattle.sn_program.specs.declared.fault.ProgramFault.{ProgramFault}
 use Rattle.sn_program.specs.declared.fault.ProgramFault.TheVariants as fault
+use Rattle.sn_program.specs.declared.fault.Which.{Which}
+use Rattle.sn_program.specs.declared.fault.Which.TheVariants as files
 
 abbrev pub status_of : ProgramFault → ℕ
 status_of fault.Usage = 2
@@ -64,6 +68,20 @@ fault_of_import (import.Mount m) = fault.Mount m
 fault_of_import import.Path = fault.Path
 fault_of_import import.Memory = fault.Memory
 fault_of_import import.Stopped = fault.Stopped
+
+-- this stream failed
+abbrev pub IsOfStream : Which → ProgramFault → Type 0
+IsOfStream stream (fault.File other error) = other ≡ stream
+IsOfStream stream cause = ⊥
+
+-- why no more messages of a mount were answered: there was no mount, memory was refused, the mount stopped, what came is no message or couldn't be read, or a reply wasn't taken
+abbrev pub IsOfServe : ServeFault → ProgramFault → Type 0
+IsOfServe (serve.Mount m) given = given ≡ fault.Mount m
+IsOfServe serve.Memory given = given ≡ fault.Memory
+IsOfServe serve.Stopped given = given ≡ fault.Stopped
+IsOfServe serve.Message given = IsOfStream files.Input given
+IsOfServe serve.Input given = IsOfStream files.Input given
+IsOfServe serve.Output given = IsOfStream files.Output given
 
 -- the words are no command, or there was no memory to read them
 abbrev pub fault_of_words : WordsFault → ProgramFault

@@ -1,5 +1,5 @@
 -- What the program leaves of what its words ask for.
-use Rattle.std.specs.Prelude.{◌≡◌, ◌⊎◌, ℕ, List, [], ◌∷◌, ◌++◌, length, None, Some, Err, codes}
+use Rattle.std.specs.Prelude.{◌≡◌, ◌⊎◌, ℕ, List, [], ◌∷◌, ◌++◌, length, Bool, None, Some, Result, Ok, Err, codes}
 use Rattle.std.specs.declared.option.Option.{Option}
 use Rattle.std.specs.Io.KnownBytes.{Appends, Keeps}
 use Rattle.std.specs.List.{flat_map}
@@ -22,6 +22,10 @@ use Rattle.sn_command.specs.declared.command.Task.TheVariants as task
 use Rattle.sn_script.specs.Replies.{reply_line}
 use Rattle.sn_export_walk.specs.Streams.{BeginsStream, WritesStream}
 use Rattle.sn_output.specs.Outputs.{AppendsFront}
+use Rattle.sn_device.specs.Disk.{Disk}
+use Rattle.sn_mount_streams.specs.Told.{tells_anything}
+use Rattle.sn_serve_image.specs.Serves.{IsServed}
+use Rattle.sn_serve_image.specs.declared.fault.ServeFault.{ServeFault}
 use Rattle.sn_program.specs.Answers.{AreEventsOf}
 use Rattle.sn_program.specs.Copies.{IsCutShort}
 use Rattle.sn_program.specs.Fault.{IsOfFile, fault_of}
@@ -103,7 +107,22 @@ IsImported Done = Unit {0}
 IsImported InPart = Unit {0}
 IsImported came = ⊥
 
--- What a task that was done leaves on the output, by what came of it. Of which bytes a file had, and so of the replies of a run on one and of what a check finds in one, nothing can be said; an image that is made is answered by `ok`, and an import by nothing. A fault is reported of what was done only where that was to cut a run short.
+-- An image was mounted, and messages were answered by replies on the output, each by its plan, up to this outcome. Which messages came, which groups the system
+-- told of their senders, and what the image had, can't be said.
+pub record ServesMount (outcome : Result (Unit {0}) ServeFault) (old new : Option (List ℕ)) : Type 0 where
+  pub told : Bool
+  pub maps_all : Bool
+  pub input : Option (List ℕ)
+  pub rest : Option (List ℕ)
+  pub disk : Disk
+  pub last : Disk
+  pub served : IsServed told tells_anything maps_all tt tt input rest old new outcome disk last
+
+-- nothing was written, or replies up to a fault
+abbrev pub BeginsToServe : Option (List ℕ) → Option (List ℕ) → Type 0
+BeginsToServe old new = (new ≡ old) ⊎ ((why : ServeFault) × ServesMount (Err why) old new)
+
+-- What a task that was done leaves on the output, by what came of it. Of which bytes a file had, and so of the replies of a run on one and of what a check finds in one, nothing can be said; an image that is made is answered by `ok`, an import by nothing, and the messages of a mount by their replies. A fault is reported of what was done only where that was to cut a run short.
 abbrev pub Leaves : Task → Ending → Option (List ℕ) → Option (List ℕ) → Type 0
 Leaves (task.Run image script) came old new = (came ≡ Done) × SaysRun old new
 Leaves (task.Mkfs image blocks) came old new = (came ≡ Done) × Says (answer.Done ∷ []) old new
@@ -111,6 +130,7 @@ Leaves (task.StopAt cut how image script out) came old new = ComesOfCopy how cam
 Leaves (task.Check image) came old new = SaysVerdict came old new
 Leaves (task.Export image path) came old new = (came ≡ Done) × WritesStream old new
 Leaves (task.Import image path) came old new = IsImported came × (new ≡ old)
+Leaves (task.Serve image) came old new = (came ≡ Done) × ServesMount (Ok tt) old new
 
 -- with a reported fault, or without one
 abbrev pub came_of : Option ProgramFault → Ending
@@ -133,6 +153,7 @@ Begins (task.StopAt cut how image script out) old new = BeginsOfCopy how old new
 Begins (task.Check image) old new = BeginsToSayVerdict old new
 Begins (task.Export image path) old new = BeginsStream old new
 Begins (task.Import image path) old new = Keeps old new
+Begins (task.Serve image) old new = BeginsToServe old new
 
 -- nothing, or the front of what may be said to the words
 abbrev pub HasBegun : List (List ℕ) → Option (List ℕ) → Option (List ℕ) → Type 0

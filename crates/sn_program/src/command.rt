@@ -28,6 +28,7 @@ use crate::person::{advise, explain, show_commands};
 use crate::progress::Progress;
 use crate::run::{Answered, answer, outcome};
 use crate::script::read_events;
+use crate::serve::serve_on;
 use crate::watched::{WatchReads, WatchedDevice};
 use sn_command::{Task, parse};
 use sn_core::{End, Event, Fill, MemDevice, MkfsFault, Reply, Verdict, Watch, mkfs};
@@ -299,6 +300,7 @@ fn execute<
         },
         Task::Export { image, path } => quietly(export_on(rt, image, path, out), err),
         Task::Import { image, path } => import_on(rt, image, path, input, err),
+        Task::Serve { image } => quietly(serve_on(rt, image, input, out), err),
     }
 }
 
@@ -367,7 +369,7 @@ pub fn refuse<E: Write, P: Write>(fault: ProgramFault, err: &mut E, person: &mut
 /// Does what the words ask for, and gives the exit status, and standard error back. The status is 0 where all of it was done, 3 where an
 /// image was checked and is damaged, 2 for words that are no command, else 1. A fault is reported by a line on standard error, also that of
 /// a run which was cut short and whose remains were saved, where the status is 0. What an import doesn't make is reported there too, with
-/// status 1. An archive is read from `input`. `person` is shown which file failed and why, what a damage means, how far a long run has
+/// status 1. An archive and the messages of a mount are read from `input`. `person` is shown which file failed and why, what a damage means, how far a long run has
 /// come, and which commands there are where the words are none.
 ///
 /// Proved: Status 0 comes only where the words ask for a task and it is done: `mkfs` writes one `ok`, `check` a `clean`,
@@ -379,6 +381,7 @@ pub fn refuse<E: Write, P: Write>(fault: ProgramFault, err: &mut E, person: &mut
 /// nothing on standard error.
 /// Proved: `export` writes a stream of members and its end, or with status 1 nothing or the front of one.
 /// Proved: `import` writes nothing on standard output, and with status 0 nothing on standard error: then all entries were made.
+/// Proved: `serve` writes replies to messages, each by its plan, and nothing where there was no mount.
 /// Proved: K1 comes exactly where no disk has so many blocks.
 pub fn program<
     F: FileExt + OpenFile + LockFile + Read + Drop,

@@ -1,5 +1,5 @@
 ghost use Rattle.std.specs.Prelude.{◌≡◌, Ok, IfOk, IfErr};
-ghost use Rattle.sn_program.specs.Fault.{status_of, fault_of, fault_of_import, fault_of_words, IsOfExport, IsOfFile};
+ghost use Rattle.sn_program.specs.Fault.{status_of, fault_of, fault_of_import, fault_of_words, IsOfExport, IsOfFile, IsOfServe, IsOfStream};
 ghost use Rattle.sn_program.specs.declared.fault.ProgramFault.TheVariants as fault;
 
 use sn_command::WordsFault;
@@ -8,6 +8,7 @@ use sn_export_image::ImageFault;
 use sn_export_walk::ExportFault;
 use sn_import_image::ImportFault;
 use sn_script::ScriptFault;
+use sn_serve_image::ServeFault;
 use std::alloc::AllocError;
 use std::io;
 use std::io::Write;
@@ -20,7 +21,7 @@ pub enum Which {
     Image,
     /// OUT, which is to have what a run that was cut short has left.
     Saved,
-    /// Standard input, which is to have an archive.
+    /// Standard input, which is to have an archive, or the messages of a mount.
     Input,
     /// Standard output.
     Output,
@@ -155,6 +156,31 @@ impl From<ImportFault> for ProgramFault {
             ImportFault::Path => ProgramFault::Path,
             ImportFault::Memory => ProgramFault::Memory,
             ImportFault::Stopped => ProgramFault::Stopped,
+        }
+    }
+}
+
+/// Why no more messages are answered, of one of the two streams of a mount.
+fn unserved(which: Which, words: &str) -> ProgramFault
+    ensures { IsOfStream which result }
+{
+    ProgramFault::File {
+        which,
+        error: io::Error::new(io::ErrorKind::InvalidData, words),
+    }
+}
+
+impl From<ServeFault> for ProgramFault {
+    ghost from_gives = { λ serve given. IsOfServe serve given };
+
+    fn from(fault: ServeFault) -> ProgramFault {
+        match fault {
+            ServeFault::Mount(fault) => ProgramFault::Mount(fault),
+            ServeFault::Memory => ProgramFault::Memory,
+            ServeFault::Stopped => ProgramFault::Stopped,
+            ServeFault::Message => unserved(Which::Input, "no message of a mount"),
+            ServeFault::Input => unserved(Which::Input, "messages can't be read"),
+            ServeFault::Output => unserved(Which::Output, "a reply can't be written"),
         }
     }
 }

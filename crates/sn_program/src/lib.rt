@@ -1,6 +1,6 @@
 //! What the program `snapfs` does, over the files of a handle, a reader and three writers: its `main` adds nothing but the words
 //! of the command line and the streams of the process. The third writer is for a person: a [`Person`] is standard error where
-//! that is a terminal.
+//! that is a terminal. Standard output is put into [`Replies`], since it may be the device of a mount.
 //!
 //! [`program`] is all of it. It reads the words by `sn_command`, the script's file by [`read_events`], and [`answer`] runs
 //! the events on a device and writes their replies: its clauses, by `specs/Answers`, speak of every device that tells its
@@ -8,14 +8,14 @@
 //! written. A run that is cut short runs on a copy in memory, by [`answer_cut`], and its clauses speak of that copy and of what a
 //! crash leaves of it (`specs/Copies`). An image is made by `sn_mkfs`, and checked by `sn_check`: [`check_on`] says
 //! what the result is over every device that tells its bytes, and [`export_from`] the same of the archive of a tree, which
-//! `sn_export_image` writes. How much of an image a check has read is seen by `watched`, a device around another. Each fault is a
-//! [`ProgramFault`], whose text is the line on standard error and whose status the shell sees. `specs/Tasks` says what is left of
-//! what the words ask for.
+//! `sn_export_image` writes. The messages of a mount are answered by `sn_serve_image`. How much of an image a check has read is seen by
+//! `watched`, a device around another. Each fault is a [`ProgramFault`], whose text is the line on standard error and whose status the
+//! shell sees. `specs/Tasks` says what is left of what the words ask for.
 //!
 //! What the sources leave open is decided in `docs/DECISIONS.md`, under "Scripts and the program".
 //!
 //! ```text
-//! let (status, _) = program(&rt, &["run", "disk.img", "first.snap"], &mut rt.stdin(), &mut out, rt.stderr(), &mut Person::at(rt.stderr()));
+//! let (status, _) = program(&rt, &["run", "disk.img", "first.snap"], &mut rt.stdin(), &mut Replies::to(rt.stdout()), rt.stderr(), &mut Person::at(rt.stderr()));
 //! ```
 #![tactic(auto)]
 
@@ -31,6 +31,7 @@ mod person;
 mod progress;
 mod run;
 mod script;
+mod serve;
 mod watched;
 
 pub use checking::check_on;
@@ -42,3 +43,4 @@ pub use fault::{ProgramFault, Which, tell};
 pub use person::Person;
 pub use run::{Answered, answer, outcome};
 pub use script::read_events;
+pub use sn_mount_streams::Replies;

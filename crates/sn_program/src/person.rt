@@ -48,7 +48,8 @@ fn name_of<'a>(which: Which, task: Task<'a>) -> &'a str {
             | Task::StopAt { image, .. }
             | Task::Check { image }
             | Task::Export { image, .. }
-            | Task::Import { image, .. },
+            | Task::Import { image, .. }
+            | Task::Serve { image },
         ) => image,
         (Which::Script, Task::Run { script, .. } | Task::StopAt { script, .. }) => script,
         (Which::Saved, Task::StopAt { out, .. }) => out,
@@ -89,7 +90,7 @@ pub(crate) fn advise<P: Write>(damage: Damage, block: u32, task: Task<'_>, perso
 }
 
 /// The commands, a line each, and where more is said.
-const COMMANDS: [&str; 7] = [
+const COMMANDS: [&str; 8] = [
     "snapfs mkfs IMAGE BLOCKS: formats IMAGE with 256 to 1048576 blocks of 4096 bytes, over what it has",
     "snapfs run IMAGE SCRIPT: mounts IMAGE and makes the calls of SCRIPT, with a reply for each line",
     "snapfs check IMAGE: tells whether all of IMAGE is sound, or its first fault, and only reads",
@@ -97,6 +98,7 @@ const COMMANDS: [&str; 7] = [
      FILL is old, new, zero, one or junk",
     "snapfs export IMAGE PATH: writes the tree at PATH of IMAGE to standard output, as a tar stream",
     "snapfs import IMAGE PATH: makes what the tar stream of standard input holds below the directory PATH of IMAGE",
+    "snapfs serve IMAGE: mounts IMAGE and answers the messages of a mount from standard input on standard output, until it is gone",
     "README.md tells more, docs/SCRIPT.md has the calls, and docs/FAULTS.md what to do about a fault",
 ];
 

@@ -1,10 +1,10 @@
 -- A message and its reply.
-use Rattle.std.specs.Prelude.{◌≡◌, ◌⊎◌, ℕ, Bool, true, false, List, [], Option, None, Some, Result, if◌then◌else◌}
+use Rattle.std.specs.Prelude.{◌≡◌, ◌⊎◌, ◌==◌, ◌&&◌, ℕ, Bool, true, false, not, List, [], Option, None, Some, Result, if◌then◌else◌}
 use Rattle.sn_callers.specs.Logins.{login_of}
 use Rattle.sn_fuse.specs.Message.{IsMisspelt, IsRequest, IsShort, IsUnknown}
 use Rattle.sn_fuse.specs.declared.message.Head.{Head}
 use Rattle.sn_fuse.specs.declared.operation.Op.{Op}
-use Rattle.sn_fuse.specs.declared.operation.Op.TheVariants.{BatchForget, Forget, Interrupt}
+use Rattle.sn_fuse.specs.declared.operation.Op.TheVariants.{BatchForget, Flush, Forget, Fsync, FsyncDir, Init, Interrupt, Read, ReadDir, Release, ReleaseDir, Statfs, Write}
 use Rattle.sn_fuse_replies.specs.Answer.{reply_bytes}
 use Rattle.sn_fuse_replies.specs.declared.answer.Answer.{Answer}
 use Rattle.sn_fuse_replies.specs.declared.answer.Answer.TheVariants.{Error}
@@ -13,7 +13,6 @@ use Rattle.sn_fuse_replies.specs.declared.errno.Errno.TheVariants.{EINVAL, EIO, 
 use Rattle.sn_listings.specs.Told.{directory_at}
 use Rattle.sn_model.specs.declared.call.Call.{Call}
 use Rattle.sn_plan.specs.Acts.{Act}
-use Rattle.sn_plan.specs.declared.server.Server.{Server}
 use Rattle.sn_serve.specs.Answers.{reply_of}
 use Rattle.sn_serve.specs.Messages.{Answers, acts_in}
 use Rattle.sn_serve.specs.declared.service.Service.{Service}
@@ -43,32 +42,68 @@ IsReplyBy false told reply = reply ≡ None
 abbrev pub IsReply : Op → Result Told Errno → Option Answer → Type 0
 IsReply op told reply = IsReplyBy (has_reply op) told reply
 
+-- ---- the groups of who sent a request
+
+-- Whether anything is done as who sent it: what goes by a handle asks for no right again.
+abbrev pub asks : Op → Bool
+asks (Read span) = false
+asks (Write handle offset flags bytes) = false
+asks (Release handle) = false
+asks (ReadDir span) = false
+asks (ReleaseDir handle) = false
+asks (Forget lookups) = false
+asks (BatchForget forgets) = false
+asks (Flush handle) = false
+asks (Fsync handle flags) = false
+asks (FsyncDir handle flags) = false
+asks Statfs = false
+asks (Init major minor readahead flags) = false
+asks (Interrupt unique) = false
+asks other = true
+
+-- user 0 needs no groups
+abbrev pub needs_groups : Head → Op → Bool
+needs_groups head op = not (head.user == 0) && asks op
+
+abbrev pub IsTextBy : {P : Type 0} → (P → ℕ → Option (List ℕ) → P → Type 0) → Bool → ℕ → P → Option (List ℕ) → P → Type 0
+IsTextBy tells true process before text after = tells before process text after
+IsTextBy tells false process before text after = (text ≡ None) × (after ≡ before)
+
+-- the text that was told of its process, where groups are needed; else none, and nothing was asked for
+abbrev pub IsTextOf : {P : Type 0} → (P → ℕ → Option (List ℕ) → P → Type 0) → Head → Op → P → Option (List ℕ) → P → Type 0
+IsTextOf tells head op before text after = IsTextBy tells (needs_groups head op) head.process before text after
+
 -- A request is performed as one of who sent it.
-pub record Performs {F : Type 0} (did : F → F → List Act → Type 0) (head : Head) (op : Op) (old new : Service F) (told : Result Told Errno) : Type 0 where
+pub record Performs {F P : Type 0} (did : F → F → List Act → Type 0) (tells : P → ℕ → Option (List ℕ) → P → Type 0) (head : Head) (op : Op) (old : Service F) (before : P) (new : Service F) (after : P)
+    (told : Result Told Errno) : Type 0 where
   pub text : Option (List ℕ)
-  pub all_mapped : Bool
-  pub answers : Answers did (login_by_head head text all_mapped) head.node old.server new.server (directory_at old.listings) (directory_at new.listings) op told
+  pub is_text : IsTextOf tells head op before text after
+  pub answers : Answers did (login_by_head head text old.maps_all) head.node old.server new.server (directory_at old.listings) (directory_at new.listings) op told
+  pub maps_all : new.maps_all ≡ old.maps_all
 
 -- and answered by what was told
-pub record IsAnswered {F : Type 0} (did : F → F → List Act → Type 0) (head : Head) (op : Op) (old new : Service F) (reply : Option Answer) : Type 0 where
+pub record IsAnswered {F P : Type 0} (did : F → F → List Act → Type 0) (tells : P → ℕ → Option (List ℕ) → P → Type 0) (head : Head) (op : Op) (old : Service F) (before : P) (new : Service F) (after : P)
+    (reply : Option Answer) : Type 0 where
   pub told : Result Told Errno
-  pub performs : Performs did head op old new told
+  pub performs : Performs did tells head op old before new after told
   pub told_reply : IsReply op told reply
 
 abbrev pub spelled : ℕ → Option Answer → List ℕ
 spelled unique None = []
 spelled unique (Some answer) = reply_bytes unique answer
 
--- A message, what became of what is served, and the bytes of the reply, which repeats the message's own number. Bytes that have no head are passed over.
-pub data IsExchange {F : Type 0} (did : F → F → List Act → Type 0) (message : List ℕ) (old : Service F) : Service F → List ℕ → Type 0 where
-  short : IsShort message → IsExchange did message old old []
-  unknown : {head : Head} → IsUnknown message head → IsExchange did message old old (spelled head.unique (Some (Error ENOSYS)))
-  misspelt : {head : Head} → IsMisspelt message head → IsExchange did message old old (spelled head.unique (Some (Error EINVAL)))
-  request : {head : Head} {op : Op} {new : Service F} {reply : Option Answer} → IsRequest message head op → IsAnswered did head op old new reply
-      → IsExchange did message old new (spelled head.unique reply)
+-- A message, what became of what is served and of what tells of processes, and the bytes of the reply, which repeats the message's own number. Bytes
+-- that have no head are passed over.
+pub data IsExchange {F P : Type 0} (did : F → F → List Act → Type 0) (tells : P → ℕ → Option (List ℕ) → P → Type 0) (message : List ℕ) (old : Service F) (before : P) : Service F → P → List ℕ → Type 0 where
+  short : IsShort message → IsExchange did tells message old before old before []
+  unknown : {head : Head} → IsUnknown message head → IsExchange did tells message old before old before (spelled head.unique (Some (Error ENOSYS)))
+  misspelt : {head : Head} → IsMisspelt message head → IsExchange did tells message old before old before (spelled head.unique (Some (Error EINVAL)))
+  request : {head : Head} {op : Op} {new : Service F} {after : P} {reply : Option Answer} → IsRequest message head op → IsAnswered did tells head op old before new after reply
+      → IsExchange did tells message old before new after (spelled head.unique reply)
 
 -- what was done for it
-abbrev pub acts_for : {F : Type 0} {did : F → F → List Act → Type 0} {message : List ℕ} {old new : Service F} {reply : List ℕ} → IsExchange did message old new reply → List Act
+abbrev pub acts_for : {F P : Type 0} {did : F → F → List Act → Type 0} {tells : P → ℕ → Option (List ℕ) → P → Type 0} {message : List ℕ} {old : Service F} {before : P} {new : Service F} {after : P} {reply : List ℕ}
+    → IsExchange did tells message old before new after reply → List Act
 acts_for (short is) = []
 acts_for (unknown is) = []
 acts_for (misspelt is) = []

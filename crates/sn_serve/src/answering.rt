@@ -1,10 +1,10 @@
 //! A message and its reply.
-ghost use Rattle.std.specs.Prelude.{◌≡◌, ◌++◌, ◌∷◌, [], ℕ, List, Option, Some, OnErr, OnOk, true};
+ghost use Rattle.std.specs.Prelude.{◌≡◌, ◌++◌, ◌∷◌, [], ℕ, List, Option, Some, OnErr, OnOk, option_map, true, vec_items};
 ghost use Rattle.sn_fuse_replies.specs.Answer.{reply_bytes};
 ghost use Rattle.sn_fuse_replies.specs.declared.answer.Answer.{Answer as TheAnswer};
 ghost use Rattle.sn_fuse_replies.specs.declared.answer.Answer.TheVariants.{Error};
 ghost use Rattle.sn_serve.specs.Exchanges as exchanges;
-ghost use Rattle.sn_serve.specs.Exchanges.{IsExchange, IsRefusal, IsReply, IsToldBy, Performs, spelled};
+ghost use Rattle.sn_serve.specs.Exchanges.{IsExchange, IsRefusal, IsReply, IsTextOf, IsToldBy, Performs, spelled};
 
 use crate::performing::perform;
 use crate::processes::Processes;
@@ -27,7 +27,9 @@ fn has_reply(op: &Op<'_>) -> bool
 
 // Whether anything is asked as who asks: what goes by a handle, or asks nothing, needs no groups. A WRITE may come of a page that is written back
 // long after its process ended.
-fn asks(op: &Op<'_>) -> bool {
+fn asks(op: &Op<'_>) -> bool
+    ensures { result ≡ exchanges.asks op.now }
+{
     !matches!(
         op,
         Op::Read { .. }
@@ -46,12 +48,22 @@ fn asks(op: &Op<'_>) -> bool {
     )
 }
 
-// The text that tells the groups of who asks. Those of user 0 aren't looked at.
-fn status_of<P: Processes>(processes: &mut P, head: &Head, op: &Op<'_>) -> Option<Vec<u8>> {
-    if head.user == 0 || !asks(op) {
-        return None;
+// Whether the groups of who asks are needed. Those of user 0 aren't looked at.
+fn needs_groups(head: &Head, op: &Op<'_>) -> bool
+    ensures { result ≡ exchanges.needs_groups head.now op.now }
+{
+    head.user != 0 && asks(op)
+}
+
+// The text that tells the groups of who asks, where they are needed.
+fn status_of<P: Processes>(processes: &mut P, head: &Head, op: &Op<'_>) -> Option<Vec<u8>>
+    ensures { IsTextOf P.tells head.now op.now processes.old (option_map vec_items result) processes.new }
+{
+    if needs_groups(head, op) {
+        processes.status(head.process)
+    } else {
+        None
     }
-    processes.status(head.process)
 }
 
 // Appends the reply with an error.
@@ -69,7 +81,7 @@ fn perform_as<F: FileSystem, P: Processes>(
     head: &Head,
     op: &Op<'_>,
 ) -> Result<Told, Errno>
-    ensures { Performs F.did head.now op.now service.old service.new result }
+    ensures { Performs F.did P.tells head.now op.now service.old processes.old service.new processes.new result }
 {
     let status = status_of(processes, head, op);
     let asker = Asker {
@@ -78,7 +90,7 @@ fn perform_as<F: FileSystem, P: Processes>(
             group: head.group,
         },
         status: status.as_deref(),
-        all_mapped: processes.all_mapped(),
+        all_mapped: service.maps_all,
     };
     perform(
         &mut service.server,
@@ -139,14 +151,15 @@ pub fn refuse_message(message: &[u8], out: &mut Vec<u8>) -> Result<(), AllocErro
 /// what it asked for may be done, and nothing was appended.
 ///
 /// Proved: A message is answered once, with its own number: an unknown operation with `ENOSYS`, a misspelt one with `EINVAL`, and a request by
-/// what its plan asks for, as the user and group in its head, with groups that some text tells; a FORGET and an INTERRUPT have no reply.
+/// what its plan asks for, as the user and group in its head, with the groups that are told of its process; a FORGET and an INTERRUPT have no
+/// reply. Nothing is asked of a process where user 0 sends the request, or where nothing is done as its sender.
 pub fn answer<F: FileSystem, P: Processes>(
     service: &mut Service<F>,
     processes: &mut P,
     message: &[u8],
     out: &mut Vec<u8>,
 ) -> Result<(), AllocError>
-    ensures { (reply : List ℕ) × IsExchange F.did message.now service.old service.new reply × OnOk result (out.new.items ≡ out.old.items ++ reply) }
+    ensures { (reply : List ℕ) × IsExchange F.did P.tells message.now service.old processes.old service.new processes.new reply × OnOk result (out.new.items ≡ out.old.items ++ reply) }
 {
     let (head, op) = match decode(message) {
         Decoded::Short => return Ok(()),

@@ -5,8 +5,9 @@
 //! `IsExchange` (`specs/Exchanges`) is what [`answer`] does with the bytes of a message: which requests they spell is for `sn_fuse`, and how a
 //! reply is spelled for `sn_fuse_replies`.
 //!
-//! A request is made as its sender: user and group are those in the head of the message. The groups are read from a text that
-//! [`Processes`] gives; that it is the text of the sender's process no clause says.
+//! A request is made as its sender: user and group are those in the head of the message, and the groups are read from the text that
+//! [`Processes`] gives of the sender's process. `tells`, a relation of that trait, says which text that may be. It is asked for once for each
+//! request that needs it, so no text is used for a second one.
 //!
 //! The way through: `groups` and `performing` do what a request asks for, `told` is what it is answered with, and `answering` has the
 //! message and the reply. `service` is what is held, and `processes` who tells of senders.

@@ -1,10 +1,12 @@
 //! What the system tells of who asks.
+ghost use Rattle.std.specs.Prelude.{ℕ, List, Option, option_map, vec_items, ⊤};
 
 /// What the system tells of the processes that send messages.
 pub trait Processes {
-    /// The text of `/proc/PID/status`, `None` where it can't be read.
-    fn status(&mut self, process: u32) -> Option<Vec<u8>>;
+    /// Whether this text may be told of the process with a number, none where it can't be read, and what tells of processes afterwards.
+    ghost tells: { Self → ℕ → Option (List ℕ) → Self → Type 0 } = { λ _ _ _ _. ⊤ };
 
-    /// Whether the namespace of the server maps all groups, so that group 65534 of a text is that group.
-    fn all_mapped(&mut self) -> bool;
+    /// The text of `/proc/PID/status`, `None` where it can't be read.
+    fn status(&mut self, process: u32) -> Option<Vec<u8>>
+        ensures { tells self.old process (option_map vec_items result) self.new };
 }

@@ -7,4 +7,6 @@ use sn_plan::Server;
 pub struct Service<F> {
     pub server: Server<F>,
     pub listings: Listings,
+    /// Whether the namespace of the server maps all groups, so that group 65534 of a text is that group. It never changes.
+    pub maps_all: bool,
 }

@@ -24,9 +24,9 @@ statistics_of space = record {
   fragment_size = 4096;
 }
 
--- ASYNC_READ, ATOMIC_O_TRUNC, BIG_WRITES, DONT_MASK and MAX_PAGES, as far as they are offered
+-- ASYNC_READ, ATOMIC_O_TRUNC, BIG_WRITES, DONT_MASK, HANDLE_KILLPRIV and MAX_PAGES, as far as they are offered
 abbrev pub taken : InitFlags → InitFlags
-taken offered = record { 0 = bit_and offered.0 0x400069 }
+taken offered = record { 0 = bit_and offered.0 0x480069 }
 
 -- seven pages in a WRITE, and sixteen in a READ
 abbrev pub taken_up : ℕ → InitFlags → Initialized

@@ -16,8 +16,8 @@ const WRITE_MAX: u32 = 28_672;
 /// The most pages of a READ: 65,536 bytes.
 const PAGES: u16 = 16;
 
-/// ASYNC_READ, ATOMIC_O_TRUNC, BIG_WRITES, DONT_MASK and MAX_PAGES.
-const TAKEN: u32 = 0x40_0069;
+/// ASYNC_READ, ATOMIC_O_TRUNC, BIG_WRITES, DONT_MASK, HANDLE_KILLPRIV and MAX_PAGES.
+const TAKEN: u32 = 0x48_0069;
 
 fn taken(offered: InitFlags) -> InitFlags
     ensures { result ≡ room.taken offered }

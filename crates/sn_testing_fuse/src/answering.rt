@@ -5,13 +5,15 @@
 ghost use Rattle.std.specs.Prelude.{◌≡◌, ◌≤◌, [], IfOk, OnOk};
 ghost use Rattle.sn_fuse_replies.specs.Answer.{tail_of};
 
+use crate::errors::errno_of;
+use crate::short::short_answer_of;
 use anyhow::{Context, Result, bail, ensure};
 use hex::decode;
 use sn_fuse::{Data, Time};
 use sn_fuse_flags::InitFlags;
 use sn_fuse_replies::{
-    Answer, Attributes, DirectoryEntry, Entry, EntryKind, Errno, Initialized, Listing, NAME_MAX,
-    Opened, Statistics, encode,
+    Answer, Attributes, DirectoryEntry, Entry, EntryKind, Initialized, Listing, NAME_MAX, Opened,
+    Statistics, encode,
 };
 use sn_testing_tables::{Case, pair_of};
 use std::alloc::Global;
@@ -30,21 +32,6 @@ fn time(case: Case<'_>, at: usize) -> Result<Time> {
     Ok(Time {
         seconds: wide(case, at)?,
         nanoseconds: case.number(at.saturating_add(1))?,
-    })
-}
-
-fn errno_of(word: &str) -> Result<Errno> {
-    Ok(match word {
-        "EPERM" => Errno::EPERM,
-        "ENOENT" => Errno::ENOENT,
-        "EIO" => Errno::EIO,
-        "EACCES" => Errno::EACCES,
-        "EEXIST" => Errno::EEXIST,
-        "EINVAL" => Errno::EINVAL,
-        "ENOSYS" => Errno::ENOSYS,
-        "ENODATA" => Errno::ENODATA,
-        "ESTALE" => Errno::ESTALE,
-        _ => bail!("no error: {word}"),
     })
 }
 
@@ -165,7 +152,7 @@ fn joined_answer_of<'a>(word: &str, words: &str) -> Result<Answer<'a>>
                 opened: opened(back)?,
             })
         }
-        _ => bail!("no answer: {word}"),
+        _ => short_answer_of(word, words),
     }
 }
 

@@ -1,6 +1,7 @@
 //! The layouts of messages, as `linux/fuse.h` has them.
 
 use anyhow::{Result, bail};
+use sn_testing_tables::number_of;
 
 // An operation, its opcode, and a letter for each field.
 const LAYOUTS: [(&str, u32, &str); 32] = [
@@ -38,7 +39,7 @@ const LAYOUTS: [(&str, u32, &str); 32] = [
     ("RENAME2", 45, "qwgnn"),
 ];
 
-/// The opcode of an operation and its layout, a letter for each field: `w` a number of four bytes, `q` one of eight, `g`
+/// The opcode of an operation, by its name or as a number, and its layout: that of a number is data alone. A layout has a letter for each field: `w` a number of four bytes, `q` one of eight, `g`
 /// four bytes that aren't read, `s` the size of the data in four bytes, `c` how many pairs there are in four bytes, `n` a
 /// name, `d` data, `p` pairs.
 pub(crate) fn layout_of(word: &str) -> Result<(u32, &'static str)> {
@@ -47,7 +48,7 @@ pub(crate) fn layout_of(word: &str) -> Result<(u32, &'static str)> {
             return Ok((opcode, layout));
         }
     }
-    bail!("no operation: {word}")
+    Ok((number_of(word)?, "d"))
 }
 
 /// The operation that has an opcode.

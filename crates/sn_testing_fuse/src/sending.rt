@@ -23,8 +23,19 @@ struct Body<'a> {
     bytes: Vec<u8>,
 }
 
+// The process of a line that names none.
+const PROCESS: &str = "77";
+
+// A number in decimal, or in octal after `0o`.
 fn wide_of(word: &str) -> Result<u64> {
-    word.parse().context(format_args!("no number: {word}"))
+    match word.strip_prefix("0o") {
+        Some(digits) => u64::from_str_radix(digits, 8).context(format_args!("no number: {word}")),
+        None => word.parse().context(format_args!("no number: {word}")),
+    }
+}
+
+fn narrow_of(word: &str) -> Result<u32> {
+    u32::try_from(wide_of(word)?).context(format_args!("a long number: {word}"))
 }
 
 fn data_of(alloc: Global, word: &str) -> Result<Vec<u8>> {
@@ -101,8 +112,8 @@ impl<'a> Body<'a> {
                 self.push_wide(number)
             }
             b'w' => {
-                let number = wide_of(self.word()?)?;
-                self.push_number(u32::try_from(number).context("a long number")?)
+                let number = narrow_of(self.word()?)?;
+                self.push_number(number)
             }
             b'g' => Ok(self.bytes.extend_from_slice(&UNREAD)?),
             b's' => self.push_size(),
@@ -115,29 +126,44 @@ impl<'a> Body<'a> {
     }
 }
 
-/// The message of a line, with this `unique`, from a process of the number 77.
+/// The message of a line, with this `unique`. A line that is data is the message as it is.
 pub fn message(alloc: Global, unique: u64, line: &str) -> Result<Vec<u8>> {
+    if line.starts_with('x') {
+        return data_of(alloc, line);
+    }
     let case = Case::new(line);
     let (opcode, layout) = layout_of(case.word(0)?)?;
-    let (user, group) = pair_of(case.word(2)?)?;
-    let node = wide_of(case.word(1)?)?;
     let fields = body_of(alloc, case, layout)?;
+    let mut message = head_of(alloc, unique, case, opcode, fields.len())?;
+    message.extend_from_slice(&fields)?;
+    Ok(message)
+}
+
+// The head of a message whose body has so many bytes.
+fn head_of(
+    alloc: Global,
+    unique: u64,
+    case: Case<'_>,
+    opcode: u32,
+    size: usize,
+) -> Result<Vec<u8>> {
+    let (user, rest) = pair_of(case.word(2)?)?;
+    let (group, process) = rest.split_once(':').unwrap_or((rest, PROCESS));
     let mut head = Body {
         alloc,
         case,
         at: 0,
         bytes: Vec::new(alloc),
     };
-    let length = fields.len().saturating_add(HEAD_SIZE);
+    let length = size.saturating_add(HEAD_SIZE);
     head.push_number(u32::try_from(length).context("a long message")?)?;
     head.push_number(opcode)?;
     head.push_wide(unique)?;
-    head.push_wide(node)?;
-    head.push_number(u32::try_from(wide_of(user)?).context("no user")?)?;
-    head.push_number(u32::try_from(wide_of(group)?).context("no group")?)?;
-    head.push_number(77)?;
+    head.push_wide(wide_of(case.word(1)?)?)?;
+    head.push_number(narrow_of(user)?)?;
+    head.push_number(narrow_of(group)?)?;
+    head.push_number(narrow_of(process)?)?;
     head.bytes.extend_from_slice(&UNREAD)?;
-    head.bytes.extend_from_slice(&fields)?;
     Ok(head.bytes)
 }
 

@@ -41,9 +41,10 @@ fn is_kept_in_use(rt: &HostRuntime) -> Result<bool> {
     let made = Ended::of_words(rt, &["mkfs", IMAGE, "256"]);
     let ran = Ended::of_words(rt, &["run", IMAGE, SCRIPT]);
     let cut = Ended::of_words(rt, &["stop-at", "99", "old", IMAGE, SCRIPT, COPY]);
+    let served = Ended::of_words(rt, &["serve", IMAGE]);
     let bytes = fs::read(rt, IMAGE)?;
     drop(held);
-    let are_refused = [made, ran, cut]
+    let are_refused = [made, ran, cut, served]
         .iter()
         .all(|ended| ended.is(1, b"", b"snapfs: file\n"));
     Ok(are_refused && bytes.as_slice() == before.as_slice() && !fs::exists(rt, COPY)?)

@@ -10,7 +10,8 @@ returns-clause-app c =
     ∙ ap (on_top (λ s. record s { disable_help_subcommand = true })) (ap app_of_fields c.subcommand_required.ensures
     ∙ ap (on_top (λ s. record s { subcommand_required = true })) (ap app_of_fields c.no_binary_name.ensures
     ∙ ap (on_top (λ s. record s { no_binary_name = true })) c.new.ensures.app)) in
-    c.in_ok-command.ensures.shape c.in_ok-import.ensures.local
+    c.in_ok-command.ensures.shape c.in_ok-serve.ensures.local
+    ∙ ap₂ with_subcommand (c.in_ok-subcommand-6.ensures.shape c.in_ok-import.ensures.local
     ∙ ap₂ with_subcommand (c.in_ok-subcommand-5.ensures.shape c.in_ok-export.ensures.local
     ∙ ap₂ with_subcommand (c.in_ok-subcommand-4.ensures.shape c.in_ok-check.ensures.local
     ∙ ap₂ with_subcommand (c.in_ok-subcommand-3.ensures.shape c.in_ok-stop_at.ensures.local
@@ -19,4 +20,5 @@ returns-clause-app c =
     ∙ ap₂ with_subcommand first (ap (λ (a : App). a.top) c.in_ok-mkfs.ensures.app))
     (ap (λ (a : App). a.top) c.in_ok-run.ensures.app)) (ap (λ (a : App). a.top) c.in_ok-stop_at.ensures.app)) (ap (λ (a : App). a.top) c.in_ok-check.ensures.app))
     (ap (λ (a : App). a.top) c.in_ok-export.ensures.app))
-    (ap (λ (a : App). a.top) c.in_ok-import.ensures.app)
+    (ap (λ (a : App). a.top) c.in_ok-import.ensures.app))
+    (ap (λ (a : App). a.top) c.in_ok-serve.ensures.app)

@@ -1,4 +1,4 @@
-use Rattle.std.proofs.Common.{◌≡◌, ◌∙◌, Bool, refl, sym, subst}
+use Rattle.std.proofs.Common.{◌∙◌, Bool, refl, sym, subst}
 use Rattle.std.proofs.lemmas.List.{append-nil}
 use Rattle.std.specs.Prelude.{None, Some}
 use Rattle.sn_serve.specs.Exchanges.{IsReplyBy}

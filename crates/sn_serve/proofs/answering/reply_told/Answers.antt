@@ -1,4 +1,4 @@
-use Rattle.std.proofs.Common.{◌≡◌, ◌++◌, ℕ, List, inl, inr, refl, sym, subst}
+use Rattle.std.proofs.Common.{◌≡◌, ◌++◌, ℕ, List, inl, inr, refl, subst}
 use Rattle.std.specs.Prelude.{OnOk}
 use Rattle.sn_fuse_replies.specs.Answer.{reply_bytes}
 use Rattle.sn_fuse_replies.specs.declared.answer.Answer.TheVariants.{Error}

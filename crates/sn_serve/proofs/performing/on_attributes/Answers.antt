@@ -1,4 +1,4 @@
-use Rattle.std.proofs.Common.{◌≡◌, ◌∙◌, ℕ, List, ap, refl, subst}
+use Rattle.std.proofs.Common.{ℕ, List, ap, refl, subst}
 use Rattle.sn_serve.specs.Answers.{done, told_as}
 use Rattle.sn_serve.specs.declared.told.Told.TheVariants as told
 use Rattle.sn_serve.proofs.Telling.{follows_told}

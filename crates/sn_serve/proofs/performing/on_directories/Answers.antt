@@ -1,4 +1,3 @@
-use Rattle.std.proofs.Common.{◌≡◌, sym, subst}
 use Rattle.sn_serve.specs.Messages.{closes, lists, opens}
 use Rattle.sn_serve.proofs.Telling.{answers_as, is_opened}
 use Rattle.sn_serve.proofs.performing.on_directories.Goals as goal

@@ -1,4 +1,4 @@
-use Rattle.std.proofs.Common.{◌≡◌, ◌∙◌, ap, refl}
+use Rattle.std.proofs.Common.{◌∙◌, ap, refl}
 use Rattle.std.specs.Prelude.{Ok}
 use Rattle.sn_plan.specs.Plans.{Gives, given}
 use Rattle.sn_plan.proofs.Following.{gives_as, gives_it}

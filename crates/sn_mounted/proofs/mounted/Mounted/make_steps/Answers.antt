@@ -2,7 +2,7 @@ use Rattle.std.proofs.Common.{ap, length, replicate, subst}
 use Rattle.sn_model.specs.declared.call.Event.TheVariants.{Step}
 use Rattle.sn_mounted.specs.Shown.{Shown}
 use Rattle.sn_serving.specs.Served.{Leads, Served}
-use Rattle.sn_mounted.proofs.mounted.Mounted.keep_pace.Goals as goal
+use Rattle.sn_mounted.proofs.mounted.Mounted.make_steps.Goals as goal
 
 pub returns-clause-steps : goal.returns-clause-steps
 returns-clause-steps g c =

@@ -1,0 +1,178 @@
+"""Messages and replies of a mount as lines and as bytes, as docs/MESSAGES.md has them. `crates/sn_testing_fuse` says what the lines are."""
+
+import errno
+import struct
+
+# Each operation: its opcode and a letter for each field: w four bytes, q eight, g four that aren't read, s the size of the data, c the count of pairs,
+# n a name, d data, p pairs.
+LAYOUTS = {
+    "LOOKUP": (1, "n"), "FORGET": (2, "q"), "GETATTR": (3, "wgq"), "SETATTR": (4, "wgqqggqqggwwgwgwwg"), "SYMLINK": (6, "nn"), "MKNOD": (8, "wwwgn"),
+    "MKDIR": (9, "wwn"), "UNLINK": (10, "n"), "RMDIR": (11, "n"), "RENAME": (12, "qnn"), "LINK": (13, "qn"), "OPEN": (14, "wg"), "READ": (15, "qqwggggg"),
+    "WRITE": (16, "qqswggggd"), "STATFS": (17, ""), "RELEASE": (18, "qgggg"), "FSYNC": (20, "qwg"), "SETXATTR": (21, "swnd"), "GETXATTR": (22, "wgn"),
+    "LISTXATTR": (23, "wg"), "REMOVEXATTR": (24, "n"), "FLUSH": (25, "qgggg"), "INIT": (26, "wwww"), "OPENDIR": (27, "wg"), "READDIR": (28, "qqwggggg"),
+    "RELEASEDIR": (29, "qgggg"), "FSYNCDIR": (30, "qwg"), "ACCESS": (34, "wg"), "CREATE": (35, "wwwgn"), "INTERRUPT": (36, "q"),
+    "BATCH_FORGET": (42, "cgp"), "RENAME2": (45, "qwgnn"),
+}
+WORDS = {opcode: word for word, (opcode, _) in LAYOUTS.items()}
+HEAD, PROCESS, UNREAD, YEAR = 40, "77", b"\xa5" * 4, 31_536_000
+KINDS = {"directory": 4, "file": 8}
+
+
+class Misspelt(Exception):
+    """A body that is none of its operation."""
+
+
+# ---- messages
+
+
+def number_of(word):
+    return int(word[2:], 8) if word.startswith("0o") else int(word)
+
+
+def body_of(layout, words):
+    body, words = b"", [*words]
+    for letter in layout:
+        if letter in "wq":
+            body += struct.pack("<I" if letter == "w" else "<Q", number_of(words.pop(0)))
+        elif letter == "g":
+            body += UNREAD
+        elif letter == "s":
+            body += struct.pack("<I", len(words[-1]) // 2)
+        elif letter == "c":
+            body += struct.pack("<I", len(words))
+        elif letter == "n":
+            body += words.pop(0)[1:].encode() + b"\0"
+        elif letter == "d":
+            body += bytes.fromhex(words.pop(0)[1:])
+        else:
+            body += b"".join(struct.pack("<QQ", *map(int, word.split(":"))) for word in words)
+    return body
+
+
+def message_of(unique, line):
+    """The bytes of a line."""
+    if line.startswith("x"):
+        return bytes.fromhex(line[1:])
+    word, node, who, *words = line.split()
+    opcode, layout = LAYOUTS.get(word) or (int(word), "d")
+    user, group, process = (*who.split(":"), PROCESS)[:3]
+    body = body_of(layout, words)
+    return struct.pack("<IIQQIII", HEAD + len(body), opcode, unique, int(node), int(user), int(group), int(process)) + UNREAD + body
+
+
+def split_name(body):
+    name, end, rest = body.partition(b"\0")
+    if not name or not end:
+        raise Misspelt
+    return name, rest
+
+
+def fields_of(opcode, body):
+    """The fields of a body: numbers, names and data as bytes, and pairs."""
+    fields, size = [], None
+    for letter in LAYOUTS[WORDS[opcode]][1]:
+        if letter in "wqsgc":
+            width = 8 if letter == "q" else 4
+            if len(body) < width:
+                raise Misspelt
+            number, body = int.from_bytes(body[:width], "little"), body[width:]
+            size = number if letter in "sc" else size
+            fields += [number] if letter in "wq" else []
+        elif letter == "n":
+            name, body = split_name(body)
+            fields.append(name)
+        else:
+            if len(body) != size * (16 if letter == "p" else 1):
+                raise Misspelt
+            fields.append([*struct.iter_unpack("<QQ", body)] if letter == "p" else body)
+            body = b""
+    if body and WORDS[opcode] != "INIT":
+        raise Misspelt
+    return fields
+
+
+def spell(field):
+    if isinstance(field, int):
+        return str(field)
+    if isinstance(field, list):
+        return " ".join(f"{node}:{lookups}" for node, lookups in field)
+    return field
+
+
+def line_of(message):
+    """The line of a message, by which `message_of` gives its bytes but for those that aren't read. An operation that isn't known, or whose names no
+    line has, is told by its opcode and its body."""
+    _, opcode, _, node, user, group, process = struct.unpack_from("<IIQQIII", message)
+    head, body = f"{node} {user}:{group}:{process}", message[HEAD:]
+    word = WORDS.get(opcode)
+    if word is None or word == "INIT":
+        return f"{opcode} {head} x{body.hex()}"
+    words, layout = [], [letter for letter in LAYOUTS[word][1] if letter in "wqndp"]
+    for letter, field in zip(layout, fields_of(opcode, body)):
+        if letter == "n" and (not field.isascii() or b" " in field):
+            return f"{opcode} {head} x{body.hex()}"
+        words.append(f"/{field.decode()}" if letter == "n" else f"x{field.hex()}" if letter == "d" else spell(field))
+    return " ".join([word, head, *words])
+
+
+# ---- replies
+
+
+def attributes_of(words):
+    number, mode, links, owners, size = words
+    user, group = owners.split(":")
+    kind = {"d": 0x4000, "f": 0x8000}[mode[0]]
+    blocks = (int(size) + 511) // 512
+    return struct.pack("<6Q10I", int(number), int(size), blocks, 0, 0, 0, 0, 0, 0, kind | int(mode[1:], 8), int(links), int(user), int(group), 0, 4096, 0)
+
+
+def entry_of(words):
+    return struct.pack("<QQQQII", int(words[0]), 0, YEAR, 0, 0, 0) + attributes_of(words[1:6])
+
+
+def opened_of(handle, flags="0"):
+    return struct.pack("<QI4x", int(handle), int(flags))
+
+
+def listing_of(size, *entries):
+    """The entries that fit."""
+    body = b""
+    for entry in entries:
+        number, offset, kind, name = entry.split(":", 3)
+        one = struct.pack("<QQII", int(number), int(offset), len(name.encode()), KINDS[kind]) + name.encode()
+        one += bytes(-len(one) % 8)
+        if len(body) + len(one) > int(size):
+            break
+        body += one
+    return body
+
+
+def answer_body(word, words):
+    if word == "FOUND":
+        return entry_of(words)
+    if word == "KNOWN":
+        return struct.pack("<QI4x", 0, 0) + attributes_of(words)
+    if word == "MADE":
+        return entry_of(words) + opened_of(words[6])
+    if word == "OPENED":
+        return opened_of(*words)
+    if word in ("WRITTEN", "XATTRSIZE"):
+        return struct.pack("<I4x", int(words[0]))
+    if word == "STATISTICS":
+        return struct.pack("<5Q3I28x", *map(int, words))
+    if word == "INITIALIZED":
+        return struct.pack("<IIIIHHIIH34x", *map(int, words))
+    if word == "LISTING":
+        return listing_of(*words)
+    return bytes.fromhex("".join(words))
+
+
+def reply_of(unique, line):
+    """The bytes of a reply's line, none for `-`."""
+    if line == "-":
+        return b""
+    word, *words = line.split()
+    if word == "ERROR":
+        return struct.pack("<IiQ", 16, -getattr(errno, words[0]), unique)
+    body = b"" if word == "NOTHING" else answer_body(word, words)
+    return struct.pack("<IiQ", 16 + len(body), 0, unique) + body

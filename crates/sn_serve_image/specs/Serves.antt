@@ -1,0 +1,77 @@
+-- What a serve does to an image.
+use Rattle.std.specs.Prelude.{◌≡◌, ℕ, Bool, IsTrue, List, [], ◌++◌, Option, Result, Ok, Err}
+use Rattle.sn_check.specs.Verdicts.{IsCause}
+use Rattle.sn_device.specs.Disk.{Disk, reads}
+use Rattle.sn_held.specs.Images.{IsImage}
+use Rattle.sn_model.specs.World.{World}
+use Rattle.sn_model.specs.declared.call.Event.{Event}
+use Rattle.sn_model.specs.declared.end.End.{End}
+use Rattle.sn_model.specs.declared.end.End.TheVariants as ending
+use Rattle.sn_model.specs.declared.fault.MountFault.{MountFault}
+use Rattle.sn_model.specs.declared.reply.Reply.{Reply}
+use Rattle.sn_mounted.specs.Doing.{DidFrom}
+use Rattle.sn_mounted.specs.Runs.{AreEventsOf}
+use Rattle.sn_mounted.specs.Shown.{Shown}
+use Rattle.sn_run.specs.Ending.{IsLastEnd}
+use Rattle.sn_run.specs.Runs.{IsRunOf}
+use Rattle.sn_serve.specs.declared.service.Service.{Service}
+use Rattle.sn_serve_loop.specs.Connections.{IsNew}
+use Rattle.sn_serve_loop.specs.Conversations.{LogsInAndConverses}
+use Rattle.sn_serve_loop.specs.declared.stop.Stop.{Stop}
+use Rattle.sn_serve_loop.specs.declared.stop.Stop.TheVariants as stop
+use Rattle.sn_serving.specs.Served.{Unmounts}
+use Rattle.sn_serve_image.specs.declared.fault.ServeFault.{ServeFault}
+use Rattle.sn_serve_image.specs.declared.fault.ServeFault.TheVariants as fault
+
+abbrev pub fault_of : Stop → Result (Unit {0}) ServeFault
+fault_of stop.Ended = Ok tt
+fault_of stop.Broken = Err fault.Message
+fault_of stop.Memory = Err fault.Memory
+fault_of (stop.Unread error) = Err fault.Input
+fault_of (stop.Unwritten error) = Err fault.Output
+
+-- a fault of the unmount replaces what ended the messages
+abbrev pub outcome_of : End → Stop → Result (Unit {0}) ServeFault
+outcome_of ending.Clean why = fault_of why
+outcome_of ending.Memory why = Err fault.Memory
+outcome_of ending.Stopped why = Err fault.Stopped
+outcome_of (ending.Mount cause) why = Err (fault.Mount cause)
+
+-- whether a mount has stopped
+abbrev pub stopped : Shown → Bool
+stopped shown = shown.served.has_stopped
+
+-- Over a mount user 0 is logged in for all open files, and the messages of the input are answered one after the other; then it is unmounted.
+pub record IsServedFrom {P : Type 0} (told : Bool) (tells : P → ℕ → Option (List ℕ) → P → Type 0) (maps_all : Bool) (mounted : Shown) (before after : P) (input rest output written : Option (List ℕ))
+    (outcome : Result (Unit {0}) ServeFault) (last : Disk) : Type 0 where
+  pub first : Service Shown
+  pub new : IsNew first mounted maps_all
+  pub ended : Service Shown
+  pub why : Stop
+  pub conversation : LogsInAndConverses (DidFrom told) tells stopped first before ended after why [] input rest output written
+  pub end : End
+  pub told_end : IsLastEnd end
+  pub outcome_is : outcome ≡ outcome_of end why
+  pub unmounts : IsTrue told → Unmounts end ended.server.file_system.served last
+
+-- All that was called is a part of a run: where the device tells its bytes, from the world that the disk was an image of, with all that a crash leaves of it.
+pub record IsServed {P : Type 0} (told : Bool) (tells : P → ℕ → Option (List ℕ) → P → Type 0) (maps_all : Bool) (before after : P) (input rest output written : Option (List ℕ))
+    (outcome : Result (Unit {0}) ServeFault) (disk last : Disk) : Type 0 where
+  pub mounted : Shown
+  pub places : mounted.places ≡ []
+  pub served : IsServedFrom told tells maps_all mounted before after input rest output written outcome last
+  pub events : List Event
+  pub replies : List Reply
+  pub are : AreEventsOf (served.conversation.logins ++ served.conversation.conversation.acts) events replies
+  pub run : IsTrue told → (world : World) → IsImage (reads disk) world → IsRunOf world events replies served.end disk last
+
+-- Without a mount no message is read, and a crash leaves that world. The cause is that of a check.
+pub record IsUnmounted (told : Bool) (why : MountFault) (sectors : ℕ) (outcome : Result (Unit {0}) ServeFault) (disk last : Disk) : Type 0 where
+  pub outcome_is : outcome ≡ Err (fault.Mount why)
+  pub cause : IsTrue told → IsCause sectors (reads disk) why
+  pub run : IsTrue told → (world : World) → IsImage (reads disk) world → IsRunOf world [] [] (ending.Mount why) disk last
+
+-- Without memory for what is kept, nothing is done.
+pub record IsRefused (outcome : Result (Unit {0}) ServeFault) (disk last : Disk) : Type 0 where
+  pub outcome_is : outcome ≡ Err fault.Memory
+  pub same : last ≡ disk

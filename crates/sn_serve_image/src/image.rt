@@ -1,0 +1,87 @@
+//! A serve of an image.
+ghost use Rattle.std.specs.Prelude.{◌≡◌, ◌⊎◌, None, replicate, []};
+ghost use Rattle.sn_node_table.specs.Tables.{root_alone};
+ghost use Rattle.sn_node_table.specs.Told.{table_of};
+ghost use Rattle.sn_model.specs.declared.fault.MountFault.{MountFault as Why};
+ghost use Rattle.sn_serve_image.specs.Serves.{IsRefused, IsServed, IsServedFrom, IsUnmounted};
+
+use crate::fault::{ServeFault, outcome_of};
+use sn_core::{Device, Unmounted};
+use sn_mounted::Mounted;
+use sn_serve::Processes;
+use sn_serve_loop::{NewConnection, converse};
+use std::alloc::Global;
+use std::io::{Read, Write};
+
+/// What came of a serve, and the device.
+#[derive(Drop)]
+pub struct Served<D: Device + Drop> {
+    pub outcome: Result<(), ServeFault>,
+    pub device: D,
+}
+
+// Answers messages over a mount, and ends it.
+fn serve_mounted<D: Device + Drop, P: Processes, R: Read, W: Write>(
+    alloc: Global,
+    mounted: Mounted<D>,
+    new_connection: NewConnection,
+    maps_all: bool,
+    processes: &mut P,
+    input: &mut R,
+    output: &mut W,
+) -> Served<D>
+    requires nodes { table_of new_connection.nodes ≡ root_alone }
+    requires files { new_connection.files ≡ replicate 4032 None }
+    requires frames { new_connection.frames ≡ [] }
+    ensures { IsServedFrom D.tells_bytes P.tells maps_all mounted processes.old processes.new (R.remaining input.old) (R.remaining input.new) (W.contents output.old) (W.contents output.new) result.outcome (D.disk result.device) }
+{
+    let mut connection = new_connection.of(alloc, mounted, maps_all);
+    let stop = converse(&mut connection, processes, input, output);
+    let (end, device) = connection.into_file_system().finish();
+    Served {
+        outcome: outcome_of(end, stop),
+        device,
+    }
+}
+
+/// Mounts a device, answers the messages of an input until it ends, and unmounts. `maps_all` says whether the server's namespace maps all groups.
+/// `Mount` where the device can't be mounted, and `Memory` where what is kept has no memory, before any message is read. A fault of the unmount
+/// replaces what ended the messages.
+///
+/// Proved: The messages of the input are answered one after the other, each by its plan and by one reply, as who sent it with the groups that are told of
+/// its process; what is called is a run of the machine from the world that the disk is an image of, with steps of consistency points between messages; a
+/// crash leaves what that leaves.
+pub fn serve_image<D: Device + Drop, P: Processes, R: Read, W: Write>(
+    alloc: Global,
+    device: D,
+    processes: &mut P,
+    maps_all: bool,
+    input: &mut R,
+    output: &mut W,
+) -> Served<D>
+    ensures { IsRefused result.outcome (D.disk device) (D.disk result.device) × (output.new ≡ output.old)
+        ⊎ ((why : Why) × IsUnmounted D.tells_bytes why (D.status device).sectors result.outcome (D.disk device) (D.disk result.device) × (output.new ≡ output.old))
+        ⊎ IsServed D.tells_bytes P.tells maps_all processes.old processes.new (R.remaining input.old) (R.remaining input.new) (W.contents output.old) (W.contents output.new) result.outcome (D.disk device) (D.disk result.device) }
+{
+    let Ok(new_connection) = NewConnection::new(alloc) else {
+        return Served {
+            outcome: Err(ServeFault::Memory),
+            device,
+        };
+    };
+    match Mounted::new(alloc, device) {
+        Ok(mounted) => serve_mounted(
+            alloc,
+            mounted,
+            new_connection,
+            maps_all,
+            processes,
+            input,
+            output,
+        ),
+        Err(Unmounted { fault, device }) => Served {
+            outcome: Err(ServeFault::Mount(fault)),
+            device,
+        },
+    }
+}

@@ -1,0 +1,54 @@
+-- What was done for messages.
+use Rattle.std.proofs.Common.{ℕ, Bool, List, [], ◌++◌, append_assoc, sym, subst}
+use Rattle.std.proofs.lemmas.List.{append-nil}
+use Rattle.std.specs.declared.option.Option.{Option}
+use Rattle.sn_plan.specs.Acts.{Act, Grows}
+use Rattle.sn_serve.specs.Exchanges.{IsExchange, acts_for, misspelt, request, short, unknown}
+use Rattle.sn_fuse.specs.declared.operation.Op.{Op}
+use Rattle.sn_fuse_replies.specs.declared.errno.Errno.{Errno}
+use Rattle.sn_model.specs.declared.call.Call.{Call}
+use Rattle.sn_plan.specs.declared.server.Server.{Server}
+use Rattle.sn_serve.specs.Messages.{Answers, Held, acts_in, closes, follows, lists, opens}
+use Rattle.sn_serve.specs.declared.told.Told.{Told}
+use Rattle.std.specs.declared.result.Result.{Result}
+use Rattle.sn_serve.specs.declared.service.Service.{Service}
+use Rattle.sn_serve_loop.specs.Conversations.{Replies, Converses, answered, answers, begins, paced, refuses}
+
+-- nothing was done, and more was done after it
+module _ {F : Type 0} (did : F → F → List Act → Type 0) where
+  pub grows_none : (a : F) → Grows (did a) (did a) []
+  grows_none a = record { grows = λ first before d. subst (did a first) (sym (append-nil before)) d }
+
+  pub grows_more : (a b c : F) (done more : List Act) → Grows (did a) (did b) done → Grows (did b) (did c) more → Grows (did a) (did c) (done ++ more)
+  grows_more a b c done more h k =
+      record { grows = λ first before d. subst (did c first) (append_assoc before done more) (k.grows first (before ++ done) (h.grows first before d)) }
+
+module _ {F P : Type 0} (did : F → F → List Act → Type 0) (tells : P → ℕ → Option (List ℕ) → P → Type 0) (stopped : F → Bool) where
+  answers_grow : {login : Result Call Errno} {node : ℕ} {old new : Server F} {before after : Held} {op : Op} {told : Result Told Errno} (h : Answers did login node old new before after op told)
+      → Grows (did old.file_system) (did new.file_system) (acts_in h)
+  answers_grow (follows f keeps) = f.does.goes.grows
+  answers_grow (opens o) = o.does.goes.grows
+  answers_grow (lists l) = l.does.goes.grows
+  answers_grow (closes does changes) = does.goes.grows
+
+  exchange_grows : {message : List ℕ} {old new : Service F} {before after : P} {reply : List ℕ} (e : IsExchange did tells message old before new after reply)
+      → Grows (did old.server.file_system) (did new.server.file_system) (acts_for e)
+  exchange_grows {old = old} (short is) = grows_none did old.server.file_system
+  exchange_grows {old = old} (unknown is) = grows_none did old.server.file_system
+  exchange_grows {old = old} (misspelt is) = grows_none did old.server.file_system
+  exchange_grows (request is a) = answers_grow a.performs.answers
+
+  replies_grow : {message : List ℕ} {old new : Service F} {before after : P} {reply : List ℕ} {acts : List Act} → Replies did tells stopped message old before new after reply acts
+      → Grows (did old.server.file_system) (did new.server.file_system) acts
+  replies_grow (answers runs e) = exchange_grows e
+  replies_grow {old = old} (refuses has_stopped is) = grows_none did old.server.file_system
+
+  -- what was done for all of them goes on from what was done before
+  pub conversation_grows : {first : Service F} {who : P} {last : Service F} {after : P} {messages replies : List (List ℕ)} {acts : List Act} → Converses did tells stopped first who messages replies acts last after
+      → Grows (did first.server.file_system) (did last.server.file_system) acts
+  conversation_grows {first = first} begins = grows_none did first.server.file_system
+  conversation_grows {first = first} (answered {done = done} {acts} {old = old} {new} t is r) =
+      grows_more did first.server.file_system old.server.file_system new.server.file_system done acts (conversation_grows t) (replies_grow r)
+  conversation_grows {first = first} (paced {done = done} {old} {new} t p) =
+      subst (λ (acts : List Act). Grows (did first.server.file_system) (did new.server.file_system) acts) (append-nil done)
+      (grows_more did first.server.file_system old.server.file_system new.server.file_system done [] (conversation_grows t) p.grows)

@@ -1,0 +1,3 @@
+pub mod ActsLemmas
+pub mod ConversationLemmas
+pub mod FrontsLemmas

@@ -1,0 +1,9 @@
+use Rattle.std.proofs.Common.{true}
+use Rattle.sn_serve_loop.specs.Conversations.{Conversation}
+use Rattle.sn_serve_loop.proofs.conversation.answer_all.Given as goal
+
+-- all messages so far were answered
+abbrev pub invariant-loop-turn : goal.invariant-loop-turn
+invariant-loop-turn g l =
+    Conversation g.F.FileSystem.did g.P.Processes.tells g.F.FileSystem.stopped true l.fn.connection.service l.fn.processes l.connection.service l.processes l.fn.connection.frames l.connection.frames
+    (g.R.Read.remaining l.fn.input) (g.R.Read.remaining l.input) (g.W.Write.contents l.fn.output) (g.W.Write.contents l.output)

@@ -1,0 +1,37 @@
+use Rattle.std.proofs.Common.{◌≡◌, true, refl}
+use Rattle.sn_serve_loop.specs.declared.stop.Stop.TheVariants.{Ended, Memory}
+use Rattle.sn_serve_loop.proofs.ConversationLemmas.{none_yet}
+use Rattle.sn_serve_loop.proofs.conversation.converse.Goals as goal
+
+pub returns-then-is_err : goal.returns-then-is_err
+returns-then-is_err g c =
+    let l = c.log_in.ensures in
+    record {
+      first = _;
+      same = refl;
+      blocks = l.0;
+      logins = l.1;
+      log_in = l.2;
+      grows = l.3;
+      left = c.args.connection.now.frames;
+      whole = true;
+      conversation = none_yet g.F.FileSystem.did g.P.Processes.tells g.F.FileSystem.stopped _ _ _ _ _;
+      ended = λ is. absurd (let never : Memory ≡ Ended = is in cc);
+    }
+
+pub returns : goal.returns
+returns g c =
+    let l = c.log_in.ensures in
+    let v = c.answer_all.ensures in
+    record {
+      first = _;
+      same = refl;
+      blocks = l.0;
+      logins = l.1;
+      log_in = l.2;
+      grows = l.3;
+      left = v.0;
+      whole = v.1;
+      conversation = v.2;
+      ended = v.3;
+    }

@@ -1,0 +1,4 @@
+pub mod Fronts
+pub mod Sessions
+pub mod Conversations
+pub mod Connections

@@ -1,0 +1,139 @@
+//! Messages and replies, one after the other.
+ghost use Rattle.std.specs.Io.KnownBytes.{Appends};
+ghost use Rattle.sn_output.specs.Outputs.{AppendsFront};
+ghost use Rattle.std.specs.Prelude.{Option, ◌≡◌, ◌≢◌, ◌≤◌, ◌++◌, ℕ, Bool, List, length, take, true, IfErr, OnOk};
+ghost use Rattle.sn_plan.specs.Acts.{Act};
+ghost use Rattle.sn_serve_loop.specs.Fronts.{IsMessage};
+ghost use Rattle.sn_serve_loop.specs.Conversations.{Conversation, HasEnded, LogsInAndConverses, Replies};
+ghost use Rattle.sn_serve_loop.specs.declared.stop.Stop.TheVariants as stop;
+
+use crate::connection::Connection;
+use crate::frames::Front;
+use crate::sessions::log_in;
+use crate::stop::Stop;
+use sn_output::write_front;
+use sn_plan::FileSystem;
+use sn_serve::{Processes, Service, answer, refuse_message};
+use std::alloc::AllocError;
+use std::io;
+use std::io::{ErrorKind, Read, Write};
+
+// Answers a message. One that has stopped answers with `EIO`.
+fn reply_to<F: FileSystem, P: Processes>(
+    service: &mut Service<F>,
+    processes: &mut P,
+    message: &[u8],
+    out: &mut Vec<u8>,
+) -> Result<(), AllocError>
+    ensures { (reply : List ℕ) × (acts : List Act) × Replies F.did P.tells F.stopped message.now service.old processes.old service.new processes.new reply acts
+        × OnOk result (out.new.items ≡ out.old.items ++ reply) }
+{
+    if service.server.file_system.has_stopped() {
+        return refuse_message(message, out);
+    }
+    answer(service, processes, message, out)
+}
+
+// Writes a reply, if there is one.
+fn send<W: Write>(output: &mut W, reply: &[u8]) -> Result<(), Stop>
+    ensures whole { OnOk result (Appends (W.contents output.old) (W.contents output.new) reply.now) }
+    ensures front { AppendsFront (W.contents output.old) (W.contents output.new) reply.now }
+    ensures why { IfErr result (λ why. why ≢ stop.Ended) }
+{
+    match write_front(output, reply) {
+        Ok(()) => Ok(()),
+        Err(error) => Err(Stop::Unwritten(error)),
+    }
+}
+
+// Answers the first message of the bytes that came. The work that is due comes after its reply.
+fn exchange<F: FileSystem, P: Processes, W: Write>(
+    connection: &mut Connection<F>,
+    processes: &mut P,
+    size: usize,
+    output: &mut W,
+) -> Result<(), Stop>
+    requires within { size ≤ length connection.old.frames }
+    requires message { IsMessage (take size connection.old.frames) }
+    ensures conversation { (input : Option (List ℕ)) → (left : List ℕ) × (whole : Bool)
+        × Conversation F.did P.tells F.stopped whole connection.old.service processes.old connection.new.service processes.new connection.old.frames left input input (W.contents output.old) (W.contents output.new)
+        × OnOk result ((connection.new.frames ≡ left) × (whole ≡ true)) }
+    ensures why { IfErr result (λ why. why ≢ stop.Ended) }
+{
+    connection.out.clear();
+    reply_to(
+        &mut connection.service,
+        processes,
+        &connection.frames.bytes()[..size],
+        &mut connection.out,
+    )?;
+    connection.frames.remove(size)?;
+    send(output, &connection.out)?;
+    connection.service.server.file_system.keep_pace();
+    Ok(())
+}
+
+// Answers one message, or reads more bytes.
+fn turn<F: FileSystem, P: Processes, R: Read, W: Write>(
+    connection: &mut Connection<F>,
+    processes: &mut P,
+    input: &mut R,
+    output: &mut W,
+) -> Result<(), Stop>
+    ensures { (left : List ℕ) × (whole : Bool)
+        × Conversation F.did P.tells F.stopped whole connection.old.service processes.old connection.new.service processes.new connection.old.frames left (R.remaining input.old) (R.remaining input.new) (W.contents output.old) (W.contents output.new)
+        × OnOk result ((connection.new.frames ≡ left) × (whole ≡ true))
+        × IfErr result (λ why. why ≡ stop.Ended → HasEnded whole left (R.remaining input.new)) }
+{
+    match connection.frames.front() {
+        Front::Whole(size) => exchange(connection, processes, size, output),
+        Front::Broken => Err(Stop::Broken),
+        Front::Part => {
+            if connection.frames.receive(input)? {
+                Ok(())
+            } else {
+                Err(Stop::Ended)
+            }
+        }
+    }
+}
+
+// Answers messages until the input ends, or one can't be read or answered.
+fn answer_all<F: FileSystem, P: Processes, R: Read, W: Write>(
+    connection: &mut Connection<F>,
+    processes: &mut P,
+    input: &mut R,
+    output: &mut W,
+) -> Stop
+    ensures { (left : List ℕ) × (whole : Bool)
+        × Conversation F.did P.tells F.stopped whole connection.old.service processes.old connection.new.service processes.new connection.old.frames left (R.remaining input.old) (R.remaining input.new) (W.contents output.old) (W.contents output.new)
+        × (result ≡ stop.Ended → HasEnded whole left (R.remaining input.new)) }
+{
+    for _turn in 0..u64::MAX {
+        if let Err(stop) = turn(connection, processes, input, output) {
+            return stop;
+        }
+    }
+    Stop::Unread(io::Error::from(ErrorKind::TimedOut))
+}
+
+/// Logs user 0 in for open files, and answers messages until the input ends, or one can't be read or answered: then the result says why. Bytes
+/// that aren't a whole message yet are left. It is given up after 2^64 - 1 turns, as an input that timed out.
+///
+/// Proved: The messages of the input are answered one after the other, each by its plan and by one reply, with work of the file system for which nobody
+/// waits between them; once a failure has stopped it, each is answered with `EIO`, and does nothing. Where the input has ended, no whole message is
+/// left, and each reply was written whole.
+pub fn converse<F: FileSystem, P: Processes, R: Read, W: Write>(
+    connection: &mut Connection<F>,
+    processes: &mut P,
+    input: &mut R,
+    output: &mut W,
+) -> Stop
+    ensures { LogsInAndConverses F.did P.tells F.stopped connection.old.service processes.old connection.new.service processes.new result connection.old.frames (R.remaining input.old) (R.remaining input.new) (W.contents output.old) (W.contents output.new) }
+{
+    let alloc = connection.service.server.alloc;
+    if log_in(&mut connection.service.server.file_system, alloc).is_err() {
+        return Stop::Memory;
+    }
+    answer_all(connection, processes, input, output)
+}
