@@ -5,7 +5,7 @@
 
 Run by hand: builds the program where it isn't up to date. COUNT is 10,000 where it isn't given; half of the cases are scripts
 of the repository's examples with one to four bytes changed, taken out or put in, and half are command lines with one to
-three words changed, left out, put in or exchanged. Each has to end by itself with a status of the table in README, with
+three words changed, left out, put in or exchanged. Each has to end by itself with a status of docs/snapfs.8, with
 the line on standard error that goes with it and none other, and where it is refused, with nothing on standard output, the
 files as they were and no new one. A script that is run has a line of reply for each line.
 """
