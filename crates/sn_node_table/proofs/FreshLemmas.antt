@@ -8,7 +8,7 @@ use Rattle.std.proofs.lemmas.Map.Lookups.{exact_unsigned}
 use Rattle.std.proofs.lemmas.Map.Views.{tells_apart}
 use Rattle.sn_maps.specs.Maps.{updated}
 use Rattle.sn_maps.proofs.MapLemmas.{get-updated}
-use Rattle.sn_node_table.specs.declared.node.Link.{Link}
+use Rattle.sn_node_table.specs.declared.links.Link.{Link}
 use Rattle.sn_node_table.specs.Nodes.{Node, without_name}
 use Rattle.sn_node_table.specs.Tables.{IsFresh, Nodes, unhooked}
 

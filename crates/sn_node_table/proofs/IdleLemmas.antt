@@ -9,7 +9,7 @@ use Rattle.std.proofs.lemmas.Map.Lookups.{exact_unsigned}
 use Rattle.std.proofs.lemmas.Map.Views.{tells_apart}
 use Rattle.sn_maps.specs.Maps.{updated}
 use Rattle.sn_maps.proofs.MapLemmas.{get-updated}
-use Rattle.sn_node_table.specs.declared.node.Link.{Link}
+use Rattle.sn_node_table.specs.declared.links.Link.{Link}
 use Rattle.sn_node_table.specs.Nodes.{Below, IsIdle, Node, first_link, link_to, new_node, with_handles, with_link, with_lookups, with_name, without_first_link, without_link, without_name}
 use Rattle.sn_node_table.specs.Tables.{IsIdleAt, IsIdleNode, Nodes, Table, added, dropped, dropped_of, handles_of, is_id, linked, linked_over, lookups_of, made, met, met_as, moved, moved_as, named, node_at, one_more, opened, put, unlinked, unlinked_from}
 

@@ -3,7 +3,7 @@ use Rattle.std.proofs.Common.{◌≡◌, ℕ, ◌+◌, ◌==◌, Bool, true, fal
 use Rattle.std.specs.Prelude.{nat_le, Result, Ok, Err}
 use Rattle.std.specs.Option.{option_and_then}
 use Rattle.sn_maps.specs.Maps.{updated}
-use Rattle.sn_node_table.specs.declared.node.Link.{Link}
+use Rattle.sn_node_table.specs.declared.links.Link.{Link}
 use Rattle.sn_node_table.specs.declared.path.NoPath.{NoPath}
 use Rattle.sn_node_table.specs.declared.path.NoPath.TheVariants.{Stale, TooLong}
 use Rattle.sn_node_table.specs.Nodes.{first_link, without_link}

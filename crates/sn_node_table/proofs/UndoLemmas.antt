@@ -11,7 +11,7 @@ use Rattle.std.proofs.lemmas.Map.Views.{tells_apart}
 use Rattle.std.proofs.Math.Seq.{take-append_seam}
 use Rattle.sn_maps.specs.Maps.{updated}
 use Rattle.sn_maps.proofs.MapLemmas.{get-updated}
-use Rattle.sn_node_table.specs.declared.node.Link.{Link}
+use Rattle.sn_node_table.specs.declared.links.Link.{Link}
 use Rattle.sn_node_table.specs.Nodes.{Node, first_link, with_link, without_first_link, without_last_link}
 use Rattle.sn_node_table.specs.Tables.{Nodes}
 

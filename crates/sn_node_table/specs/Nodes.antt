@@ -3,7 +3,7 @@ use Rattle.std.specs.Prelude.{◌≡◌, ℕ, ◌-◌, ◌==◌, ◌&&◌, Bool,
 use Rattle.std.specs.Ordering.{nat_cmp}
 use Rattle.std.specs.Cmp.Lexicographic.{slice_cmp, pointwise}
 use Rattle.std.specs.FinMap as map
-use Rattle.sn_node_table.specs.declared.node.Link.{Link}
+use Rattle.sn_node_table.specs.declared.links.Link.{Link}
 
 -- the ids that the names below a node lead to
 abbrev pub Below : Type 0

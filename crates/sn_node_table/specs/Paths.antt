@@ -1,7 +1,7 @@
 -- Paths of first names.
 use Rattle.std.specs.Prelude.{◌≡◌, ℕ, ◌+◌, ◌==◌, nat_le, zero, suc, List, [], ◌∷◌, ◌++◌, length, Option, None, Some, Result, Ok, Err, if◌then◌else◌}
 use Rattle.std.specs.Option.{option_and_then}
-use Rattle.sn_node_table.specs.declared.node.Link.{Link}
+use Rattle.sn_node_table.specs.declared.links.Link.{Link}
 use Rattle.sn_node_table.specs.declared.path.NoPath.{NoPath}
 use Rattle.sn_node_table.specs.declared.path.NoPath.TheVariants.{Stale, TooLong}
 use Rattle.sn_node_table.specs.Nodes.{first_link}

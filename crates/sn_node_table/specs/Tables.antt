@@ -4,7 +4,7 @@ use Rattle.std.specs.Ordering.{nat_cmp}
 use Rattle.std.specs.Option.{option_map, option_and_then}
 use Rattle.std.specs.FinMap as map
 use Rattle.sn_maps.specs.Maps.{filtered, updated}
-use Rattle.sn_node_table.specs.declared.node.Link.{Link}
+use Rattle.sn_node_table.specs.declared.links.Link.{Link}
 use Rattle.sn_node_table.specs.Nodes.{IsIdle, Node, below_of, first_link, link_to, new_node, with_handles, with_link, with_lookups, with_name, without_first_link, without_link, without_name}
 
 abbrev pub Nodes : Type 0

@@ -16,8 +16,8 @@
 //!   while nothing holds it, and `NoneIsIdled` that no id becomes idle.
 //! - A call that is refused memory leaves the table unchanged.
 //!
-//! Read `specs/Nodes`, `specs/Tables` and `specs/Paths` first; then `node` and `nodes` (the stored nodes), `current` (the current
-//! ids), and [`NodeTable`] in `table` (queries and counts), `linking` (names), `meeting` (new ids), `path`, `sweeping` (removal of
+//! Read `specs/Nodes`, `specs/Tables` and `specs/Paths` first; then `links`, `below`, `node` and `nodes` (the stored nodes),
+//! `current` (the current ids), and [`NodeTable`] in `table` (queries and counts), `linking` (names), `meeting` (new ids), `path`, `sweeping` (removal of
 //! idle ids) and `holding` (calls that release nodes).
 //!
 //! What the sources leave open is decided in `docs/DECISIONS.md`, under "The table of nodes".
@@ -29,10 +29,12 @@
 //! ```
 #![tactic(auto)]
 
+mod below;
 mod current;
 mod holding;
 mod laws;
 mod linking;
+mod links;
 mod meeting;
 mod node;
 mod nodes;
@@ -41,7 +43,7 @@ mod sweeping;
 mod table;
 
 pub use laws::{ids_are_given_in_order, nothing_is_idled, paths_are_chains};
+pub use links::Link;
 pub use meeting::NodeFault;
-pub use node::Link;
 pub use path::{NoPath, PathText};
 pub use table::{NodeTable, ROOT_ID};

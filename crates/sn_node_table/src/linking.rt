@@ -3,10 +3,10 @@ ghost use Rattle.std.specs.Prelude.{◌≡◌, OnOk, OnErr};
 ghost use Rattle.std.specs.FinMap as map;
 ghost use Rattle.std.specs.Option.{option_and_then, option_map};
 ghost use Rattle.sn_node_table.specs.Nodes.{first_link};
-ghost use Rattle.sn_node_table.specs.declared.node.Link.{Link as TheLink};
+ghost use Rattle.sn_node_table.specs.declared.links.Link.{Link as TheLink};
 ghost use Rattle.sn_node_table.specs.Tables.{dropped, linked, moved, put, unlinked};
 
-use crate::node::Link;
+use crate::links::Link;
 use crate::table::NodeTable;
 use sn_model::Word;
 use std::alloc::AllocError;
@@ -37,7 +37,7 @@ impl NodeTable {
     {
         let link = Link::new(self.alloc, parent, name)?;
         let key = Word::new(self.alloc, name)?;
-        self.nodes.push_link(id, link)?;
+        self.nodes.push_link(self.alloc, id, link)?;
         match self.nodes.put_name(parent, key, id) {
             Ok(()) => Ok(()),
             Err(refused) => {

@@ -39,7 +39,7 @@ impl NodeTable {
         if id == u64::MAX {
             return Err(AllocError);
         }
-        self.nodes.insert(id, StoredNode::new(self.alloc, inode))?;
+        self.nodes.insert(self.alloc, id, StoredNode::new(inode))?;
         match self.current.insert(inode, id) {
             Ok(old) => {
                 self.next = id + 1;

@@ -1,47 +1,21 @@
 //! A stored node.
-ghost use Rattle.std.specs.Prelude.{◌≡◌, ◌↔◌, IfOk, OnOk, OnErr, IsTrue};
+ghost use Rattle.std.specs.Prelude.{◌≡◌, ◌↔◌, OnOk, OnErr, IsTrue};
 ghost use Rattle.std.specs.Option.{option_copied};
 
-use sn_maps::NameMap;
+use crate::below::NamesBelow;
+use crate::links::{Link, Links};
 use sn_model::Word;
 use std::alloc::{AllocError, Global};
-
-/// A name under which a node was found.
-#[derive(Drop)]
-pub struct Link {
-    /// The id of the directory.
-    pub parent: u64,
-    pub name: Word,
-}
-
-impl Link {
-    ghost use Rattle.sn_node_table.specs.Nodes.{is_link, link_to};
-
-    /// The link of a name, which it copies.
-    pub fn new(alloc: Global, parent: u64, name: &[u8]) -> Result<Link, AllocError>
-        ensures { IfOk result (λ link. link ≡ link_to parent name.now) }
-    {
-        let name = Word::new(alloc, name)?;
-        Ok(Link { parent, name })
-    }
-
-    /// Whether it is this name of this directory.
-    pub fn is(&self, parent: u64, name: &[u8]) -> bool
-        ensures { result ≡ is_link parent name.now self.now }
-    {
-        self.parent == parent && self.name.as_bytes() == name
-    }
-}
 
 /// A node of the table.
 #[derive(Drop)]
 pub(crate) struct StoredNode {
     /// The inode number of its object, as `stat` reports it.
     pub inode: u64,
-    /// The names under which it was found, in the order in which they were found.
-    pub links: Vec<Link>,
+    /// The names under which it was found.
+    pub links: Links,
     /// The ids of the known names below it.
-    pub below: NameMap<u64>,
+    pub below: NamesBelow,
     pub lookups: u64,
     pub handles: u64,
 }
@@ -51,13 +25,13 @@ impl StoredNode {
     ghost use Rattle.sn_node_table.specs.Stored.{node_of};
 
     /// A node that was looked up once. It allocates nothing.
-    pub fn new(alloc: Global, inode: u64) -> StoredNode
+    pub fn new(inode: u64) -> StoredNode
         ensures { node_of result ≡ new_node inode }
     {
         StoredNode {
             inode,
-            links: Vec::new(alloc),
-            below: NameMap::new(alloc),
+            links: Links::Empty,
+            below: NamesBelow::new(),
             lookups: 1,
             handles: 0,
         }
@@ -71,12 +45,11 @@ impl StoredNode {
     }
 
     /// Adds a name.
-    pub fn push_link(&mut self, link: Link) -> Result<(), AllocError>
+    pub fn push_link(&mut self, alloc: Global, link: Link) -> Result<(), AllocError>
         ensures ok { OnOk result (node_of self.new ≡ with_link link (node_of self.old)) }
         ensures err { OnErr result (node_of self.new ≡ node_of self.old) }
     {
-        self.links.push(link)?;
-        Ok(())
+        self.links.push(alloc, link)
     }
 
     /// Removes its last name.
@@ -91,17 +64,14 @@ impl StoredNode {
         ensures link { result ≡ first_link (node_of self.old) }
         ensures rest { node_of self.new ≡ without_first_link (node_of self.old) }
     {
-        if self.links.is_empty() {
-            return None;
-        }
-        Some(self.links.remove(0))
+        self.links.take_first()
     }
 
     /// Removes one of its names.
     pub fn drop_link(&mut self, parent: u64, name: &[u8])
         ensures { node_of self.new ≡ without_link parent name.now (node_of self.old) }
     {
-        self.links.retain(|link| !link.is(parent, name));
+        self.links.remove(parent, name);
     }
 
     /// Makes a name below it lead to an id.
@@ -109,7 +79,7 @@ impl StoredNode {
         ensures ok { OnOk result (node_of self.new ≡ with_name name id (node_of self.old)) }
         ensures err { OnErr result (node_of self.new ≡ node_of self.old) }
     {
-        self.below.insert(name.into_bytes(), id)
+        self.below.insert(name, id)
     }
 
     /// Removes a name below it.

@@ -6,7 +6,8 @@ ghost use Rattle.sn_maps.specs.Maps.{updated};
 ghost use Rattle.sn_node_table.specs.Tables.{unhooked};
 ghost use Rattle.sn_node_table.specs.Nodes.{first_link, with_handles, with_link, with_lookups, with_name, without_first_link, without_last_link, without_link, without_name};
 
-use crate::node::{Link, StoredNode};
+use crate::links::{Link, Links};
+use crate::node::StoredNode;
 use sn_model::Word;
 use std::alloc::{AllocError, Global};
 use std::collections::BTreeMap;
@@ -14,11 +15,12 @@ use std::collections::BTreeMap;
 /// The nodes of the table, by their ids.
 #[derive(Drop)]
 pub(crate) struct Nodes {
-    map: BTreeMap<u64, StoredNode>,
+    // Ids are given in order, so the leaves of the tree are half full: a pointer takes less room there than a node.
+    map: BTreeMap<u64, Box<StoredNode>>,
 }
 
 impl Nodes {
-    ghost use Rattle.sn_node_table.specs.Stored.{node_of, nodes_of};
+    ghost use Rattle.sn_node_table.specs.Stored.{links_in, node_of, nodes_of};
 
     /// No node. It allocates nothing.
     pub fn new(alloc: Global) -> Nodes
@@ -33,15 +35,19 @@ impl Nodes {
     pub fn get(&self, id: u64) -> Option<&StoredNode>
         ensures { option_map node_of (option_copied result) ≡ map.get (nodes_of self.now) id }
     {
-        self.map.get(&id)
+        match self.map.get(&id) {
+            Some(node) => Some(node.as_ref()),
+            None => None,
+        }
     }
 
     /// Gives an id a node.
-    pub fn insert(&mut self, id: u64, node: StoredNode) -> Result<(), AllocError>
+    pub fn insert(&mut self, alloc: Global, id: u64, node: StoredNode) -> Result<(), AllocError>
         ensures ok { OnOk result (nodes_of self.new ≡ map.insert (nodes_of self.old) id (node_of node)) }
         ensures err { OnErr result (nodes_of self.new ≡ nodes_of self.old) }
     {
-        self.map.insert(id, node)?;
+        let boxed = Box::new(alloc, node)?;
+        self.map.insert(id, boxed)?;
         Ok(())
     }
 
@@ -50,7 +56,10 @@ impl Nodes {
         ensures node { option_map node_of result ≡ map.get (nodes_of self.old) id }
         ensures gone { nodes_of self.new ≡ map.remove (nodes_of self.old) id }
     {
-        self.map.remove(&id)
+        match self.map.remove(&id) {
+            Some(node) => Some(Box::into_inner(node)),
+            None => None,
+        }
     }
 
     /// Sets the count of a node's lookups.
@@ -72,12 +81,12 @@ impl Nodes {
     }
 
     /// Adds a name of a node.
-    pub fn push_link(&mut self, id: u64, link: Link) -> Result<(), AllocError>
+    pub fn push_link(&mut self, alloc: Global, id: u64, link: Link) -> Result<(), AllocError>
         ensures ok { OnOk result (nodes_of self.new ≡ updated (nodes_of self.old) id (with_link link)) }
         ensures err { OnErr result (nodes_of self.new ≡ nodes_of self.old) }
     {
         match self.map.get_mut(&id) {
-            Some(node) => node.push_link(link),
+            Some(node) => node.push_link(alloc, link),
             None => Ok(()),
         }
     }
@@ -131,8 +140,18 @@ impl Nodes {
         }
     }
 
-    /// Removes the names of these links from their directories.
-    pub fn unhook(&mut self, links: &[Link])
+    /// Removes these names from their directories.
+    pub fn unhook(&mut self, links: &Links)
+        ensures { nodes_of self.new ≡ unhooked (nodes_of self.old) (links_in links.now) }
+    {
+        match links {
+            Links::Empty => {}
+            Links::One(link) => self.take_name(link.parent, link.name.as_bytes()),
+            Links::Many(links) => self.unhook_all(links.as_slice()),
+        }
+    }
+
+    fn unhook_all(&mut self, links: &[Link])
         ensures { nodes_of self.new ≡ unhooked (nodes_of self.old) links.now }
     {
         for link in links {

@@ -3,7 +3,8 @@ ghost use Rattle.std.specs.Prelude.{◌≡◌, ◌≢◌, ◌<◌, ◌≤◌, �
 ghost use Rattle.std.specs.FinMap as map;
 ghost use Rattle.sn_node_table.specs.Tables.{Goes, IsIdleAt, links_of, without};
 
-use crate::node::{Link, StoredNode};
+use crate::links::Links;
+use crate::node::StoredNode;
 use crate::table::{NodeTable, ROOT_ID};
 
 impl NodeTable {
@@ -19,19 +20,21 @@ impl NodeTable {
         }
     }
 
+    ghost use Rattle.sn_node_table.specs.Stored.{links_in};
+
     /// Removes an id, and returns the names that led to it.
-    fn take_out(&mut self, id: u64) -> Vec<Link>
+    fn take_out(&mut self, id: u64) -> Links
         ensures table { table_of self.new ≡ without (table_of self.old) id }
-        ensures links { result.items ≡ links_of (map.get (table_of self.old).nodes id) }
+        ensures links { links_in result ≡ links_of (map.get (table_of self.old).nodes id) }
     {
         let Some(node) = self.nodes.remove(id) else {
-            return Vec::new(self.alloc);
+            return Links::Empty;
         };
         let StoredNode { inode, links, .. } = node;
         if self.current.get(inode) == Some(id) {
             self.current.remove(inode);
         }
-        self.nodes.unhook(links.as_slice());
+        self.nodes.unhook(&links);
         links
     }
 

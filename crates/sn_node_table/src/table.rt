@@ -36,7 +36,7 @@ impl NodeTable {
         ensures { IfOk result (λ table. table_of table ≡ root_alone) }
     {
         let mut nodes = Nodes::new(alloc);
-        nodes.insert(ROOT_ID, StoredNode::new(alloc, ROOT_INODE))?;
+        nodes.insert(alloc, ROOT_ID, StoredNode::new(ROOT_INODE))?;
         let mut current = Current::new(alloc);
         current.insert(ROOT_INODE, ROOT_ID)?;
         Ok(NodeTable {

@@ -1,31 +1,32 @@
 use Rattle.std.proofs.Common.{ℕ, Option, sym, ap, ◌∙◌, rules}
 use Rattle.std.specs.BTreeMap.{BTreeMap}
+use Rattle.std.specs.Global.{Box}
 use Rattle.std.specs.Cmp.{nat_cmp_total}
 use Rattle.std.specs.Option.{option_and_then, option_map}
 use Rattle.std.specs.Ordering.{nat_cmp}
 use Rattle.std.proofs.lemmas.Map.Lookups.{exact_unsigned}
 use Rattle.sn_node_table.specs.declared.node.StoredNode.{StoredNode}
 use Rattle.sn_node_table.specs.Nodes.{Node, first_link, without_first_link}
-use Rattle.sn_node_table.specs.Stored.{nodes_of, node_of}
+use Rattle.sn_node_table.specs.Stored.{nodes_of, boxed_node_of, node_of}
 use Rattle.sn_maps.proofs.MapLemmas.{get-seen_by, updated-seen_by, none-seen_by}
 use Rattle.sn_node_table.proofs.nodes.Nodes.take_first_link.Goals as goal
 
 pub returns-in-Some-clause-rest : goal.returns-in-Some-clause-rest
 unfolding nodes_of
 returns-in-Some-clause-rest c =
-    updated-seen_by nat_cmp node_of nat_cmp_total exact_unsigned c.args.self.now.map.entries _ c.args.id c.in-Some.node.now _ without_first_link (sym c.in-Some.ensures.value) (sym c.take_first_link.ensures.rest) ((c.get_mut.follows.holds _).3 (search rules)).0
+    updated-seen_by nat_cmp boxed_node_of nat_cmp_total exact_unsigned c.args.self.now.map.entries _ c.args.id c.in-Some.node.now _ without_first_link (sym c.in-Some.ensures.value) (ap (λ (s : StoredNode). without_first_link (node_of s)) (sym c.deref_mut.ensures.value) ∙ sym c.take_first_link.ensures.rest) ((c.get_mut.follows.holds _).3 (search rules)).0
 
 pub returns-in-None-clause-rest : goal.returns-in-None-clause-rest
 unfolding nodes_of
 returns-in-None-clause-rest c =
-    none-seen_by nat_cmp node_of nat_cmp_total c.args.self.now.map.entries _ c.args.id without_first_link (sym c.in-None.ensures.value) (ap (λ (m : BTreeMap ℕ StoredNode). m.entries) c.get_mut.follows.holds-at-none)
+    none-seen_by nat_cmp boxed_node_of nat_cmp_total c.args.self.now.map.entries _ c.args.id without_first_link (sym c.in-None.ensures.value) (ap (λ (m : BTreeMap ℕ (Box StoredNode)). m.entries) c.get_mut.follows.holds-at-none)
 
 pub returns-in-Some-clause-link : goal.returns-in-Some-clause-link
 unfolding nodes_of
 returns-in-Some-clause-link c =
-    c.take_first_link.ensures.link ∙ sym (ap (λ (o : Option Node). option_and_then first_link o) (get-seen_by nat_cmp node_of nat_cmp_total c.args.self.now.map.entries c.args.id ∙ ap (option_map node_of) (sym c.in-Some.ensures.value)))
+    c.take_first_link.ensures.link ∙ ap (λ (s : StoredNode). first_link (node_of s)) c.deref_mut.ensures.value ∙ sym (ap (λ (o : Option Node). option_and_then first_link o) (get-seen_by nat_cmp boxed_node_of nat_cmp_total c.args.self.now.map.entries c.args.id ∙ ap (option_map boxed_node_of) (sym c.in-Some.ensures.value)))
 
 pub returns-in-None-clause-link : goal.returns-in-None-clause-link
 unfolding nodes_of
 returns-in-None-clause-link c =
-    sym (ap (λ (o : Option Node). option_and_then first_link o) (get-seen_by nat_cmp node_of nat_cmp_total c.args.self.now.map.entries c.args.id ∙ ap (option_map node_of) (sym c.in-None.ensures.value)))
+    sym (ap (λ (o : Option Node). option_and_then first_link o) (get-seen_by nat_cmp boxed_node_of nat_cmp_total c.args.self.now.map.entries c.args.id ∙ ap (option_map boxed_node_of) (sym c.in-None.ensures.value)))

@@ -1,6 +1,7 @@
-use Rattle.std.proofs.Common.{◌≡◌, ◌≢◌, ℕ, ◌+◌, ◌*◌, ◌<◌, ◌≤◌, Some, cond, is_some}
+use Rattle.std.proofs.Common.{◌≡◌, ◌≢◌, ℕ, ◌+◌, ◌*◌, ◌<◌, ◌≤◌, Some, cond, is_some, length}
 use Rattle.std.specs.Prelude.{◌⊎◌}
 use Rattle.std.specs.FinMap as map
+use Rattle.sn_node_table.specs.Stored.{links_in}
 use Rattle.sn_node_table.specs.Tables.{Goes, IsIdleAt, IsParentIn}
 use Rattle.sn_node_table.specs.Told.{table_of}
 use Rattle.sn_node_table.proofs.table.NodeTable.+sweep.Given as goal
@@ -24,9 +25,9 @@ decreases-sweep-loop-next l = map.len (table_of l.self).nodes + cond (is_some l.
 abbrev pub invariant-sweep_one-loop-link : goal.invariant-sweep_one-loop-link
 invariant-sweep_one-loop-link l = record {
   goes : Goes (table_of l.fn.self) (table_of l.self);
-  idle : (other : ℕ) → IsIdleAt (table_of l.self) other → (IsIdleAt (table_of l.fn.self) other × (other ≢ l.fn.id)) ⊎ (IsParentIn other l.links.items ⊎ (l.left.parent ≡ other));
+  idle : (other : ℕ) → IsIdleAt (table_of l.self) other → (IsIdleAt (table_of l.fn.self) other × (other ≢ l.fn.id)) ⊎ (IsParentIn other (links_in l.links) ⊎ (l.left.parent ≡ other));
   fewer : map.len (table_of l.self).nodes < map.len (table_of l.fn.self).nodes;
 }
 
 abbrev pub decreases-sweep_one-loop-link : goal.decreases-sweep_one-loop-link
-decreases-sweep_one-loop-link l = goal.left-sweep_one-loop-link l
+decreases-sweep_one-loop-link l = length (links_in l.links)

@@ -1,5 +1,5 @@
 use Rattle.std.proofs.Common.{Option, ap, sym, ◌∙◌}
-use Rattle.sn_node_table.specs.declared.node.Link.{Link}
+use Rattle.sn_node_table.specs.declared.links.Link.{Link}
 use Rattle.sn_node_table.specs.Stored.{nodes_of}
 use Rattle.sn_node_table.specs.Tables.{Nodes, dropped_of}
 use Rattle.sn_node_table.specs.Told.{table_of}

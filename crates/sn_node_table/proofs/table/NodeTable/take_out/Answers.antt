@@ -1,5 +1,6 @@
 use Rattle.std.proofs.Common.{ap, sym, ◌∙◌}
 use Rattle.sn_node_table.specs.Tables.{Nodes}
+use Rattle.sn_node_table.specs.Stored.{links_in}
 use Rattle.sn_node_table.specs.Told.{table_of}
 use Rattle.sn_node_table.proofs.FreshLemmas.{fresh-is, fresh-removed, fresh-unhooked}
 use Rattle.sn_node_table.proofs.SweepLemmas.{none_taken}
@@ -15,4 +16,4 @@ returns-in_default-clause-table c =
 pub invariant_of-self-2 : goal.invariant_of-self-2
 invariant_of-self-2 c =
     let one = fresh-is _ _ c.args.self.now.next c.remove.ensures.gone (fresh-removed _ _ _ c.args.self.now.fresh) in
-    record { fresh = fresh-is _ _ c.args.self.now.next c.unhook.ensures (fresh-unhooked c.args.self.now.next c.as_slice.result.now _ one) }
+    record { fresh = fresh-is _ _ c.args.self.now.next c.unhook.ensures (fresh-unhooked c.args.self.now.next (links_in c.in-Some.node.links) _ one) }
