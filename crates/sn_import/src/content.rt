@@ -72,7 +72,8 @@ impl Content {
 
     fn append(&mut self, bytes: &[u8]) -> Result<(), AllocError>
         requires { length self.old.held + length bytes.now < 28672 }
-        ensures { OnOk result (self.new ≡ record self.old { held = self.old.held ++ bytes.now }) }
+        ensures more { OnOk result (self.new ≡ record self.old { held = self.old.held ++ bytes.now }) }
+        ensures short { length self.new.held < 28672 }
     {
         self.bytes.extend_from_slice(bytes)
     }
@@ -80,7 +81,8 @@ impl Content {
     // Holds bytes that fill no write.
     fn hold(&mut self, bytes: &[u8]) -> Result<(), AllocError>
         requires { length self.old.held + length bytes.now < 28672 }
-        ensures { OnOk result ((rest : List ℕ) → writes self.old (bytes.now ++ rest) ≡ writes self.new rest) }
+        ensures same { OnOk result ((rest : List ℕ) → writes self.old (bytes.now ++ rest) ≡ writes self.new rest) }
+        ensures short { length self.new.held < 28672 }
     {
         self.append(bytes)?;
         Ok(())
@@ -108,7 +110,8 @@ impl Content {
     fn fill(&mut self, alloc: Global, bytes: &[u8]) -> Result<Call, AllocError>
         requires filled { 28672 ≤ length self.old.held + length bytes.now }
         requires block { length bytes.now ≤ 512 }
-        ensures { IfOk result (λ next. (rest : List ℕ) → writes self.old (bytes.now ++ rest) ≡ next ∷ writes self.new rest) }
+        ensures filled { IfOk result (λ next. (rest : List ℕ) → writes self.old (bytes.now ++ rest) ≡ next ∷ writes self.new rest) }
+        ensures short { length self.new.held < 28672 }
     {
         let room = self.missing();
         let kept = Vec::from_slice(alloc, back(bytes, room))?;
@@ -117,13 +120,15 @@ impl Content {
         Ok(self.write(piece))
     }
 
-    /// Takes the next bytes, a block at the most, and gives the write that they fill, if they fill one.
+    /// Takes the next bytes, a block at the most, and gives the write that they fill, if they fill one. Less than a write is held
+    /// after it.
     ///
     /// Proved, also of `Content::last`: The writes of a file have its content, in pieces of 28,672 bytes and a last one with what
     /// is left, if any is.
     pub fn push(&mut self, alloc: Global, bytes: &[u8]) -> Result<Option<Call>, AllocError>
         requires { length bytes.now ≤ 512 }
-        ensures { IfOk result (λ next. (rest : List ℕ) → writes self.old (bytes.now ++ rest) ≡ option_to_list next ++ writes self.new rest) }
+        ensures filled { IfOk result (λ next. (rest : List ℕ) → writes self.old (bytes.now ++ rest) ≡ option_to_list next ++ writes self.new rest) }
+        ensures short { length self.new.held < 28672 }
     {
         if self.size() + bytes.len() < WRITE_SIZE {
             self.hold(bytes)?;
