@@ -1,9 +1,9 @@
 -- The content of a file, as it comes.
 use Rattle.std.proofs.Common.{◌≡◌, ℕ, ◌+◌, ◌-◌, ◌<◌, ◌≤◌, min, true, false, List, [], ◌++◌, length, take, ⊎_elim, sym, ap, subst, ◌∙◌, append_assoc, length-append, take-take, arith}
 use Rattle.std.specs.Prelude.{Option, Some, None, Result, Ok, Err, IfErr, IsErrAnd}
-use Rattle.std.proofs.Math.Seq.{take-append-add}
+use Rattle.std.proofs.Math.Seq.{take-append-add, take-nil}
 use Rattle.std.proofs.lemmas.List.{append-nil, length-take-le, take-append-le}
-use Rattle.std.proofs.lemmas.Bool.{cases_lt}
+use Rattle.std.proofs.lemmas.Bool.{cases_lt, false≢true}
 use Rattle.sn_import.specs.Calls.{closing_calls}
 use Rattle.sn_import.specs.Writes.{Unwritten, writes, writes_of}
 use Rattle.sn_import.specs.declared.object.Object.{Object}
@@ -120,18 +120,31 @@ fed_whole what before after size left came acts none enough feeds =
     )
 
 pub written_outside : {A : Type 0} (what : What) (before between after : Unwritten) (size left : ℕ) (came : List ℕ) (acts : List Act) (e : Stop) (r : Result A Stop)
-    → IsErrAnd r (λ other. other ≡ e) → is_outside e ≡ true → Feeds what before size came between left acts → IsWritten what before after size came acts (stop_of r)
-written_outside what before between after size left came acts e (Ok a) is out feeds = absurd is
-written_outside what before between after size left came acts e (Err stop) is out feeds = λ rest. broken_at what _ _ acts stop (ap is_outside is ∙ out) (feeds rest)
+    → IsErrAnd r (λ other. other ≡ e) → is_outside e ≡ true → length after.held < 28672 → between ≡ after → Feeds what before size came between left acts → IsWritten what before after size came acts (stop_of r)
+written_outside what before between after size left came acts e (Ok a) is out few same feeds = absurd is
+written_outside what before between after size left came acts e (Err stop) is out few same feeds =
+    let m = feeds [] in (
+      λ rest. broken_at what _ _ acts stop (ap is_outside is ∙ out) (feeds rest),
+      λ _. (
+        few,
+        record {
+          plan_is = ap (λ (bytes : List ℕ). writes before (take size bytes)) (sym (append-nil came)) ∙ m.plan_is ∙ ap (λ (bytes : List ℕ). calls_in acts ++ writes between bytes) (take-nil left)
+              ∙ ap (λ (u : Unwritten). calls_in acts ++ writes u []) same;
+          fine = m.fine;
+        },
+      ),
+    )
 
 pub written_stopped : {A : Type 0} (what : What) (before between after : Unwritten) (size left n : ℕ) (came block : List ℕ) (a b : List Act) (e : Stop) (r : Result A Stop)
-    → IsErrAnd r (λ other. other ≡ e) → n ≤ length block → Feeds what before size came between left a
+    → IsErrAnd r (λ other. other ≡ e) → is_call e ≡ true → n ≤ length block → Feeds what before size came between left a
     → ((rest : List ℕ) → IsStopped what (writes between (take (min left n) block ++ rest)) b e)
     → IsWritten what before after size (came ++ take n block) (a ++ b) (stop_of r)
-written_stopped what before between after size left n came block a b e (Ok x) is within feeds stopped = absurd is
-written_stopped what before between after size left n came block a b e (Err stop) is within feeds stopped = λ rest.
-    subst (λ (s : Stop). IsStopped what (writes before (take size ((came ++ take n block) ++ rest))) (a ++ b) s) (sym is)
-    (fed_stopped what before between size left n came block a b e within feeds stopped rest)
+written_stopped what before between after size left n came block a b e (Ok x) is call within feeds stopped = absurd is
+written_stopped what before between after size left n came block a b e (Err stop) is call within feeds stopped = (
+  λ rest. subst (λ (s : Stop). IsStopped what (writes before (take size ((came ++ take n block) ++ rest))) (a ++ b) s) (sym is)
+      (fed_stopped what before between size left n came block a b e within feeds stopped rest),
+  λ no. absurd (false≢true (sym no ∙ ap is_call is ∙ call)),
+)
 
 pub came_same : {A : Type 0} (s : State) (i : Option (List ℕ)) (content : List ℕ) (t : State) (j : Option (List ℕ)) (e : Stop) (r : Result A Stop)
     → IsErrAnd r (λ other. other ≡ e) → Came s i content t j (Some e) → Came s i content t j (stop_of r)
@@ -144,12 +157,21 @@ came_same s i content t j e (Err stop) is h = subst (λ (other : Stop). Came s i
 pub filled_stopped : {A : Type 0} (object : Object) (fd size : ℕ) (before after : Unwritten) (came : List ℕ) (acts : List Act) (e : Stop) (r : Result A Stop)
     → before ≡ record { fd = fd; held = [] } → IsErrAnd r (λ other. other ≡ e) → IsWritten object.what before after size came acts (Some e) → IsFilled fd object size came acts (stop_of r)
 filled_stopped object fd size before after came acts e (Ok a) start is stopped = absurd is
-filled_stopped object fd size before after came acts e (Err stop) start is stopped = λ rest.
-    (let bytes = take size (came ++ rest) in
-    let same : writes before bytes ≡ writes_of fd bytes = ap (λ (u : Unwritten). writes u bytes) start in
-    let s : IsStopped object.what (writes_of fd bytes) acts stop =
-    subst (λ (other : Stop). IsStopped object.what (writes_of fd bytes) acts other) (sym is) (stopped_as object.what (writes before bytes) (writes_of fd bytes) acts e same (stopped rest)) in
-    stopped_with object.what (writes_of fd bytes) (closing_calls fd object) acts stop s)
+filled_stopped object fd size before after came acts e (Err stop) start is stopped = (
+  λ rest.
+      (let bytes = take size (came ++ rest) in
+      let same : writes before bytes ≡ writes_of fd bytes = ap (λ (u : Unwritten). writes u bytes) start in
+      let s : IsStopped object.what (writes_of fd bytes) acts stop =
+      subst (λ (other : Stop). IsStopped object.what (writes_of fd bytes) acts other) (sym is) (stopped_as object.what (writes before bytes) (writes_of fd bytes) acts e same (stopped.0 rest)) in
+      stopped_with object.what (writes_of fd bytes) (closing_calls fd object) acts stop s),
+  λ no.
+      (let fed = stopped.1 (ap is_call (sym is) ∙ no) in
+      record {
+        left = after;
+        short = fed.0;
+        made = made_as object.what (writes before (take size came)) (writes_of fd (take size came)) (writes after []) acts (ap (λ (u : Unwritten). writes u (take size came)) start) fed.1;
+      }),
+)
 
 filled_made : (object : Object) (fd size : ℕ) (before after : Unwritten) (came : List ℕ) (a : List Act)
     → before ≡ record { fd = fd; held = [] } → IsWritten object.what before after size came a None
@@ -160,11 +182,14 @@ filled_made object fd size before after came a start written =
 
 -- all is written, and then the calls after the content are made, or stopped
 pub filled_after : {A : Type 0} (object : Object) (fd size : ℕ) (before after : Unwritten) (came : List ℕ) (a b : List Act) (r : Result A Stop)
-    → before ≡ record { fd = fd; held = [] } → IsWritten object.what before after size came a None → Goes object.what (writes after [] ++ closing_calls fd object) [] b r
+    → before ≡ record { fd = fd; held = [] } → IfErr r (λ stop. is_call stop ≡ true) → IsWritten object.what before after size came a None → Goes object.what (writes after [] ++ closing_calls fd object) [] b r
     → IsFilled fd object size came (a ++ b) (stop_of r)
-filled_after object fd size before after came a b (Ok x) start written goes =
+filled_after object fd size before after came a b (Ok x) start calls written goes =
     (written.0, made_more object.what _ _ [] a b (filled_made object fd size before after came a start written) goes)
-filled_after object fd size before after came a b (Err stop) start written goes = λ rest.
-    (let same : take size came ≡ take size (came ++ rest) = sym (take-append-le size came rest written.0) in
-    subst (λ (bytes : List ℕ). IsStopped object.what (filling fd object bytes) (a ++ b) stop) same
-    (stopped_after object.what _ _ a b stop (filled_made object fd size before after came a start written) goes))
+filled_after object fd size before after came a b (Err stop) start calls written goes = (
+  λ rest.
+      (let same : take size came ≡ take size (came ++ rest) = sym (take-append-le size came rest written.0) in
+      subst (λ (bytes : List ℕ). IsStopped object.what (filling fd object bytes) (a ++ b) stop) same
+      (stopped_after object.what _ _ a b stop (filled_made object fd size before after came a start written) goes)),
+  λ no. (let call : is_call stop ≡ true = calls in absurd (false≢true (sym no ∙ call))),
+)

@@ -10,7 +10,7 @@ use Rattle.sn_untar.specs.Steps.{State, Steps, is_ended, start}
 use Rattle.sn_untar.specs.declared.told.Told.{Told}
 use Rattle.sn_untar.specs.declared.told.Told.TheVariants as told
 use Rattle.sn_import_run.specs.Acts.{Act}
-use Rattle.sn_import_run.specs.Carried.{stop_of}
+use Rattle.sn_import_run.specs.Carried.{is_outside, stop_of}
 use Rattle.sn_import_run.specs.Entries.{IsDone, IsTaken}
 use Rattle.sn_import_run.specs.Files.{Arrives, Came}
 use Rattle.sn_import_run.specs.Imports.{AreDone, AreRead, IsImport, SetsRights, all, broken, end_told, goes_on, is_over, within}
@@ -56,7 +56,7 @@ pub done_content : (names : Names) (into : List ℕ) (place : ℕ) (parts : List
     → AreDone names into place parts acts directories → AreDone names into place (with_content parts bytes) acts directories
 done_content names into place [] bytes acts directories done = done
 done_content names into place (part ∷ []) bytes acts directories done =
-    (done.0, done.1, done.2, done.3, done.4, done.5, done.6, done.7, done_longer names into place part bytes done.0 done.2 done.4 done.8, done.9)
+    (done.0, done.1, done.2, done.3, done.4, done.5, done.6, done.7, done_longer names into place part bytes done.0 done.2 done.4 done.7 done.8, done.9)
 done_content names into place (part ∷ next ∷ parts) bytes acts directories done =
     (done.0, done.1, done.2, done.3, done.4, done.5, done.6, done.7, done.8, done_content names into (place + 1) (next ∷ parts) bytes done.1 done.3 done.9)
 
@@ -221,17 +221,17 @@ breaks_off s j (Unread e) goes h = (goes, h)
 
 -- between two entries
 pub read_end : {A : Type 0} (names : Names) (into : List ℕ) (i j : Option (List ℕ)) (s : State) (count : ℕ) (acts : List Act) (ds : List Object) (is_empty : Bool) (stop : Stop) (r : Result A Stop)
-    (p : Progress names into i s j count acts ds) → is_ended s.phase ≡ false → Breaks s j stop → (is_empty ≡ true → (p.parts ≡ []) × (s ≡ start)) → OnOk r ((is_empty ≡ true) × (stop ≡ Ended)) → IfErr r (λ other. other ≡ stop)
+    (p : Progress names into i s j count acts ds) → is_ended s.phase ≡ false → is_outside stop ≡ true → Breaks s j stop → (is_empty ≡ true → (p.parts ≡ []) × (s ≡ start)) → OnOk r ((is_empty ≡ true) × (stop ≡ Ended)) → IfErr r (λ other. other ≡ stop)
     → IsRead names into i (acts ++ end_told count (stop_of r)) ds (stop_of r)
-read_end names into i j s count acts ds is_empty stop (Ok a) p goes breaks empty whole same =
+read_end names into i j s count acts ds is_empty stop (Ok a) p goes out breaks empty whole same =
     let none : (is_empty ≡ true) × (stop ≡ Ended) = whole in
     let fresh = empty none.0 in
     let spent : Breaks s j Ended = subst (λ (e : Stop). Breaks s j e) none.1 breaks in
     subst (λ (xs : List Act). IsRead names into i xs ds None) (sym (append-nil acts)) (read_whole names into i j s count acts ds ds p (inr (fresh.0, fresh.1, spent)) refl)
-read_end names into i j s count acts ds is_empty stop (Err e) p goes breaks empty whole same =
+read_end names into i j s count acts ds is_empty stop (Err e) p goes out breaks empty whole same =
     let is : e ≡ stop = same in
     subst (λ (n : ℕ). IsRead names into i (acts ++ end_told n (Some e)) ds (Some e)) (sym p.count_is)
-    (p.parts, (s, j, p.takes, breaks_off s j e goes (subst (λ (other : Stop). Breaks s j other) (sym is) breaks)), broken acts ds e p.done)
+    (p.parts, (s, j, p.takes, breaks_off s j e goes (subst (λ (other : Stop). Breaks s j other) (sym is) breaks)), broken acts ds e (ap is_outside is ∙ out) p.done)
 
 -- in an entry
 pub read_within : {A : Type 0} (names : Names) (into : List ℕ) (i : Option (List ℕ)) (acts : List Act) (ds more : List Object) (e : Stop) (r : Result A Stop)

@@ -1,8 +1,8 @@
 -- What is done of an entry.
-use Rattle.std.specs.Prelude.{◌≡◌, ◌⊎◌, ◌≤◌, ◌+◌, ℕ, Bool, true, false, if◌then◌else◌, List, [], ◌∷◌, ◌++◌, length, take, Option, Some, None, Ok, Err}
+use Rattle.std.specs.Prelude.{◌≡◌, ◌⊎◌, ◌<◌, ◌≤◌, ◌+◌, ℕ, Bool, true, false, if◌then◌else◌, List, [], ◌∷◌, ◌++◌, length, take, Option, Some, None, Ok, Err}
 use Rattle.sn_model.specs.declared.call.Call.{Call}
 use Rattle.sn_import.specs.Calls.{closing_calls, opening_calls}
-use Rattle.sn_import.specs.Writes.{writes_of}
+use Rattle.sn_import.specs.Writes.{Unwritten, writes, writes_of}
 use Rattle.sn_import.specs.declared.object.Object.{Object}
 use Rattle.sn_import.specs.declared.object.What.{What}
 use Rattle.sn_import.specs.declared.object.What.TheVariants.{File, Directory, Top}
@@ -15,6 +15,7 @@ use Rattle.sn_import_entry.specs.declared.names.Names.{Names}
 use Rattle.sn_untar.specs.declared.members.Member.{Member}
 use Rattle.sn_import_run.specs.Acts.{Act, Told}
 use Rattle.sn_import_run.specs.Carried.{AreMade, IsStopped, last_descriptor}
+use Rattle.sn_import_run.specs.Stops.{is_call}
 use Rattle.sn_import_run.specs.Streams.{Part, begun, longer}
 use Rattle.sn_untar.specs.declared.told.Told.{Told as Says}
 use Rattle.sn_untar.specs.declared.told.Told.TheVariants as told
@@ -29,19 +30,28 @@ use Rattle.sn_import_run.specs.declared.why.Why.TheVariants as why
 abbrev pub filling : ℕ → Object → List ℕ → List Call
 filling fd object content = writes_of fd content ++ closing_calls fd object
 
--- A file that is open gets so many bytes of a content, and is closed. Where it is stopped, that is so whatever content would have followed.
+-- all writes that a content fills are made: less than one is left
+pub record IsFed (what : What) (fd : ℕ) (content : List ℕ) (acts : List Act) : Type 0 where
+  pub left : Unwritten
+  pub short : length left.held < 28672
+  pub made : AreMade what (writes_of fd content) (writes left []) acts
+
+-- A file that is open gets so many bytes of a content, and is closed. Where it is stopped, that is so whatever content would have followed; and
+-- where the archive is the reason, all writes that its content fills are made.
 abbrev pub IsFilled : ℕ → Object → ℕ → List ℕ → List Act → Option Stop → Type 0
 IsFilled fd object size content acts None = (size ≤ length content) × AreMade object.what (filling fd object (take size content)) [] acts
-IsFilled fd object size content acts (Some stop) = (rest : List ℕ) → IsStopped object.what (filling fd object (take size (content ++ rest))) acts stop
+IsFilled fd object size content acts (Some stop) =
+    ((rest : List ℕ) → IsStopped object.what (filling fd object (take size (content ++ rest))) acts stop) × (is_call stop ≡ false → IsFed object.what fd (take size content) acts)
 
 -- after the calls that open it: a directory gets its rights after all entries
 abbrev pub IsFinished : What → ℕ → Object → ℕ → List ℕ → List Act → Option Stop → Type 0
 IsFinished (File rights) fd object size content acts stop = IsFilled fd object size content acts stop
 IsFinished _ fd object size content acts stop = (acts ≡ []) × (stop ≡ None)
 
--- the calls before the content are made, up to one that stops the object
+-- the calls before the content are made, up to one that stops the object: nothing of the archive is read between them
 pub record IsUnopened (object : Object) (acts : List Act) (stop : Option Stop) : Type 0 where
   pub reason : Stop
+  pub called : is_call reason ≡ true
   pub stopped : IsStopped object.what (opening_calls object) acts reason
   pub stop_is : stop ≡ Some reason
 

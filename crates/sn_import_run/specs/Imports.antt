@@ -7,9 +7,9 @@ use Rattle.sn_import.specs.declared.closing.Closing.TheVariants.{Give}
 use Rattle.sn_import.specs.declared.object.Object.{Object}
 use Rattle.sn_import_entry.specs.declared.names.Names.{Names}
 use Rattle.sn_import_run.specs.Acts.{Act, Told}
-use Rattle.sn_import_run.specs.Carried.{AreMade, IsStopped}
+use Rattle.sn_import_run.specs.Carried.{AreMade, IsStopped, is_outside}
 use Rattle.sn_import_run.specs.Entries.{IsDone}
-use Rattle.sn_import_run.specs.Stops.{ends_import, ends_reading}
+use Rattle.sn_import_run.specs.Stops.{ends_import, ends_reading, is_call}
 use Rattle.sn_import_run.specs.Streams.{Part}
 use Rattle.sn_import_run.specs.declared.stop.Stop.{Stop}
 use Rattle.sn_import_run.specs.declared.stop.Stop.TheVariants.{Memory}
@@ -40,8 +40,8 @@ end_told count (Some stop) = Told (Some (count + 1)) [] (why.Stop stop) ∷ []
 -- Of entries, all that is done before directories get their rights, and what ended the reading, if it wasn't the archive's end.
 pub data AreRead (names : Names) (into : List ℕ) (parts : List Part) : List Act → List Object → Option Stop → Type 0 where
   all : (acts : List Act) (directories : List Object) → AreDone names into 1 parts acts directories → AreRead names into parts acts directories None
-  -- between two entries
-  broken : (acts : List Act) (directories : List Object) (stop : Stop) → AreDone names into 1 parts acts directories
+  -- between two entries, where no call was refused
+  broken : (acts : List Act) (directories : List Object) (stop : Stop) → is_outside stop ≡ true → AreDone names into 1 parts acts directories
       → AreRead names into parts (acts ++ end_told (length parts) (Some stop)) directories (Some stop)
   -- in an entry
   within : (front : List Part) (last : Part) (acts more : List Act) (directories own : List Object) (stop : Stop) → parts ≡ front ++ last ∷ []
@@ -54,9 +54,10 @@ abbrev pub stop_told : Object → Option Stop → List Act
 stop_told object None = []
 stop_told object (Some stop) = Told None object.path (why.Stop stop) ∷ []
 
+-- the archive is no reason to stop here
 abbrev pub IsGranted : Object → List Act → Option Stop → Type 0
 IsGranted object acts None = AreMade object.what (closing_from Give object) [] acts
-IsGranted object acts (Some stop) = IsStopped object.what (closing_from Give object) acts stop
+IsGranted object acts (Some stop) = (is_call stop ≡ true) × IsStopped object.what (closing_from Give object) acts stop
 
 abbrev pub is_over : Option Stop → Bool
 is_over None = false

@@ -46,7 +46,7 @@ pub record IsAll (accounts : Names) (into : List ℕ) (parts : List Part) (acts 
 
 read_all : (accounts : Names) (into : List ℕ) (parts : List Part) (acts : List Act) (directories : List Object) (stop : Option Stop) → AreRead accounts into parts acts directories stop → AreCalled acts → IsAll accounts into parts acts directories stop
 read_all accounts into parts _ _ _ (all acts directories done) called = record { stop_is = refl; done = done }
-read_all accounts into parts _ _ _ (broken acts directories stop done) called = absurd ((called_parts acts (end_told (length parts) (Some stop)) called).1.0)
+read_all accounts into parts _ _ _ (broken acts directories stop out done) called = absurd ((called_parts acts (end_told (length parts) (Some stop)) called).1.0)
 read_all accounts into parts _ _ _ (within front last acts more directories own stop are done one ends) called =
     let w = done_whole accounts into (length front + 1) last more own (Some stop) one (called_parts acts more called).1 in
     absurd (never stop w.stop_is)

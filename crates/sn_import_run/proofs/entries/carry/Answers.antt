@@ -10,7 +10,7 @@ returns-in_err-fd g c =
     let k = c.in_err-fd.ensures.made in (
       [],
       came_error _ _ [] _ _ _ _ c.from_residual.ensures.1 c.in_err-fd.ensures.calls (arrives_none (state_of c.args.untar.now) (g.R.Read.remaining c.args.archive.now)),
-      (k.0, k.1, unopened c.args.object.now c.args.size [] k.0 _ _ c.from_residual.ensures.1 k.2.0),
+      (k.0, k.1, unopened c.args.object.now c.args.size [] k.0 _ _ c.from_residual.ensures.1 c.in_err-fd.ensures.calls k.2.0),
     )
 
 pub returns : goal.returns

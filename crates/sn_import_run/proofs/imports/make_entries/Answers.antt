@@ -43,7 +43,7 @@ pub returns-in-Err : goal.returns-in-Err
 returns-in-Err g c =
     let v = c.loop-turn.invariant.2 in
     let told = end_told c.loop-turn.count (stop_of c.end.result) in
-    let r = read_end c.args.names.now c.args.directory.now (g.R.Read.remaining c.args.archive.now) _ _ c.loop-turn.count v.0 c.loop-turn.directories.items c.loop-turn.is_empty c.in-Err.stop c.end.result v.2.0 c.loop-turn.invariant.1 c.in-Err.ensures.broken v.2.1 c.end.ensures.whole c.end.ensures.same in
+    let r = read_end c.args.names.now c.args.directory.now (g.R.Read.remaining c.args.archive.now) _ _ c.loop-turn.count v.0 c.loop-turn.directories.items c.loop-turn.is_empty c.in-Err.stop c.end.result v.2.0 c.loop-turn.invariant.1 c.in-Err.ensures.outside c.in-Err.ensures.broken v.2.1 c.end.ensures.whole c.end.ensures.same in
     (r.0, r.1, (v.0 ++ told, adds_more _ _ _ v.0 told v.1 c.end.ensures.told, r.2))
 
 pub take_on-requires-clause-few : goal.take_on-requires-clause-few
@@ -111,5 +111,5 @@ pub returns : goal.returns
 returns g c =
     let v = c.loop-turn.invariant.2 in
     let told = end_told c.loop-turn.count (stop_of c.end-2.result) in
-    let r = read_end c.args.names.now c.args.directory.now (g.R.Read.remaining c.args.archive.now) _ _ c.loop-turn.count v.0 c.loop-turn.directories.items false (Unread c.from-error.result) c.end-2.result v.2.0 c.loop-turn.invariant.1 tt (λ is. absurd (false≢true is)) c.end-2.ensures.whole c.end-2.ensures.same in
+    let r = read_end c.args.names.now c.args.directory.now (g.R.Read.remaining c.args.archive.now) _ _ c.loop-turn.count v.0 c.loop-turn.directories.items false (Unread c.from-error.result) c.end-2.result v.2.0 c.loop-turn.invariant.1 refl tt (λ is. absurd (false≢true is)) c.end-2.ensures.whole c.end-2.ensures.same in
     (r.0, r.1, (v.0 ++ told, adds_more _ _ _ v.0 told v.1 c.end-2.ensures.told, r.2))

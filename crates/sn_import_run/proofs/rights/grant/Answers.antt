@@ -15,6 +15,6 @@ returns-in-Err g c =
       (
         k.0 ++ told,
         adds_more _ _ _ k.0 told k.1 (subst (λ (name : List ℕ). Grows (g.C.Calls.did c.close.new.to) (g.C.Calls.did c.report.new.self) (Told None name (Stop c.in-Err.stop) ∷ [])) c.as_bytes.ensures c.report.ensures),
-        (k.0, refl, k.2),
+        (k.0, refl, (c.in-Err.ensures.calls, k.2)),
       ),
     )
