@@ -1,6 +1,6 @@
 -- What is served is a machine over a world, and an export keeps its trees.
 use Rattle.std.proofs.Common.{◌≡◌, ◌∙◌, ℕ, Bool, List, [], ◌∷◌, ap, subst}
-use Rattle.std.specs.Prelude.{IsTrue, Result, Ok, Err, OnOk}
+use Rattle.std.specs.Prelude.{IfErr, IsTrue, Result, Ok, Err, OnOk}
 use Rattle.sn_device.specs.Disk.{Disk, reads}
 use Rattle.sn_device.specs.Sectors.{Contents}
 use Rattle.sn_device.proofs.CrashLemmas.{LeavesOnly-now}
@@ -20,7 +20,10 @@ use Rattle.sn_run.proofs.CutLemmas.{found_settled}
 use Rattle.sn_serving.specs.Served.{IsIn, Leads, Served, Unmounts, place_in}
 use Rattle.sn_export_walk.specs.Serving.{InState, IsStepOf, Reads}
 use Rattle.sn_export_walk.specs.declared.fault.ExportFault.{ExportFault}
+use Rattle.sn_export_walk.specs.declared.fault.ExportFault.TheVariants as export
 use Rattle.sn_export_image.specs.Faults.{outcome_of}
+use Rattle.sn_export_image.specs.declared.fault.ImageFault.{ImageFault}
+use Rattle.sn_export_image.specs.declared.fault.ImageFault.TheVariants as fault
 use Rattle.sn_export_image.specs.Worlds.{HasTreesOf, RunsOver}
 
 in_state : (told : Bool) (s : Served) (next : State) → IsTrue told → IsIn next s → InState (RunsOver told s) next
@@ -63,3 +66,14 @@ on_written X ending.Clean (Err why) x = tt
 on_written X ending.Memory written x = tt
 on_written X ending.Stopped written x = tt
 on_written X (ending.Mount why) written x = tt
+
+-- no unmount ends with the fault of a path
+no_path : {X : Type 0} (why : ImageFault) → (why ≡ fault.Export export.Path → ⊥) → why ≡ fault.Export export.Path → X
+no_path why never e = absurd (never e)
+
+pub untold : (X : Type 0) (end : End) (written : Result (Unit {0}) ExportFault) → IfErr written (λ why. why ≡ export.Path → X) → IfErr (outcome_of end written) (λ why. why ≡ fault.Export export.Path → X)
+untold X ending.Clean (Ok done) x = tt
+untold X ending.Clean (Err why) x = λ e. (let same : fault.Export why ≡ fault.Export export.Path = e in let is : why ≡ export.Path = cc in x is)
+untold X ending.Memory written x = no_path (fault.Export export.Memory) (λ e. let never : fault.Export export.Memory ≡ fault.Export export.Path = e in cc)
+untold X ending.Stopped written x = no_path (fault.Export export.Stopped) (λ e. let never : fault.Export export.Stopped ≡ fault.Export export.Path = e in cc)
+untold X (ending.Mount why) written x = no_path (fault.Mount why) (λ e. let never : fault.Mount why ≡ fault.Export export.Path = e in cc)

@@ -1,10 +1,12 @@
-ghost use Rattle.std.specs.Prelude.{◌≡◌, IsErrOf, IsTrue, OnOk};
+ghost use Rattle.std.specs.Prelude.{◌≡◌, IfErr, IsErrOf, IsTrue, OnOk};
 ghost use Rattle.sn_check.specs.Verdicts.{IsCause};
 ghost use Rattle.sn_device.specs.Disk.{reads};
 ghost use Rattle.sn_export_image.specs.declared.fault.ImageFault.TheVariants as fault;
 ghost use Rattle.sn_export_image.specs.Worlds.{HasTreesOf};
+ghost use Rattle.sn_export_walk.specs.Faults.{Goes, IsUntold, Tells};
 ghost use Rattle.sn_export_walk.specs.Serving.{BeginsArchive, Reads, WritesArchive};
 ghost use Rattle.sn_export_walk.specs.Streams.{BeginsStream, WritesStream};
+ghost use Rattle.sn_export_walk.specs.declared.fault.ExportFault.TheVariants as export;
 ghost use Rattle.sn_held.specs.Images.{IsImage};
 ghost use Rattle.sn_limits.specs.Versions.{limits_written};
 ghost use Rattle.sn_model.specs.World.{World, trees_of};
@@ -33,6 +35,8 @@ fn write_tree<C: Calls, W: Write>(
     ensures begun { (world : World) → C.serves calls.old world → IsFound limits_written world
         → BeginsArchive (trees_of world) path.now (W.contents out.old) (W.contents out.new) }
     ensures kept { (world : World) → C.serves calls.old world → IsFound limits_written world → OnOk result (Reads (trees_of world) (C.serves calls.new)) }
+    ensures told { Goes (C.last calls.old) → Tells (C.last calls.new) result }
+    ensures path { (world : World) → C.serves calls.old world → IsFound limits_written world → IfErr result (λ why. why ≡ export.Path → IsUntold (trees_of world) path.now) }
 {
     export(alloc, calls, path, out)?;
     match out.flush() {
@@ -54,6 +58,8 @@ pub struct Exported<D: Device + Drop> {
 /// Proved: Over each device that tells its bytes, what is written is the archive of what the path leads user 0 to, in the world that
 /// the device's disk is an image of, or after a fault the front of it. After an export without a fault the disk is an image of the same
 /// trees, whatever a crash leaves.
+/// Proved: Over each device that tells its bytes, `Path` is told only where the path leads to no tree of that world, or a name below it
+/// has a path that leads nowhere, as one of more bytes than a call takes.
 /// Proved: Over any device what is written is a stream of members and its end, or after a fault the front of one; nothing where there
 /// was no mount, for which the cause is that of a check.
 pub fn export_image<D: Device + Drop, W: Write>(
@@ -69,6 +75,8 @@ pub fn export_image<D: Device + Drop, W: Write>(
     ensures begun { IsTrue D.tells_bytes → (world : World) → IsImage (reads (D.disk device)) world
         → BeginsArchive (trees_of world) path.now (W.contents out.old) (W.contents out.new) }
     ensures kept { IsTrue D.tells_bytes → (world : World) → IsImage (reads (D.disk device)) world → OnOk result.outcome (HasTreesOf world (D.disk result.device)) }
+    ensures path { IsTrue D.tells_bytes → (world : World) → IsImage (reads (D.disk device)) world
+        → IfErr result.outcome (λ why. why ≡ fault.Export export.Path → IsUntold (trees_of world) path.now) }
     ensures unmounted { (why : Why) → IsErrOf result.outcome (fault.Mount why) → out.new ≡ out.old }
     ensures cause { IsTrue D.tells_bytes → (why : Why) → IsErrOf result.outcome (fault.Mount why)
         → IsCause (D.status device).sectors (reads (D.disk device)) why }

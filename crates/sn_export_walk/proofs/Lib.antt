@@ -1,3 +1,4 @@
+pub mod Faults
 pub mod Members
 pub mod Kept
 pub mod Contents

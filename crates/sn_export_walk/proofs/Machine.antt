@@ -1,5 +1,5 @@
 -- What the machine's replies say, and what it runs over after them.
-use Rattle.std.proofs.Common.{◌≡◌, ◌+◌, ◌<◌, ℕ, Bool, true, false, cond, Option, Some, None, Result, Ok, Err, List, [], ◌∷◌, length, refl, sym, ap, subst, ◌∙◌, true≢false, arith}
+use Rattle.std.proofs.Common.{◌≡◌, ◌+◌, ◌<◌, ℕ, Bool, true, false, cond, Option, Some, None, Result, Ok, Err, List, [], ◌∷◌, length, inl, inr, refl, sym, ap, subst, ◌∙◌, true≢false, arith}
 use Rattle.std.specs.Prelude.{nat_le, slice_get, slice_set, take, drop, ok_or}
 use Rattle.std.specs.Option.{option_flatten}
 use Rattle.std.specs.FinMap as map
@@ -24,7 +24,8 @@ use Rattle.sn_model.specs.declared.argument.AclKind.{AclKind}
 use Rattle.sn_model.specs.declared.call.Call.{Call}
 use Rattle.sn_model.specs.declared.call.Call.TheVariants as call
 use Rattle.sn_model.specs.declared.call.Event.TheVariants as event
-use Rattle.sn_model.specs.declared.reply.Errno.TheVariants.{Ebadf, Einval, Eisdir}
+use Rattle.sn_model.specs.declared.reply.Errno.TheVariants.{Ebadf, Einval, Eio, Eisdir, Enomem}
+use Rattle.sn_model.specs.declared.reply.Errno.{Errno}
 use Rattle.sn_model.specs.declared.reply.FileStatus.{FileStatus}
 use Rattle.sn_model.specs.declared.reply.Refusal.{Refusal}
 use Rattle.sn_model.specs.declared.reply.Reply.{Reply}
@@ -34,7 +35,7 @@ use Rattle.sn_model.specs.AccessCalls.{acl_at, getacl_outcome, has_acl}
 use Rattle.sn_model.specs.Calls.{Ready, new_session, outcome_of, stat_outcome, status_of}
 use Rattle.sn_model.specs.Descriptors.{Descriptors, descriptor_at, descriptor_for, moved_if, moved_to, next_descriptor, opened, readable_at}
 use Rattle.sn_model.specs.FileCalls.{close_outcome, count_argument, file, file_of, open_absent, open_as, open_bytes, open_found, open_outcome, open_there, opens_there, read_outcome, reads}
-use Rattle.sn_model.specs.Machine.{CallStep, EventStep, Memory, Mishap, Read, Running, Space, Age, State, Write}
+use Rattle.sn_model.specs.Machine.{CallStep, EventStep, MayWrite, Memory, Mishap, Read, Running, Space, Age, State, Write, refused}
 use Rattle.sn_model.specs.NameCalls.{is_listable, read, readdir_outcome}
 use Rattle.sn_model.specs.NameTree.{HasKind}
 use Rattle.sn_model.specs.Outcomes.{asks, tells}
@@ -53,7 +54,9 @@ use Rattle.sn_model.proofs.DecisionLemmas.{called, ok, same_ok}
 use Rattle.sn_model.proofs.DroppedLemmas.{dropped_same}
 use Rattle.sn_model.proofs.HeldLemmas.{descriptors_total}
 use Rattle.sn_model.proofs.MapLemmas.{get_inserted}
+use Rattle.sn_export_walk.specs.Faults.{LeadsNowhere, OfCall, OfMemory, OfMount, reason_of, refusal_in}
 use Rattle.sn_export_walk.specs.Serving.{AreFound, HasStatus, InState, IsStepOf, LeadsTo, Reads, ReadsFile, bytes_at, reader, to_read}
+use Rattle.sn_export_walk.proofs.Faults.{IsOwn}
 
 -- ---- a reply that refuses nothing
 
@@ -192,6 +195,46 @@ module _ {Serves : World → Type 0} (trees : Trees) (r : Reads trees Serves) wh
       let said : answer.Status status ≡ answer.Status (status_of (number_of x.0.object) x.0.attributes) = sym is ∙ t.told ∙ ap (λ (o : Outcome). o.told) e in
       let same : status ≡ status_of (number_of x.0.object) x.0.attributes = cc in
       ((x.0, leads_to path d.names d.caller.cred x.0 d.spelled d.is_reader x.1, same), reads_on t.outcome Stays _ t.next e (λ n. refl) refl refl t.comes t.serves)
+
+  -- what a lookup of a path that leads somewhere is decided to tell
+  looked_up : (path : List ℕ) (found : Found) → LeadsTo trees path found → decision limits_written r.world 0 (call.Stat path) ≡ Ok (tells (answer.Status (status_of (number_of found.object) found.attributes)))
+  unfolding stat_outcome
+  looked_up path found leads =
+      let decides : Session → List (List ℕ) → Ready = λ s names limits w. stat_outcome (viewed_trees (trees_of w)) s names in
+      let finds : full (viewed_trees (trees_of r.world)) r.session.cred 1 leads.names ≡ Ok found =
+      ap (λ (t : Trees). full (viewed_trees t) r.session.cred 1 leads.names) r.same ∙ ap (λ (c : Credential). full (viewed_trees trees) c 1 leads.names) r.is_reader ∙ leads.leads in
+      ap (λ (l : Result Session Refusal). (l >>= (λ s. path_argument path >>= (λ names. ok (decides s names)))) >>= outcome_of limits_written r.world) r.seat
+      ∙ ap (λ (p : Result (List (List ℕ)) PathFault). (read_path p >>= (λ names. ok (decides r.session names))) >>= outcome_of limits_written r.world) leads.spelled
+      ∙ ap (λ (x : Result Found Refusal). x >>= (λ (f : Found). ok (tells (answer.Status (status_of (number_of f.object) f.attributes))))) finds
+
+  -- so it is refused for what it asks for only where that leads nowhere
+  pub stat_nowhere : {Next : World → Type 0} (path : List ℕ) (reply : Reply) → IsStepOf r.world 0 (call.Stat path) reply Next → IsOwn (refusal_in reply) → LeadsNowhere trees path
+  stat_nowhere path reply s own = λ found leads. never found leads s.met s.next s.step
+    where
+      of_machine : (errno : Errno) → reply ≡ refused errno → reason_of errno ≡ OfCall
+      of_machine errno told =
+          let same : Some own.refusal ≡ Some (plain errno) = sym own.is ∙ ap refusal_in told in
+          let is : own.refusal ≡ plain errno = cc in
+          ap (λ (x : Refusal). reason_of x.errno) (sym is) ∙ own.reason
+
+      -- it is charged for nothing
+      free : (found : Found) (o : Outcome) → LeadsTo trees path found → decision limits_written r.world 0 (call.Stat path) ≡ Ok o → o.charge ≡ 0
+      free found o leads e = ap (λ (x : Outcome). x.charge) (sym (same_ok _ _ (sym (looked_up path found leads) ∙ e)))
+
+      never : (found : Found) → LeadsTo trees path found → (met : Option Mishap) (next : State) → EventStep limits_written (Running r.world) (event.Call 0 (call.Stat path)) met reply next → ⊥
+      never found leads None next step =
+          let b = subst (λ (d : Result Outcome Refusal). Becomes limits_written r.world 0 d reply step.0) (looked_up path found leads) step.1 in
+          let none : Some own.refusal ≡ None = sym own.is ∙ ap refusal_in b.0 in
+          cc
+      never found leads (Some Write) next step = let e : OfMount ≡ OfCall = of_machine Eio step.stops.told in cc
+      never found leads (Some Memory) next step = let e : OfMemory ≡ OfCall = of_machine Enomem step.1.told in cc
+      never found leads (Some Read) next step = let e : OfMount ≡ OfCall = of_machine Eio step.1.told in cc
+      never found leads (Some Space) next step = omega (arith, step.0.2, free found step.0.0 leads step.0.1)
+      never found leads (Some Age) next step = writes step.0.2
+        where
+          writes : MayWrite (call.Stat path) step.0.0 → ⊥
+          writes (inl charged) = omega (arith, charged, free found step.0.0 leads step.0.1)
+          writes (inr for_point) = let never : false ≡ true = for_point in cc
 
   pub readdir_told : {Next : World → Type 0} (path : List ℕ) (reply : Reply) (names : List (List ℕ)) → IsStepOf r.world 0 (call.Readdir path) reply Next → reply ≡ answer.Names names
       → (found : Found) × LeadsTo trees path found × (names ≡ listed trees found.object) × Reads trees Next

@@ -56,4 +56,15 @@ module _ (trees : Trees) (home : Home) (tree : Tree) (level : Level) (own : List
           tree_is = is.tree_is;
         },
         subst (λ (l : Level). IsLevel trees home tree l (drop (suc level.met) all)) (sym later) more,
+        record {
+          directory = level.paths.image.items;
+          found = is.found;
+          leads = is.leads;
+          number = is.directory;
+          object = is.object;
+          name = name;
+          child = n.0;
+          named = n.1;
+          image_is = image;
+        },
       )

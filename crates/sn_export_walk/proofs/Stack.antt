@@ -30,7 +30,7 @@ module _ (trees : Trees) (home : Home) (tree : Tree) where
   next_found rest level next left paths are found =
       let o = off_top rest level left are in
       let n = found o.0 o.3 in
-      (n.0, n.1 ++ o.1, o.2 ∙ ap (λ (vs : List Visit). vs ++ o.1) n.2, n.3, on_top rest next n.1 o.1 o.4 n.4)
+      (n.0, n.1 ++ o.1, o.2 ∙ ap (λ (vs : List Visit). vs ++ o.1) n.2, n.3, on_top rest next n.1 o.1 o.4 n.4, n.5)
 
   -- or that has none left
   pub none_found : (rest : List Level) (level next : Level) (left : List Visit) → AreLevels trees home tree (rest ++ level ∷ []) left

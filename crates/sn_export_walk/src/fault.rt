@@ -12,6 +12,8 @@ pub enum ExportFault {
     Stopped,
     /// The output failed.
     Output(io::Error),
+    /// What calls answer contradicts itself.
+    Contradiction,
 }
 
 impl From<AllocError> for ExportFault {

@@ -1,12 +1,14 @@
 //! Where a walk is.
-ghost use Rattle.std.specs.Prelude.{◌≡◌, ◌++◌, true, IfOk, List, OnOk};
+ghost use Rattle.std.specs.Prelude.{◌≡◌, ◌++◌, true, IfErr, IfOk, List, OnOk};
 ghost use Rattle.sn_export.specs.Archives.{Visit, below};
 ghost use Rattle.sn_limits.specs.Names.{is_name};
 ghost use Rattle.sn_model.specs.Tree.{Tree};
 ghost use Rattle.sn_model.specs.World.{Trees};
 ghost use Rattle.sn_walk.specs.declared.object.Home.{Home};
+ghost use Rattle.sn_export_walk.specs.Faults.{is_own};
 ghost use Rattle.sn_export_walk.specs.Serving.{AreFound};
 ghost use Rattle.sn_export_walk.specs.Visiting.{IsLevel, IsNextIn, image_below};
+ghost use Rattle.sn_export_walk.specs.declared.fault.ExportFault.TheVariants.{Memory as no_memory};
 
 use crate::fault::ExportFault;
 use sn_host_names::to_host;
@@ -25,7 +27,8 @@ pub struct Paths {
 
 // Bytes, one after the other.
 fn joined(alloc: Global, front: &[u8], middle: &[u8], rest: &[u8]) -> Result<Vec<u8>, ExportFault>
-    ensures { IfOk result (λ bytes. bytes.items ≡ front.now ++ (middle.now ++ rest.now)) }
+    ensures bytes { IfOk result (λ bytes. bytes.items ≡ front.now ++ (middle.now ++ rest.now)) }
+    ensures fault { IfErr result (λ fault. fault ≡ no_memory) }
 {
     let mut bytes = Vec::from_slice(alloc, front)?;
     bytes.extend_from_slice(middle)?;
@@ -35,7 +38,8 @@ fn joined(alloc: Global, front: &[u8], middle: &[u8], rest: &[u8]) -> Result<Vec
 
 // The path of a name in a directory, as calls take it. That of the root ends with its slash.
 fn image_of(alloc: Global, directory: &[u8], name: &[u8]) -> Result<Vec<u8>, ExportFault>
-    ensures { IfOk result (λ image. image.items ≡ image_below directory.now name.now) }
+    ensures image { IfOk result (λ image. image.items ≡ image_below directory.now name.now) }
+    ensures fault { IfErr result (λ fault. fault ≡ no_memory) }
 {
     if directory.len() > 1 {
         joined(alloc, directory, b"/", name)
@@ -47,7 +51,8 @@ fn image_of(alloc: Global, directory: &[u8], name: &[u8]) -> Result<Vec<u8>, Exp
 // The same as the archive tells it.
 fn told_of(alloc: Global, directory: &[u8], name: &[u8]) -> Result<Vec<u8>, ExportFault>
     requires { is_name name.now ≡ true }
-    ensures { IfOk result (λ told. told.items ≡ below directory.now name.now) }
+    ensures told { IfOk result (λ told. told.items ≡ below directory.now name.now) }
+    ensures fault { IfErr result (λ fault. fault ≡ no_memory) }
 {
     joined(alloc, directory, b"/", to_host(name).as_slice())
 }
@@ -58,9 +63,10 @@ impl Paths {
         ensures image { IfOk result (λ paths. paths.image.items ≡ image_below self.now.image.items name.now) }
         ensures told { IfOk result (λ paths. paths.told.items ≡ below self.now.told.items name.now) }
         ensures valid { OnOk result (is_name name.now ≡ true) }
+        ensures fault { IfErr result (λ fault. is_own fault ≡ true) }
     {
         if !is_name(name) {
-            return Err(ExportFault::Stopped);
+            return Err(ExportFault::Contradiction);
         }
         Ok(Paths {
             image: image_of(alloc, self.image.as_slice(), name)?,
@@ -81,8 +87,9 @@ pub struct Level {
 impl Level {
     /// The paths of its next name. `None` where all were met.
     pub fn enter_next(&mut self, alloc: Global) -> Result<Option<Paths>, ExportFault>
-        ensures { (trees : Trees) (home : Home) (tree : Tree) (own : List Visit) → AreFound trees → IsLevel trees home tree self.old own
+        ensures next { (trees : Trees) (home : Home) (tree : Tree) (own : List Visit) → AreFound trees → IsLevel trees home tree self.old own
             → IfOk result (λ next. IsNextIn trees home tree next own self.new) }
+        ensures fault { IfErr result (λ fault. is_own fault ≡ true) }
     {
         let Some(name) = self.names.as_slice().get(self.met) else {
             return Ok(None);

@@ -7,6 +7,9 @@
 //! is told of it, as much content as its head says, filled up to a block, no default ACL but on a directory, and hard links only to files
 //! before them; and zeros at the end. [`export`] writes such a stream, or after an error the front of one.
 //!
+//! An error tells its reason (`specs/Faults`): `Calls` also has a predicate of the reply that it gave last, by which the fault is one of the
+//! path, of memory, or of the device and the mount.
+//!
 //! The way through: `walk` has the loop over names, by `levels`, `visits` writes what lies at a path, `content` the bytes of a file,
 //! `reading` makes the calls, and `output` counts what is written. What a walk knows of the tree is in `specs/Visiting`, and of the stream
 //! in `specs/Walks`.

@@ -1,11 +1,16 @@
 //! The calls that read a tree.
-ghost use Rattle.std.specs.Prelude.{◌≡◌, ◌+◌, ℕ, List, None, IfOk, OnOk, drop, length, take};
+ghost use Rattle.std.specs.Prelude.{◌≡◌, ◌+◌, ℕ, List, Option, None, Some, false, true, IfErr, IfOk, OnOk, drop, length, take};
 ghost use Rattle.sn_limits.specs.Versions.{limits_written};
 ghost use Rattle.sn_model.specs.AccessCalls.{acl_at, default_acl_at};
 ghost use Rattle.sn_model.specs.Seen.{listed};
+ghost use Rattle.sn_model.specs.declared.reply.Reply.{Reply as TheReply};
+ghost use Rattle.sn_model.specs.declared.reply.Reply.TheVariants as reply;
 ghost use Rattle.sn_model.specs.World.{Trees, World, trees_of, viewed_trees};
 ghost use Rattle.sn_model.specs.Worlds.{IsFound};
 ghost use Rattle.sn_walk.specs.declared.walking.Found.{Found};
+ghost use Rattle.sn_export_walk.specs.Faults as faults;
+ghost use Rattle.sn_export_walk.specs.Faults.{Goes, LeadsNowhere, Tells, is_of_path};
+ghost use Rattle.sn_export_walk.specs.declared.fault.ExportFault.TheVariants.{Contradiction, Path};
 ghost use Rattle.sn_export_walk.specs.Serving.{HasStatus, IsStepOf, LeadsTo, Reads, ReadsFile, bytes_at};
 
 use crate::fault::ExportFault;
@@ -22,9 +27,13 @@ pub trait Calls {
     /// Whether it is a machine that runs over a world. One of which that isn't known is over none.
     ghost serves: { Self → World → Type 0 };
 
+    /// Whether this is the reply that it gave last, `None` before the first. Of one of which that isn't known nothing is.
+    ghost last: { Self → Option TheReply → Type 0 } = { λ _ _. ⊥ };
+
     /// The reply to a call of a session: that of a step of the machine.
     fn call(&mut self, session: u32, call: &Call) -> Reply
-        ensures { (world : World) → serves self.old world → IsStepOf world session call.now result (serves self.new) };
+        ensures step { (world : World) → serves self.old world → IsStepOf world session call.now result (serves self.new) }
+        ensures last { (before : Option TheReply) → last self.old before → last self.new (Some result) };
 }
 
 // The session of the walk.
@@ -40,20 +49,39 @@ const TO_READ: OpenFlags = OpenFlags {
     truncate: false,
 };
 
-fn fault_of(reply: &Reply) -> ExportFault {
-    match reply {
-        Reply::Refused(refusal) => match refusal.errno {
-            Errno::Enomem => ExportFault::Memory,
-            Errno::Eio | Errno::Estopped => ExportFault::Stopped,
-            _ => ExportFault::Path,
-        },
-        _ => ExportFault::Stopped,
+// The fault of a refusal, which is this one where the reason is the call's own.
+fn fault_for(errno: Errno, own: ExportFault) -> ExportFault
+    ensures { result ≡ faults.fault_for (faults.reason_of errno) own }
+{
+    match errno {
+        Errno::Enomem => ExportFault::Memory,
+        Errno::Eio | Errno::Estopped => ExportFault::Stopped,
+        _ => own,
     }
+}
+
+// The fault of a reply that isn't the one asked for.
+fn fault_by(reply: &Reply, own: ExportFault) -> ExportFault
+    ensures { result ≡ faults.fault_by own (faults.refusal_in reply.now) }
+{
+    match reply {
+        Reply::Refused(refusal) => fault_for(refusal.errno, own),
+        _ => ExportFault::Contradiction,
+    }
+}
+
+// The same of a call of what was found before, which has no reason of its own to be refused.
+fn fault_of(reply: &Reply) -> ExportFault
+    ensures { result ≡ faults.fault_by Contradiction (faults.refusal_in reply.now) }
+{
+    fault_by(reply, ExportFault::Contradiction)
 }
 
 /// Opens the session, as user 0.
 pub(crate) fn log_in<C: Calls>(alloc: Global, calls: &mut C) -> Result<(), ExportFault>
-    ensures { (world : World) → C.serves calls.old world → IsFound limits_written world → OnOk result (Reads (trees_of world) (C.serves calls.new)) }
+    ensures session { (world : World) → C.serves calls.old world → IsFound limits_written world → OnOk result (Reads (trees_of world) (C.serves calls.new)) }
+    ensures told { Goes (C.last calls.old) → Tells (C.last calls.new) result }
+    ensures path { IfErr result (λ fault. is_of_path fault ≡ false) }
 {
     let groups = Groups::new(alloc, &[])?;
     let login = Call::Login {
@@ -73,14 +101,17 @@ pub(crate) fn status_of<C: Calls>(
     calls: &mut C,
     path: &[u8],
 ) -> Result<FileStatus, ExportFault>
-    ensures { (trees : Trees) → Reads trees (C.serves calls.old) → IfOk result (λ status. HasStatus trees path.now status × Reads trees (C.serves calls.new)) }
+    ensures status { (trees : Trees) → Reads trees (C.serves calls.old) → IfOk result (λ status. HasStatus trees path.now status × Reads trees (C.serves calls.new)) }
+    ensures told { Goes (C.last calls.old) → Tells (C.last calls.new) result }
+    ensures nowhere { (trees : Trees) → Reads trees (C.serves calls.old) → IfErr result (λ fault. fault ≡ Path → LeadsNowhere trees path.now) }
+    ensures last { Goes (C.last calls.old) → IfOk result (λ status. C.last calls.new (Some (reply.Status status))) }
 {
     let stat = Call::Stat {
         path: Word::new(alloc, path)?,
     };
     match calls.call(SESSION, &stat) {
         Reply::Status(status) => Ok(status),
-        reply => Err(fault_of(&reply)),
+        reply => Err(fault_by(&reply, ExportFault::Path)),
     }
 }
 
@@ -90,8 +121,10 @@ pub(crate) fn names_of<C: Calls>(
     calls: &mut C,
     path: &[u8],
 ) -> Result<Names, ExportFault>
-    ensures { (trees : Trees) → Reads trees (C.serves calls.old)
+    ensures names { (trees : Trees) → Reads trees (C.serves calls.old)
         → IfOk result (λ names. (found : Found) × LeadsTo trees path.now found × (names ≡ listed trees found.object) × Reads trees (C.serves calls.new)) }
+    ensures told { Goes (C.last calls.old) → Tells (C.last calls.new) result }
+    ensures path { IfErr result (λ fault. is_of_path fault ≡ false) }
 {
     let readdir = Call::Readdir {
         path: Word::new(alloc, path)?,
@@ -108,8 +141,10 @@ fn acl_of<C: Calls>(
     path: &[u8],
     kind: AclKind,
 ) -> Result<Option<StoredAcl>, ExportFault>
-    ensures { (trees : Trees) → Reads trees (C.serves calls.old)
+    ensures acl { (trees : Trees) → Reads trees (C.serves calls.old)
         → IfOk result (λ acl. (found : Found) × LeadsTo trees path.now found × (acl ≡ acl_at (viewed_trees trees) kind found) × Reads trees (C.serves calls.new)) }
+    ensures told { Goes (C.last calls.old) → Tells (C.last calls.new) result }
+    ensures path { IfErr result (λ fault. is_of_path fault ≡ false) }
 {
     let getacl = Call::GetAcl {
         path: Word::new(alloc, path)?,
@@ -122,12 +157,14 @@ fn acl_of<C: Calls>(
 }
 
 fn access_acl<C: Calls>(alloc: Global, calls: &mut C, path: &[u8]) -> Result<StoredAcl, ExportFault>
-    ensures { (trees : Trees) → Reads trees (C.serves calls.old)
+    ensures acl { (trees : Trees) → Reads trees (C.serves calls.old)
         → IfOk result (λ acl. (found : Found) × LeadsTo trees path.now found × (acl ≡ found.attributes.acl) × Reads trees (C.serves calls.new)) }
+    ensures told { Goes (C.last calls.old) → Tells (C.last calls.new) result }
+    ensures path { IfErr result (λ fault. is_of_path fault ≡ false) }
 {
     match acl_of(alloc, calls, path, AclKind::Access)? {
         Some(acl) => Ok(acl),
-        None => Err(ExportFault::Stopped),
+        None => Err(ExportFault::Contradiction),
     }
 }
 
@@ -140,6 +177,8 @@ pub(crate) fn file_acls<C: Calls>(
     ensures plain { IfOk result (λ acls. acls.default ≡ None) }
     ensures access { (trees : Trees) → Reads trees (C.serves calls.old)
         → IfOk result (λ acls. (found : Found) × LeadsTo trees path.now found × (acls.access ≡ found.attributes.acl) × Reads trees (C.serves calls.new)) }
+    ensures told { Goes (C.last calls.old) → Tells (C.last calls.new) result }
+    ensures path { IfErr result (λ fault. is_of_path fault ≡ false) }
 {
     let access = access_acl(alloc, calls, path)?;
     Ok(Acls {
@@ -154,8 +193,10 @@ fn default_acl<C: Calls>(
     calls: &mut C,
     path: &[u8],
 ) -> Result<Option<Acl>, ExportFault>
-    ensures { (trees : Trees) → Reads trees (C.serves calls.old)
+    ensures acl { (trees : Trees) → Reads trees (C.serves calls.old)
         → IfOk result (λ acl. (found : Found) × LeadsTo trees path.now found × (acl ≡ default_acl_at (viewed_trees trees) found.object) × Reads trees (C.serves calls.new)) }
+    ensures told { Goes (C.last calls.old) → Tells (C.last calls.new) result }
+    ensures path { IfErr result (λ fault. is_of_path fault ≡ false) }
 {
     match acl_of(alloc, calls, path, AclKind::Default)? {
         Some(acl) => Ok(Some(acl.to_acl())),
@@ -169,9 +210,11 @@ pub(crate) fn directory_acls<C: Calls>(
     calls: &mut C,
     path: &[u8],
 ) -> Result<Acls, ExportFault>
-    ensures { (trees : Trees) → Reads trees (C.serves calls.old)
+    ensures acls { (trees : Trees) → Reads trees (C.serves calls.old)
         → IfOk result (λ acls. (found : Found) × LeadsTo trees path.now found × (acls.access ≡ found.attributes.acl) × (acls.default ≡ default_acl_at (viewed_trees trees) found.object)
         × Reads trees (C.serves calls.new)) }
+    ensures told { Goes (C.last calls.old) → Tells (C.last calls.new) result }
+    ensures path { IfErr result (λ fault. is_of_path fault ≡ false) }
 {
     let access = access_acl(alloc, calls, path)?;
     let default = default_acl(alloc, calls, path)?;
@@ -183,8 +226,10 @@ pub(crate) fn directory_acls<C: Calls>(
 
 /// Opens a file, and gives its descriptor.
 pub(crate) fn open<C: Calls>(alloc: Global, calls: &mut C, path: &[u8]) -> Result<u32, ExportFault>
-    ensures { (trees : Trees) → Reads trees (C.serves calls.old)
+    ensures file { (trees : Trees) → Reads trees (C.serves calls.old)
         → IfOk result (λ fd. (found : Found) × LeadsTo trees path.now found × ReadsFile trees fd (bytes_at trees found.object) 0 (C.serves calls.new)) }
+    ensures told { Goes (C.last calls.old) → Tells (C.last calls.new) result }
+    ensures path { IfErr result (λ fault. is_of_path fault ≡ false) }
 {
     let open = Call::Open {
         path: Word::new(alloc, path)?,
@@ -194,7 +239,7 @@ pub(crate) fn open<C: Calls>(alloc: Global, calls: &mut C, path: &[u8]) -> Resul
     match calls.call(SESSION, &open) {
         Reply::Number(fd) => match u32::try_from(fd) {
             Ok(fd) => Ok(fd),
-            Err(_) => Err(ExportFault::Stopped),
+            Err(_) => Err(ExportFault::Contradiction),
         },
         reply => Err(fault_of(&reply)),
     }
@@ -202,8 +247,10 @@ pub(crate) fn open<C: Calls>(alloc: Global, calls: &mut C, path: &[u8]) -> Resul
 
 /// The next bytes of a file.
 pub(crate) fn read<C: Calls>(calls: &mut C, fd: u32, count: u64) -> Result<FileData, ExportFault>
-    ensures { (trees : Trees) (content : List ℕ) (offset : ℕ) → ReadsFile trees fd content offset (C.serves calls.old)
+    ensures bytes { (trees : Trees) (content : List ℕ) (offset : ℕ) → ReadsFile trees fd content offset (C.serves calls.old)
         → IfOk result (λ bytes. (bytes ≡ take count (drop offset content)) × ReadsFile trees fd content (offset + length bytes) (C.serves calls.new)) }
+    ensures told { Goes (C.last calls.old) → Tells (C.last calls.new) result }
+    ensures path { IfErr result (λ fault. is_of_path fault ≡ false) }
 {
     match calls.call(SESSION, &Call::Read { fd, count }) {
         Reply::Content(bytes) => Ok(bytes),
@@ -213,7 +260,9 @@ pub(crate) fn read<C: Calls>(calls: &mut C, fd: u32, count: u64) -> Result<FileD
 
 /// Closes a file.
 pub(crate) fn close<C: Calls>(calls: &mut C, fd: u32) -> Result<(), ExportFault>
-    ensures { (trees : Trees) → Reads trees (C.serves calls.old) → OnOk result (Reads trees (C.serves calls.new)) }
+    ensures closed { (trees : Trees) → Reads trees (C.serves calls.old) → OnOk result (Reads trees (C.serves calls.new)) }
+    ensures told { Goes (C.last calls.old) → Tells (C.last calls.new) result }
+    ensures path { IfErr result (λ fault. is_of_path fault ≡ false) }
 {
     match calls.call(SESSION, &Call::Close { fd }) {
         Reply::Done => Ok(()),

@@ -54,12 +54,13 @@ IsUnread given = IsOfFile given ⊎ (given ≡ fault.Script reading.Memory)
 abbrev pub IsOfScript : ProgramFault → Type 0
 IsOfScript given = (n : ℕ) × (given ≡ fault.Script (reading.Line n))
 
--- why a tree isn't written: there was no mount, nothing lies at the path, the output failed, memory was refused, or the mount stopped
+-- why a tree isn't written: there was no mount, nothing lies at the path, the output failed, memory was refused, or the mount stopped, as an answer that contradicts others also says
 abbrev pub IsOfExport : ImageFault → ProgramFault → Type 0
 IsOfExport (image.Mount m) given = given ≡ fault.Mount m
 IsOfExport (image.Export export.Path) given = given ≡ fault.Path
 IsOfExport (image.Export export.Memory) given = given ≡ fault.Memory
 IsOfExport (image.Export export.Stopped) given = given ≡ fault.Stopped
+IsOfExport (image.Export export.Contradiction) given = given ≡ fault.Stopped
 IsOfExport (image.Export (export.Output error)) given = IsOfFile given
 
 -- why an archive isn't imported

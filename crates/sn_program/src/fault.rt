@@ -139,7 +139,8 @@ impl From<ImageFault> for ProgramFault {
             ImageFault::Mount(fault) => ProgramFault::Mount(fault),
             ImageFault::Export(ExportFault::Path) => ProgramFault::Path,
             ImageFault::Export(ExportFault::Memory) => ProgramFault::Memory,
-            ImageFault::Export(ExportFault::Stopped) => ProgramFault::Stopped,
+            ImageFault::Export(ExportFault::Stopped | ExportFault::Contradiction) =>
+                ProgramFault::Stopped,
             ImageFault::Export(ExportFault::Output(error)) => {
                 ProgramFault::of_file(Which::Output, error)
             }

@@ -40,6 +40,7 @@ fn name_of(fault: ExportFault) -> &'static str {
         ExportFault::Path => "path",
         ExportFault::Memory => "memory",
         ExportFault::Stopped => "stopped",
+        ExportFault::Contradiction => "contradiction",
         ExportFault::Output(_) => "file",
     }
 }

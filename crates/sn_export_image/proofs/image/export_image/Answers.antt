@@ -1,14 +1,17 @@
-use Rattle.std.proofs.Common.{sym, subst}
-use Rattle.std.specs.Prelude.{OnOk, Result}
+use Rattle.std.proofs.Common.{◌≡◌, sym, subst}
+use Rattle.std.specs.Prelude.{IfErr, OnOk, Result}
 use Rattle.sn_device.specs.Disk.{reads}
 use Rattle.sn_model.specs.World.{trees_of}
 use Rattle.sn_serving.specs.Served.{Served}
+use Rattle.sn_export_walk.specs.Faults.{IsUntold}
+use Rattle.sn_export_walk.specs.declared.fault.ExportFault.TheVariants as export
 use Rattle.sn_export_walk.specs.Serving.{Reads, WritesArchive}
 use Rattle.sn_export_walk.proofs.Archived as archived
 use Rattle.sn_export_walk.proofs.Ends.{begins_nothing}
 use Rattle.sn_export_image.specs.Worlds.{HasTreesOf, RunsOver}
 use Rattle.sn_export_image.specs.declared.fault.ImageFault.{ImageFault}
-use Rattle.sn_export_image.proofs.ServingLemmas.{keeps_trees, on_written}
+use Rattle.sn_export_image.specs.declared.fault.ImageFault.TheVariants as fault
+use Rattle.sn_export_image.proofs.ServingLemmas.{keeps_trees, on_written, untold}
 use Rattle.sn_export_image.proofs.image.export_image.Goals as goal
 
 pub returns-in-Err-clause-front : goal.returns-in-Err-clause-front
@@ -35,3 +38,12 @@ returns-clause-kept g c = λ told world image.
     (keeps_trees g.D.Device.tells_bytes c.finish-end.result.0 c.write_tree-written.result c.exporting.inside.serving (reads (g.D.Device.disk c.args.device)) world _ image
     (subst (λ (s : Served). OnOk c.write_tree-written.result (Reads (trees_of world) (RunsOver g.D.Device.tells_bytes s))) (sym c.exporting.view_is) (c.write_tree-written.ensures.kept world (told, m.is_in) m.found))
     (c.finish-end.ensures.ended told)))
+
+pub returns-in-Err-clause-path : goal.returns-in-Err-clause-path
+returns-in-Err-clause-path g c = λ told world image e. (let never : fault.Mount _ ≡ fault.Export export.Path = e in cc)
+
+pub returns-clause-path : goal.returns-clause-path
+returns-clause-path g c = λ told world image.
+    (let m = c.in-Ok.ensures.mounted told world image in
+    subst (λ (r : Result (Unit {0}) ImageFault). IfErr r (λ why. why ≡ fault.Export export.Path → IsUntold (trees_of world) c.args.path.now)) (sym c.of_end.ensures)
+    (untold _ c.finish-end.result.0 c.write_tree-written.result (c.write_tree-written.ensures.path world (told, m.is_in) m.found)))

@@ -1,4 +1,6 @@
 use Rattle.sn_output.proofs.OutputLemmas.{front_kept}
+use Rattle.std.proofs.Common.{refl}
+use Rattle.sn_export_walk.proofs.Faults.{err_tells, error_as, never_path}
 use Rattle.sn_export_image.proofs.StreamLemmas.{begins_kept}
 use Rattle.sn_export_image.proofs.image.write_tree.Goals as goal
 
@@ -13,3 +15,18 @@ returns-in-Err-clause-front g c = begins_kept _ _ _ c.export.ensures.front c.flu
 
 pub returns-in-Err-clause-begun : goal.returns-in-Err-clause-begun
 returns-in-Err-clause-begun g c = λ world serves found bytes is. front_kept _ _ _ _ (c.export.ensures.begun world serves found bytes is) c.flush.ensures.bytes
+
+pub returns-in_err-export-clause-told : goal.returns-in_err-export-clause-told
+returns-in_err-export-clause-told g c = λ goes. err_tells _ _ c.from_residual.result c.from_residual.ensures.1 (c.in_err-export.ensures.told goes)
+
+pub returns-in_err-export-clause-path : goal.returns-in_err-export-clause-path
+returns-in_err-export-clause-path g c = λ world serves found. error_as _ _ c.from_residual.result c.from_residual.ensures.1 (c.in_err-export.ensures.path world serves found)
+
+pub returns-in-Ok-clause-told : goal.returns-in-Ok-clause-told
+returns-in-Ok-clause-told g c = λ goes. c.in_ok-export.ensures.told goes
+
+pub returns-in-Err-clause-told : goal.returns-in-Err-clause-told
+returns-in-Err-clause-told g c = λ goes. c.in_ok-export.ensures.told goes
+
+pub returns-in-Err-clause-path : goal.returns-in-Err-clause-path
+returns-in-Err-clause-path g c = λ world serves found. never_path _ refl

@@ -1,4 +1,6 @@
-use Rattle.std.proofs.Common.{arith, Bool, Global, List, Vec, ℕ, true, ◌++◌, ◌≡◌, ◌∙◌, subst, sym, ap}
+use Rattle.sn_export_walk.specs.Faults.{LeadsNowhere}
+use Rattle.sn_export_walk.proofs.Faults.{err_tells, error_as, own_told, own_no_path, as_own, all_never, never_path}
+use Rattle.std.proofs.Common.{arith, Bool, Global, List, Vec, ℕ, true, ◌++◌, ◌≡◌, ◌∙◌, subst, sym, ap, refl}
 use Rattle.std.specs.Prelude.{drop, length, slice_get, slice_set}
 use Rattle.std.proofs.lemmas.List.{length-set, take_at}
 use Rattle.std.proofs.lemmas.Result.{on_ok_weaker}
@@ -29,7 +31,7 @@ returns-in_err-was_met-clause-begun g c = λ trees home tree seen visit r here k
 
 pub returns-in-Directory-clause-visited : goal.returns-in-Directory-clause-visited
 returns-in-Directory-clause-visited g c = λ trees home tree seen pending visit r here levels keeps.
-    (let s = c.in_ok-status.ensures trees r in
+    (let s = c.in_ok-status.ensures.status trees r in
     let a = is_at trees home tree c.args.paths visit c.in_ok-status.status here (subst (λ (p : List ℕ). HasStatus trees p c.in_ok-status.status) c.as_slice.ensures.value s.0) in
     let at : Place = record { home = home; tree = tree; visit = visit; found = a.0; node = a.1 } in
     let of : c.in_ok-status.status.kind ≡ Directory = search in
@@ -47,7 +49,7 @@ returns-in-Directory-clause-visited g c = λ trees home tree seen pending visit 
 
 pub returns-in-Directory-clause-begun : goal.returns-in-Directory-clause-begun
 returns-in-Directory-clause-begun g c = λ trees home tree seen visit r here keeps.
-    (let s = c.in_ok-status.ensures trees r in
+    (let s = c.in_ok-status.ensures.status trees r in
     let a = is_at trees home tree c.args.paths visit c.in_ok-status.status here (subst (λ (p : List ℕ). HasStatus trees p c.in_ok-status.status) c.as_slice.ensures.value s.0) in
     let at : Place = record { home = home; tree = tree; visit = visit; found = a.0; node = a.1 } in
     let of : c.in_ok-status.status.kind ≡ Directory = search in
@@ -59,7 +61,7 @@ returns-in_err-acls-in-File-clause-begun g c = λ trees home tree seen visit r h
 
 pub returns-in_ok-acls-in-File-clause-visited : goal.returns-in_ok-acls-in-File-clause-visited
 returns-in_ok-acls-in-File-clause-visited g c = λ trees home tree seen pending visit r here levels keeps.
-    (let s = c.in_ok-status.ensures trees r in
+    (let s = c.in_ok-status.ensures.status trees r in
     let a = is_at trees home tree c.args.paths visit c.in_ok-status.status here (subst (λ (p : List ℕ). HasStatus trees p c.in_ok-status.status) c.as_slice.ensures.value s.0) in
     let at : Place = record { home = home; tree = tree; visit = visit; found = a.0; node = a.1 } in
     let of : c.in_ok-status.status.kind ≡ File = search in
@@ -82,7 +84,7 @@ returns-in_ok-acls-in-File-clause-visited g c = λ trees home tree seen pending 
 
 pub returns-in_ok-acls-in-File-clause-begun : goal.returns-in_ok-acls-in-File-clause-begun
 returns-in_ok-acls-in-File-clause-begun g c = λ trees home tree seen visit r here keeps.
-    (let s = c.in_ok-status.ensures trees r in
+    (let s = c.in_ok-status.ensures.status trees r in
     let a = is_at trees home tree c.args.paths visit c.in_ok-status.status here (subst (λ (p : List ℕ). HasStatus trees p c.in_ok-status.status) c.as_slice.ensures.value s.0) in
     let at : Place = record { home = home; tree = tree; visit = visit; found = a.0; node = a.1 } in
     let of : c.in_ok-status.status.kind ≡ File = search in
@@ -96,3 +98,33 @@ returns-in_ok-acls-in-File-clause-begun g c = λ trees home tree seen visit r he
     let seen_before = keeps.met c.in_ok-status.status.number c.in_ok-was_met.was_met (ap (λ (m : List Bool). slice_get m c.in_ok-status.status.number) (sym c.as_mut_slice.ensures.value) ∙ c.in_ok-was_met.ensures.was) in
     let fresh : IsSeen c.in_ok-was_met.was_met visit.number seen = subst (λ (n : ℕ). IsSeen c.in_ok-was_met.was_met n seen) (sym number) seen_before in
     begun_at tree seen visit a.1 _ _ a.2.node_is (c.put_name.ensures.begun trees at seen placed kind access k.3 fresh keeps.first))
+
+pub returns-in_err-status-clause-told : goal.returns-in_err-status-clause-told
+returns-in_err-status-clause-told g c = λ goes. err_tells _ _ c.from_residual.result c.from_residual.ensures.1 (c.in_err-status.ensures.told goes)
+
+pub returns-in_err-was_met-clause-told : goal.returns-in_err-was_met-clause-told
+returns-in_err-was_met-clause-told g c = λ goes. err_tells _ _ c.from_residual-in_err-was_met.result c.from_residual-in_err-was_met.ensures.1 (own_told _ _ (as_own _ _ c.in_err-was_met.ensures.fault refl) (c.in_ok-status.ensures.told goes))
+
+pub returns-in-Directory-clause-told : goal.returns-in-Directory-clause-told
+returns-in-Directory-clause-told g c = λ goes. c.visit_directory.ensures.told (c.in_ok-status.ensures.told goes)
+
+pub returns-in_err-acls-in-File-clause-told : goal.returns-in_err-acls-in-File-clause-told
+returns-in_err-acls-in-File-clause-told g c = λ goes. err_tells _ _ c.from_residual-in_err-acls-in-File.result c.from_residual-in_err-acls-in-File.ensures.1 (c.in_err-acls-in-File.ensures.told (c.in_ok-status.ensures.told goes))
+
+pub returns-in_ok-acls-in-File-clause-told : goal.returns-in_ok-acls-in-File-clause-told
+returns-in_ok-acls-in-File-clause-told g c = λ goes. c.put_name.ensures.told (c.in_ok-acls-in-File.ensures.told (c.in_ok-status.ensures.told goes))
+
+pub returns-in_err-status-clause-nowhere : goal.returns-in_err-status-clause-nowhere
+returns-in_err-status-clause-nowhere g c = λ trees r. error_as _ _ c.from_residual.result c.from_residual.ensures.1 (λ e. subst (λ (p : List ℕ). LeadsNowhere trees p) c.as_slice.ensures.value (c.in_err-status.ensures.nowhere trees r e))
+
+pub returns-in_err-was_met-clause-nowhere : goal.returns-in_err-was_met-clause-nowhere
+returns-in_err-was_met-clause-nowhere g c = λ trees r. error_as _ _ c.from_residual-in_err-was_met.result c.from_residual-in_err-was_met.ensures.1 (never_path _ (own_no_path _ (as_own _ _ c.in_err-was_met.ensures.fault refl)))
+
+pub returns-in_err-acls-in-File-clause-nowhere : goal.returns-in_err-acls-in-File-clause-nowhere
+returns-in_err-acls-in-File-clause-nowhere g c = λ trees r. error_as _ _ c.from_residual-in_err-acls-in-File.result c.from_residual-in_err-acls-in-File.ensures.1 (never_path _ c.in_err-acls-in-File.ensures.path)
+
+pub returns-in-Directory-clause-nowhere : goal.returns-in-Directory-clause-nowhere
+returns-in-Directory-clause-nowhere g c = λ trees r. all_never _ c.visit_directory.result c.visit_directory.ensures.path
+
+pub returns-in_ok-acls-in-File-clause-nowhere : goal.returns-in_ok-acls-in-File-clause-nowhere
+returns-in_ok-acls-in-File-clause-nowhere g c = λ trees r. all_never _ c.put_name.result c.put_name.ensures.path

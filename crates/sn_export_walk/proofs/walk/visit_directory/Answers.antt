@@ -1,4 +1,5 @@
-use Rattle.std.proofs.Common.{◌∙◌, ◌++◌, ◌∷◌, List, ℕ, [], ap, inl, refl, subst, sym}
+use Rattle.sn_export_walk.proofs.Faults.{err_tells, error_as, own_told, own_no_path, as_own, tells_own, all_no_path}
+use Rattle.std.proofs.Common.{◌∙◌, ◌++◌, ◌∷◌, List, ℕ, [], ap, inl, refl, subst, sym, inr}
 use Rattle.std.proofs.lemmas.Result.{on_ok_weaker}
 use Rattle.sn_tar.specs.declared.kind.Kind.TheVariants as kinds
 use Rattle.sn_export.specs.Archives.{visits_in}
@@ -40,11 +41,11 @@ returns-clause-written g c = λ seen text known. one_known c.put_directory.resul
 
 pub returns-clause-visited : goal.returns-clause-visited
 returns-clause-visited g c = λ trees at is kind r pending levels.
-    (let a = c.in_ok-acls.ensures trees r in
-    let n = c.in_ok-names.ensures trees a.4 in
+    (let a = c.in_ok-acls.ensures.acls trees r in
+    let n = c.in_ok-names.ensures.names trees a.4 in
     let level : Level = record { paths = c.args.paths; names = c.in_ok-names.names; met = 0 } in
     let top = on_top trees at.home at.tree c.args.levels.now.items level _ pending levels (level_is trees at c.args.status.now level n.0 is (subst (λ (p : List ℕ). LeadsTo trees p n.0) c.as_slice-image.ensures.value n.1) n.2 refl) in
-    let path = c.as_slice-2.ensures.value ∙ c.in_ok-told.ensures ∙ ap (λ (p : List ℕ). p ++ 47 ∷ []) c.as_slice.ensures.value in
+    let path = c.as_slice-2.ensures.value ∙ c.in_ok-told.ensures.told ∙ ap (λ (p : List ℕ). p ++ 47 ∷ []) c.as_slice.ensures.value in
     on_ok_weaker c.put_directory.result (λ w. (
       directory_written trees at c.args.paths.image.items c.args.paths.told.items c.args.status.now c.in_ok-acls.acls is a.0 (subst (λ (p : List ℕ). LeadsTo trees p a.0) c.as_slice-image.ensures.value a.1) a.2 a.3 _ _ _ _
           (subst (λ (p : List ℕ). WritesHeads (entry_told kinds.Directory p [] 0 c.args.status.now) c.in_ok-acls.acls c.args.written.now.past c.put_directory.new.past (g.W.Write.contents c.args.out.now) (g.W.Write.contents c.put_directory.new.out)) path w),
@@ -54,6 +55,36 @@ returns-clause-visited g c = λ trees at is kind r pending levels.
 
 pub returns-clause-begun : goal.returns-clause-begun
 returns-clause-begun g c = λ trees at is kind r.
-    (let a = c.in_ok-acls.ensures trees r in
+    (let a = c.in_ok-acls.ensures.acls trees r in
     directory_begun trees at c.args.paths.image.items c.args.paths.told.items c.args.status.now c.in_ok-acls.acls is a.0 (subst (λ (p : List ℕ). LeadsTo trees p a.0) c.as_slice-image.ensures.value a.1) a.2 a.3 _ _
-    (subst (λ (p : List ℕ). BeginsHeads (entry_told kinds.Directory p [] 0 c.args.status.now) c.in_ok-acls.acls (g.W.Write.contents c.args.out.now) (g.W.Write.contents c.put_directory.new.out)) (c.as_slice-2.ensures.value ∙ c.in_ok-told.ensures ∙ ap (λ (p : List ℕ). p ++ 47 ∷ []) c.as_slice.ensures.value) c.put_directory.ensures.begun))
+    (subst (λ (p : List ℕ). BeginsHeads (entry_told kinds.Directory p [] 0 c.args.status.now) c.in_ok-acls.acls (g.W.Write.contents c.args.out.now) (g.W.Write.contents c.put_directory.new.out)) (c.as_slice-2.ensures.value ∙ c.in_ok-told.ensures.told ∙ ap (λ (p : List ℕ). p ++ 47 ∷ []) c.as_slice.ensures.value) c.put_directory.ensures.begun))
+
+pub returns-in_err-acls-clause-told : goal.returns-in_err-acls-clause-told
+returns-in_err-acls-clause-told g c = λ goes. err_tells _ _ c.from_residual.result c.from_residual.ensures.1 (c.in_err-acls.ensures.told goes)
+
+pub returns-in_err-acls-clause-path : goal.returns-in_err-acls-clause-path
+returns-in_err-acls-clause-path g c = error_as _ _ c.from_residual.result c.from_residual.ensures.1 c.in_err-acls.ensures.path
+
+pub returns-in_err-names-clause-told : goal.returns-in_err-names-clause-told
+returns-in_err-names-clause-told g c = λ goes. err_tells _ _ c.from_residual-in_err-names.result c.from_residual-in_err-names.ensures.1 (c.in_err-names.ensures.told (c.in_ok-acls.ensures.told goes))
+
+pub returns-in_err-names-clause-path : goal.returns-in_err-names-clause-path
+returns-in_err-names-clause-path g c = error_as _ _ c.from_residual-in_err-names.result c.from_residual-in_err-names.ensures.1 c.in_err-names.ensures.path
+
+pub returns-in_err-told-clause-told : goal.returns-in_err-told-clause-told
+returns-in_err-told-clause-told g c = λ goes. err_tells _ _ c.from_residual-in_err-told.result c.from_residual-in_err-told.ensures.1 (own_told _ _ (as_own _ _ c.in_err-told.ensures.fault refl) (c.in_ok-names.ensures.told (c.in_ok-acls.ensures.told goes)))
+
+pub returns-in_err-told-clause-path : goal.returns-in_err-told-clause-path
+returns-in_err-told-clause-path g c = error_as _ _ c.from_residual-in_err-told.result c.from_residual-in_err-told.ensures.1 (own_no_path _ (as_own _ _ c.in_err-told.ensures.fault refl))
+
+pub returns-in_err-push-clause-told : goal.returns-in_err-push-clause-told
+returns-in_err-push-clause-told g c = λ goes. err_tells _ _ c.from_residual-in_err-push.result c.from_residual-in_err-push.ensures.1 (inr (c.in_ok-names.ensures.told (c.in_ok-acls.ensures.told goes)))
+
+pub returns-in_err-push-clause-path : goal.returns-in_err-push-clause-path
+returns-in_err-push-clause-path g c = error_as _ _ c.from_residual-in_err-push.result c.from_residual-in_err-push.ensures.1 refl
+
+pub returns-clause-told : goal.returns-clause-told
+returns-clause-told g c = λ goes. tells_own _ c.put_directory.result c.put_directory.ensures.fault (c.in_ok-names.ensures.told (c.in_ok-acls.ensures.told goes))
+
+pub returns-clause-path : goal.returns-clause-path
+returns-clause-path g c = all_no_path c.put_directory.result c.put_directory.ensures.fault

@@ -3,6 +3,7 @@ use Rattle.sn_export.specs.Archives.{Visit}
 use Rattle.sn_model.specs.Tree.{Tree}
 use Rattle.sn_model.specs.World.{Trees}
 use Rattle.sn_walk.specs.declared.object.Home.{Home}
+use Rattle.sn_export_walk.specs.Faults.{Goes}
 use Rattle.sn_export_walk.specs.Serving.{Reads}
 use Rattle.sn_export_walk.specs.Visiting.{AreLevels, IsHere, Keeps}
 use Rattle.sn_export_walk.specs.Walks.{Writes}
@@ -15,3 +16,4 @@ invariant-loop-turn g l = Writes l.written.first.items l.written.past [] [] (g.W
     × ((trees : Trees) (home : Home) (tree : Tree) (first : Visit) → Reads trees (g.C.Calls.serves l.fn.calls) → IsHere trees home tree l.fn.paths first
     → (seen : List Visit) × (left : List Visit) × HasVisited tree first seen left l.written.past (g.W.Write.contents l.fn.out) (g.W.Write.contents l.out)
     × AreLevels trees home tree l.levels.items left × Keeps l.written seen × Reads trees (g.C.Calls.serves l.calls))
+    × (Goes (g.C.Calls.last l.fn.calls) → Goes (g.C.Calls.last l.calls))

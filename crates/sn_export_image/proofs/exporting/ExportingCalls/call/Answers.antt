@@ -4,5 +4,8 @@ use Rattle.sn_export_image.specs.Worlds.{RunsOver}
 use Rattle.sn_export_image.proofs.ServingLemmas.{steps}
 use Rattle.sn_export_image.proofs.exporting.ExportingCalls.call.Goals as goal
 
-pub returns : goal.returns
-returns g c = λ world over. steps _ c.args.session c.args.call.now c.call.result _ _ c.call.ensures world (subst (λ (s : Served). RunsOver g.D.Device.tells_bytes s world) (sym c.self.view_is) over)
+pub returns-clause-step : goal.returns-clause-step
+returns-clause-step g c = λ world over. steps _ c.args.session c.args.call.now c.call.result _ _ c.call.ensures world (subst (λ (s : Served). RunsOver g.D.Device.tells_bytes s world) (sym c.self.view_is) over)
+
+pub returns-clause-last : goal.returns-clause-last
+returns-clause-last g c = λ before never. absurd never
