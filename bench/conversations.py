@@ -1,7 +1,7 @@
 #!/usr/bin/env python3
 """Draws conversations of the system with the server of a mount, and answers them by a plain reading of the messages.
 
-    bench/conversations.py                    writes drawn.txt and drawn_failing.txt in crates/sn_tests_serving/data/conversations
+    bench/conversations.py                    writes drawn.txt, drawn_kernel.txt and drawn_failing.txt in crates/sn_tests_serving/data/conversations
     bench/conversations.py --check FILE..     prints the replies of conversations that aren't those of the plain reading
     bench/conversations.py --drawn SEED FILE  writes one that is drawn from another seed
 
@@ -29,7 +29,7 @@ from plain_serve import Senders, Server, frames_of  # noqa: E402
 from spelling import message_of, reply_of  # noqa: E402
 
 FOLDER = TOP / "crates/sn_tests_serving/data/conversations"
-DRAWN = ("drawn.txt", "drawn_failing.txt")
+DRAWN = ("drawn.txt", "drawn_kernel.txt", "drawn_failing.txt")
 
 SENDERS = [
     "? 70 Name:%09sh%0AGroups:%09 %0A",
@@ -78,8 +78,8 @@ ASKED_OF_LONG = (
     "GETXATTR {1} 0:0 0 /system.posix_acl_access",
 )
 MAKING = ("create", "mkdir", "mknod", "link")
-SEED, FAILING_SEED = 1, 2687
-SERVES, MESSAGES, FAILING_MESSAGES, FEWEST_NODES, MOST_NODES, MOST_SECTORS, MOST_CHARGED = 14, 110, 16, 10, 24, 110, 1000
+SEED, KERNEL_SEED, FAILING_SEED = 1, 2, 2687
+SERVES, KERNEL_SERVES, MESSAGES, FAILING_MESSAGES, FEWEST_NODES, MOST_NODES, MOST_SECTORS, MOST_CHARGED = 14, 5, 110, 16, 10, 24, 110, 1000
 
 
 # ---- conversations that are there
@@ -138,9 +138,9 @@ def check(files):
 class Conversation:
     """Lines that were drawn, and the serve that answers them."""
 
-    def __init__(self, seed, operations=OPERATIONS):
-        self.drawn, self.world, self.operations = random.Random(seed), Callers(), operations
-        self.senders, self.lines, self.counts, self.serves = Senders(SENDERS), [], collections.Counter(), 0
+    def __init__(self, seed, operations=OPERATIONS, told=SENDERS):
+        self.drawn, self.world, self.operations, self.told = random.Random(seed), Callers(), operations, told
+        self.senders, self.lines, self.counts, self.serves = Senders(told), [], collections.Counter(), 0
         self.sizes, self.offsets, self.fewest, self.settings = SIZES, OFFSETS, FEWEST_NODES, SETTINGS
 
     def begin(self):
@@ -451,7 +451,17 @@ class Conversation:
         self.tell(self.drawn.choice(REST).format(self.node()))
 
     def text(self, head):
-        return "\n".join([*head, "", *SENDERS, *self.lines]) + "\n"
+        return "\n".join([*head, "", *self.told, *self.lines]) + "\n"
+
+
+class Kernel(Conversation):
+    """The kernel checks: most senders aren't user 0, and nothing is told of any."""
+
+    def __init__(self, seed):
+        super().__init__(seed, told=["? kernel"])
+
+    def who(self):
+        return self.drawn.choice(self.drawn.choices((ROOTS, OTHERS, UNKNOWN), (20, 60, 20))[0])
 
 
 class Limits(Conversation):
@@ -526,6 +536,13 @@ def drawn(seed):
     return conversation
 
 
+def drawn_kernel(seed):
+    conversation = Kernel(seed)
+    for _ in range(KERNEL_SERVES):
+        conversation.serve(MESSAGES)
+    return conversation
+
+
 def drawn_failing(seed):
     conversation = Failing(seed)
     conversation.serve(FAILING_MESSAGES)
@@ -536,6 +553,7 @@ HEAD = [
     "# Drawn messages, answered by the plain reading in bench/conversations.py: files unlinked, renamed over and linked while they are open, numbers used",
     "# again, directories renamed above what is open, snapshots deleted and made anew, ids forgotten in any order, and senders who are denied or not known.",
 ]
+KERNEL_HEAD = ["# Drawn messages that the kernel has checked, of senders of whom nothing is told, answered by the plain reading in bench/conversations.py."]
 FAILING_HEAD = ["# Drawn messages on devices of 256 blocks, of which each write fails in turn, answered by the plain reading in bench/conversations.py."]
 
 
@@ -550,6 +568,7 @@ def main():
         return 1
     conversation = drawn(SEED)
     (FOLDER / "drawn.txt").write_text(conversation.text(HEAD))
+    (FOLDER / "drawn_kernel.txt").write_text(drawn_kernel(KERNEL_SEED).text(KERNEL_HEAD))
     (FOLDER / "drawn_failing.txt").write_text(drawn_failing(FAILING_SEED).text(FAILING_HEAD))
     for word, count in conversation.counts.most_common():
         print(f"{word} {count}")

@@ -123,7 +123,7 @@ holds "nothing is mounted then" is_not_mounted "$odd"
 case_of "an image below the folder" 1 "snapfs: $disk is below $work" "$snapfs" mount "$disk" "$work"
 case_of "one that a link leads to" 1 "snapfs: link/a disk.img is below $work/a folder" "$snapfs" mount "link/a disk.img" "$work/a folder"
 case_of "all below the root" 1 "snapfs: $disk is below /" "$snapfs" mount "$disk" /
-for words in "mount" "mount $disk" "mount a b kernel" "mount a b c --" "mount -x b" "mount a -x" "unmount" "unmount a b" "unmount -x"; do
+for words in "mount" "mount $disk" "mount a b kern" "mount a b kernel c" "mount a b kernel kernel" "mount a b c --" "mount -x b" "mount a -x" "unmount" "unmount a b" "unmount -x"; do
     # shellcheck disable=SC2086
     case_of "$words" 2 "$USAGE" "$snapfs" $words
 done
@@ -202,6 +202,56 @@ holds "no command" [ "$?:$(wc -l <"$work/err")" = 127:1 ]
 case_of "a process that is left" 0 "" "$snapfs" mount "$disk" "$odd" -- sh -c "cd '$odd' && sleep 2 >/dev/null 2>&1 &"
 case_of "keeps no image" 0 "clean" sh -c "'$snapfs' check '$disk' | sed 's/ .*//'"
 
+# ---- Linux checks: what differs from what the program checks
+by_id() {
+    local who=$1
+    shift
+    setpriv --reuid="${who%:*}" --regid="${who#*:}" --clear-groups -- "$@"
+}
+in_many_groups() {
+    setpriv --reuid=1001 --regid=100 --groups "$(seq -s , 200 239)" -- "$@"
+}
+# A user makes a file and a directory below one, and tells whose they are.
+makes_below() {
+    by_id "$1" sh -c 'umask 022 && cd "$1" && echo made >"f$2" && mkdir "d$2" && stat -c "%u:%g %a" "f$2" "d$2"' sh "$2" "$1"
+}
+# A user writes and reads in a directory that they were put into, below one that they may not search.
+below_closed() {
+    cd "$odd/closed/below" && by_id 1002:100 sh -c 'echo in >f && cat f'
+}
+denied=": Permission denied"
+case_of "it is mounted where Linux checks" 0 "" "$snapfs" mount "$disk" "$odd" kernel
+holds "which its options say" has_options "$odd" rw nosuid nodev allow_other default_permissions
+holds "directories are made" sh -c "cd '$odd' && mkdir -m 1777 all && mkdir -m 755 group && chgrp 50 group && chmod 2777 group && mkdir -p closed/below && chmod 777 closed/below && chmod 700 closed"
+case_of "what a user makes is theirs" 0 $'1001:100 644\n1001:100 755' makes_below 1001:100 "$odd/all"
+case_of "with the group of the directory, where it says so" 0 $'1001:50 644\n1001:50 2755' makes_below 1001:100 "$odd/group"
+case_of "in a group of root's" 0 $'1001:0 644\n1001:0 755' makes_below 1001:0 "$odd/all"
+holds "a user closes it" by_id 1001:100 chmod 600 "$odd/all/f1001:100"
+case_of "to others" 1 "cat: '$odd/all/f1001:100'$denied" by_id 1002:100 cat "$odd/all/f1001:100"
+case_of "and has it" 0 made by_id 1001:100 cat "$odd/all/f1001:100"
+case_of "others remove nothing" 1 "rm: cannot remove '$odd/all/f1001:100': Operation not permitted" by_id 1002:100 rm -f "$odd/all/f1001:100"
+case_of "users make no snapshots" 1 "mkdir: cannot create directory ‘$odd/.snapshot/s’$denied" env LC_ALL=C.UTF-8 setpriv --reuid=1001 --regid=100 --clear-groups mkdir "$odd/.snapshot/s"
+case_of "a user of 40 groups reads" 0 hello in_many_groups cat "$odd/f"
+case_of "a working directory below a closed one is used" 0 in below_closed
+if command -v setfacl >/dev/null; then
+    holds "lists are set" sh -c "cd '$odd' && echo one >one && setfacl -m u:1001:--- one && echo two >two && setfacl -m u:1001:rwx,g::---,m::---,o::r-- two"
+    case_of "a list denies" 1 "cat: '$odd/one'$denied" by_id 1001:100 cat "$odd/one"
+    case_of "others have it" 0 one by_id 1002:100 cat "$odd/one"
+    case_of "an empty mask doesn't count" 0 two by_id 1001:100 cat "$odd/two"
+fi
+case_of "unmounted" 0 "" "$snapfs" unmount "$odd"
+case_of "and sound" 0 "clean" sh -c "'$snapfs' check '$disk' | sed 's/ .*//'"
+case_of "it is mounted where the program checks" 0 "" "$snapfs" mount "$disk" "$odd"
+case_of "owners are kept" 0 $'1001:100 600\n1001:50 2755' stat -c '%u:%g %a' "$odd/all/f1001:100" "$odd/group/d1001:100"
+case_of "what a user makes is theirs here too" 0 $'1002:100 644\n1002:100 755' makes_below 1002:100 "$odd/all"
+case_of "a user of 40 groups is denied" 1 "cat: '$odd/f'$denied" in_many_groups cat "$odd/f"
+case_of "so is a working directory below a closed one" 2 "sh: 1: cannot create f$denied" below_closed
+if command -v setfacl >/dev/null; then
+    case_of "and by an empty mask" 1 "cat: '$odd/two'$denied" by_id 1001:100 cat "$odd/two"
+fi
+case_of "unmounted" 0 "" "$snapfs" unmount "$odd"
+case_of "for a command" 4 default_permissions "$snapfs" mount "$disk" "$odd" kernel -- sh -c "grep fuse.snapfs /proc/mounts | grep -o default_permissions; exit 4"
+
 # ---- As another user
 id=$(id -u nobody)
 case_of "a user that isn't there" 1 "snapfs: there is no user no-such-user" env SNAPFS_USER=no-such-user "$snapfs" mount "$disk" "$odd"
@@ -226,6 +276,7 @@ if by_user unshare -Urm true 2>/dev/null; then
         sh -c 'echo "$(id -u) $(cat "$1/f")"; echo mine >"$1/mine"; mkdir "$1/.snapshot/s"; exit 5' sh "$odd"
     holds "which alone saw it" is_not_mounted "$odd"
     case_of "and finds it again" 0 mine by_user "$snapfs" mount "$disk" "$odd" -- cat "$odd/.snapshot/s/../../mine"
+    case_of "also where Linux checks" 0 mine by_user "$snapfs" mount "$disk" "$odd" kernel -- cat "$odd/mine"
     if command -v setfacl >/dev/null; then
         case_of "without access control lists" 1 "setfacl: $odd/mine: Operation not supported" by_user "$snapfs" mount "$disk" "$odd" -- setfacl -m u:0:r "$odd/mine"
     fi

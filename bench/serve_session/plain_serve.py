@@ -22,7 +22,7 @@ from spelling import HEAD, WORDS, Misspelt, fields_of, listing_of  # noqa: E402
 HANDLES, BLOCK_HANDLES, MOST_GROUPS, UNMAPPED, MOST_NAMED = 4032, 64, 32, 65534, 32
 SNAPSHOTS, NUMBERS, LARGEST_MESSAGE = 65537, 65536, 1 << 20
 KINDS = {b"system.posix_acl_access": "a", b"system.posix_acl_default": "d"}
-WRITE_MAX, TAKEN, DATA_BLOCKS, RESERVE = 28_672, 0x480069, 4020, 64
+WRITE_MAX, TAKEN, POSIX_ACL, DATA_BLOCKS, RESERVE = 28_672, 0x480069, 0x100000, 4020, 64
 MODE, USER, GROUP, SIZE, BY_HANDLE = 1, 2, 4, 8, 64
 WITHOUT_REPLY = ("FORGET", "BATCH_FORGET", "INTERRUPT")
 
@@ -35,8 +35,8 @@ class Senders:
     """What is told of processes: the text of a status, or `-`."""
 
     def __init__(self, lines):
-        self.maps_all = "? map whole" in lines
-        words = [line.split(" ", 2)[1:] for line in lines if line != "? map whole"]
+        self.maps_all, self.kernel_checks = "? map whole" in lines, "? kernel" in lines
+        words = [line.split(" ", 2)[1:] for line in lines if line not in ("? map whole", "? kernel")]
         self.statuses = {int(process): text.replace("%0A", "\n").replace("%09", "\t") for process, text in reversed(words) if text != "-"}
 
     def groups(self, process):
@@ -144,7 +144,8 @@ def told_of(number, status):
 
 
 class Server:
-    """A serve of the world. `asks` is the user, the group and the process of the message that is answered."""
+    """A serve of the world. `asks` is the user, the group and the process of the message that is answered, or user 0 and group 0 where the kernel has
+    checked it; `sender` is the user and the group of its head."""
 
     def __init__(self, world, senders):
         world.crash()
@@ -156,6 +157,9 @@ class Server:
     def answer(self, message):
         """The line of the reply to a message's bytes, `-` where it has none."""
         _, opcode, _, node, *self.asks = struct.unpack_from("<IIQQIII", message)
+        self.sender = tuple(self.asks[:2])
+        if self.senders.kernel_checks:
+            self.asks[:2] = 0, 0
         word = WORDS.get(opcode)
         if word is None:
             return "ERROR ENOSYS"
@@ -165,6 +169,8 @@ class Server:
             return "ERROR EINVAL"
         except No as error:
             reply = f"ERROR {error}"
+        if self.senders.kernel_checks and reply and reply.split()[0] in ("FOUND", "KNOWN", "MADE"):
+            reply = f"HELD {reply}"
         return "-" if word in WITHOUT_REPLY else reply or "NOTHING"
 
     # ---- calls and looks
@@ -250,6 +256,13 @@ class Server:
         node = self.change(change, parent, image, number)
         return node, f"{node} {told_of(number, status)}"
 
+    def give(self, parent, path):
+        """Gives what user 0 made for a sender to them, with their group, unless it has the directory's."""
+        if self.senders.kernel_checks and self.sender != (0, 0):
+            directory = self.call(0, f"stat {self.path(parent)}").split()
+            user, group = self.sender
+            self.call(0, f"chown {path} {user} {'-' if int(directory[1], 8) & 0o2000 else group}")
+
     # ---- names
 
     def do_lookup(self, parent, name):
@@ -264,6 +277,7 @@ class Server:
             self.as_caller(f"snap-create {image}")
         else:
             self.as_caller(f"umask {umask & 0o777:04o}", f"mkdir {path} {mode & 0o777:04o}")
+            self.give(parent, path)
         return "FOUND " + self.entry("make", parent, image, path)[1]
 
     def do_unlink(self, parent, name):
@@ -343,6 +357,7 @@ class Server:
             raise No("EPERM")
         image, path = self.child(parent, name)
         self.as_caller(f"umask {umask & 0o777:04o}", f"open {path} wcx {mode & 0o777:04o}")
+        self.give(parent, path)
         return "FOUND " + self.entry("make", parent, image, path)[1]
 
     def do_create(self, parent, flags, mode, umask, name):
@@ -350,6 +365,8 @@ class Server:
         change = "meet" if self.find(path) is not None else "make"
         letters = asked_of(flags, "cx" if flags & os.O_EXCL else "c")
         self.as_caller(f"umask {umask & 0o777:04o}", f"open {path} {letters} {mode & 0o777:04o}")
+        if change == "make":
+            self.give(parent, path)
         node, entry = self.entry(change, parent, image, path)
         self.hold(handle, node, self.call(self.session_of(handle), f"open {path} {letters_of(flags)}"))
         return f"MADE {entry} {handle}"
@@ -521,7 +538,8 @@ class Server:
             raise No("EINVAL")
         if major > 7:
             return "INITIALIZED 7 31 0 0 0 0 0 0 0"
-        return f"INITIALIZED 7 31 {readahead} {flags & TAKEN} 0 0 {WRITE_MAX} 1 16"
+        taken = TAKEN | POSIX_ACL if self.senders.kernel_checks else TAKEN
+        return f"INITIALIZED 7 31 {readahead} {flags & taken} 0 0 {WRITE_MAX} 1 16"
 
     def do_nothing(self, *_):
         pass

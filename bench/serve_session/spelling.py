@@ -126,8 +126,8 @@ def attributes_of(words):
     return struct.pack("<6Q10I", int(number), int(size), blocks, 0, 0, 0, 0, 0, 0, kind | int(mode[1:], 8), int(links), int(user), int(group), 0, 4096, 0)
 
 
-def entry_of(words):
-    return struct.pack("<QQQQII", int(words[0]), 0, YEAR, 0, 0, 0) + attributes_of(words[1:6])
+def entry_of(words, last):
+    return struct.pack("<QQQQII", int(words[0]), 0, YEAR, last, 0, 0) + attributes_of(words[1:6])
 
 
 def opened_of(handle, flags="0"):
@@ -147,13 +147,15 @@ def listing_of(size, *entries):
     return body
 
 
-def answer_body(word, words):
+def answer_body(word, words, last=0):
+    if word == "HELD":
+        return answer_body(words[0], words[1:], YEAR)
     if word == "FOUND":
-        return entry_of(words)
+        return entry_of(words, last)
     if word == "KNOWN":
-        return struct.pack("<QI4x", 0, 0) + attributes_of(words)
+        return struct.pack("<QI4x", last, 0) + attributes_of(words)
     if word == "MADE":
-        return entry_of(words) + opened_of(words[6])
+        return entry_of(words, last) + opened_of(words[6])
     if word == "OPENED":
         return opened_of(*words)
     if word in ("WRITTEN", "XATTRSIZE"):

@@ -19,12 +19,13 @@ use Rattle.clap.specs.declared.parser.matches.Found.{Found}
 use Rattle.clap.proofs.WalkLemmas.{first_value-rows}
 use Rattle.clap.specs.declared.parser.matches.SubCommand.{SubCommand}
 use Rattle.sn_command.specs.Commands.{check, export, import, mkfs, run, serve, snapfs, stop_at}
-use Rattle.sn_command.specs.Tasks.{AsksFor, IsRead, Spells}
+use Rattle.sn_command.specs.Tasks.{AsksFor, IsRead, Spells, words_in}
 use Rattle.sn_command.specs.Words.{is_misfit}
+use Rattle.sn_command.specs.declared.command.Checker.TheVariants as checker
 use Rattle.sn_command.specs.declared.command.Task.{Task}
 use Rattle.sn_command.specs.declared.command.Task.TheVariants as task
 use Rattle.sn_command.proofs.LeafLemmas.{is_none}
-use Rattle.sn_command.proofs.Leaves.{check_fits, check_image, check_words, export_fits, export_image, export_path, export_words, import_fits, import_image, import_path, import_words, leaf, mkfs_blocks, mkfs_fits, mkfs_image, mkfs_words, run_fits, run_image, run_script, run_words, serve_fits, serve_image, serve_words, stop_at_fill, stop_at_fits, stop_at_image, stop_at_k, stop_at_out, stop_at_script, stop_at_words}
+use Rattle.sn_command.proofs.Leaves.{check_fits, check_image, check_words, export_fits, export_image, export_path, export_words, import_fits, import_image, import_path, import_words, leaf, mkfs_blocks, mkfs_fits, mkfs_image, mkfs_words, run_fits, run_image, run_script, run_words, serve_by_checker, serve_by_fits, serve_by_image, serve_checker, serve_fits, serve_image, serve_words, stop_at_fill, stop_at_fits, stop_at_image, stop_at_k, stop_at_out, stop_at_script, stop_at_words}
 use Rattle.sn_command.proofs.TopLemmas.{check_entered, check_faults, export_entered, export_faults, import_entered, import_faults, mkfs_entered, mkfs_faults, none_faults, run_entered, run_faults, serve_entered, serve_faults, stop_at_entered, stop_at_faults, unknown, unknown_faults}
 use Rattle.sn_command.proofs.WalkLemmas.{first_fits, others_fit}
 
@@ -57,8 +58,15 @@ IsImport words = (a : Text) × (b : Text) × (words ≡ codes "import" ∷ a ∷
 abbrev IsServe : List Text → Type 0
 IsServe words = (a : Text) × (words ≡ codes "serve" ∷ a ∷ [])
 
+abbrev IsServeBy : List Text → Type 0
+IsServeBy words = (a : Text) × (b : Text) × (words ≡ codes "serve" ∷ a ∷ b ∷ [])
+
 abbrev IsParsed : List Text → Type 0
-IsParsed words = IsMkfs words ⊎ (IsRun words ⊎ (IsStopAt words ⊎ (IsCheck words ⊎ (IsExport words ⊎ (IsImport words ⊎ IsServe words)))))
+IsParsed words = IsMkfs words ⊎ (IsRun words ⊎ (IsStopAt words ⊎ (IsCheck words ⊎ (IsExport words ⊎ (IsImport words ⊎ (IsServe words ⊎ IsServeBy words))))))
+
+serves : (word : Text) (words : List Text) → codes "serve" ≡ word → ((a : Text) × (words ≡ a ∷ [])) ⊎ ((a : Text) × (b : Text) × (words ≡ a ∷ b ∷ [])) → IsServe (word ∷ words) ⊎ IsServeBy (word ∷ words)
+serves word words is (inl found) = inl (found.0, ap₂ (λ w ws. w ∷ ws) (sym is) found.1)
+serves word words is (inr found) = inr (found.0, found.1, ap₂ (λ w ws. w ∷ ws) (sym is) found.2)
 
 named : (word : Text) (words : List Text) → list_any is_misfit (word ∷ words) ≡ false → fault_of snapfs (word ∷ words) ≡ []
     → (b c d e g h k : Bool) → bytes_eq (codes "mkfs") word ≡ b → bytes_eq (codes "run") word ≡ c → bytes_eq (codes "stop-at") word ≡ d → bytes_eq (codes "check") word ≡ e → bytes_eq (codes "export") word ≡ g → bytes_eq (codes "import") word ≡ h → bytes_eq (codes "serve") word ≡ k → IsParsed (word ∷ words)
@@ -95,8 +103,7 @@ named word words fit faultless false false false false false true k one two thre
 named word words fit faultless false false false false false false true one two three four five six seven =
     let is : codes "serve" ≡ word = (bytes_eq-Decides (codes "serve") word).0 seven in
     let faults : fault_of snapfs (codes "serve" ∷ words) ≡ [] = ap (λ w. fault_of snapfs (w ∷ words)) is ∙ faultless in
-    let found = serve_words words (others_fit word words fit) (sym (serve_faults words) ∙ faults) in
-    inr (inr (inr (inr (inr (inr (found.0, ap₂ (λ w ws. w ∷ ws) (sym is) found.1))))))
+    inr (inr (inr (inr (inr (inr (serves word words is (serve_words words (others_fit word words fit) (sym (serve_faults words) ∙ faults))))))))
 named word words fit faultless false false false false false false false one two three four five six seven =
     let other : (name : Text) → bytes_eq name word ≡ false → name ≡ word → ⊥ =
     λ name e is. true≢false (sym ((bytes_eq-Decides name word).1 is) ∙ e) in
@@ -123,7 +130,7 @@ mkfs_spelled a b fit (task.StopAt cut how image script out) h = absurd (true≢f
 mkfs_spelled a b fit (task.Check image) h = absurd (true≢false (ap (bytes_eq (codes "mkfs")) h.0))
 mkfs_spelled a b fit (task.Export image path) h = absurd (true≢false (ap (bytes_eq (codes "mkfs")) h.0))
 mkfs_spelled a b fit (task.Import image path) h = absurd (true≢false (ap (bytes_eq (codes "mkfs")) h.0))
-mkfs_spelled a b fit (task.Serve image) h = absurd (true≢false (ap (bytes_eq (codes "mkfs")) h.0))
+mkfs_spelled a b fit (task.Serve image by) h = absurd (true≢false (ap (bytes_eq (codes "mkfs")) h.0))
 
 run_spelled : (a b : Text) → list_any is_misfit (a ∷ b ∷ []) ≡ false → (asked : Task) → IsRead (codes "run") (read_of (rows_after (leaf run).rules [] (a ∷ b ∷ []))) asked
     → Spells (codes "run" ∷ a ∷ b ∷ []) asked
@@ -136,7 +143,7 @@ run_spelled a b fit (task.StopAt cut how image script out) h = absurd (true≢fa
 run_spelled a b fit (task.Check image) h = absurd (true≢false (ap (bytes_eq (codes "run")) h.0))
 run_spelled a b fit (task.Export image path) h = absurd (true≢false (ap (bytes_eq (codes "run")) h.0))
 run_spelled a b fit (task.Import image path) h = absurd (true≢false (ap (bytes_eq (codes "run")) h.0))
-run_spelled a b fit (task.Serve image) h = absurd (true≢false (ap (bytes_eq (codes "run")) h.0))
+run_spelled a b fit (task.Serve image by) h = absurd (true≢false (ap (bytes_eq (codes "run")) h.0))
 
 stop_at_spelled : (a b c d f : Text) → list_any is_misfit (a ∷ b ∷ c ∷ d ∷ f ∷ []) ≡ false → (asked : Task)
     → IsRead (codes "stop-at") (read_of (rows_after (leaf stop_at).rules [] (a ∷ b ∷ c ∷ d ∷ f ∷ []))) asked → Spells (codes "stop-at" ∷ a ∷ b ∷ c ∷ d ∷ f ∷ []) asked
@@ -155,7 +162,7 @@ stop_at_spelled a b c d f fit (task.StopAt cut how image script out) h =
 stop_at_spelled a b c d f fit (task.Check image) h = absurd (true≢false (ap (bytes_eq (codes "stop-at")) h.0))
 stop_at_spelled a b c d f fit (task.Export image path) h = absurd (true≢false (ap (bytes_eq (codes "stop-at")) h.0))
 stop_at_spelled a b c d f fit (task.Import image path) h = absurd (true≢false (ap (bytes_eq (codes "stop-at")) h.0))
-stop_at_spelled a b c d f fit (task.Serve image) h = absurd (true≢false (ap (bytes_eq (codes "stop-at")) h.0))
+stop_at_spelled a b c d f fit (task.Serve image by) h = absurd (true≢false (ap (bytes_eq (codes "stop-at")) h.0))
 
 check_spelled : (a : Text) → list_any is_misfit (a ∷ []) ≡ false → (asked : Task) → IsRead (codes "check") (read_of (rows_after (leaf check).rules [] (a ∷ []))) asked → Spells (codes "check" ∷ a ∷ []) asked
 check_spelled a fit (task.Mkfs image blocks) h = absurd (true≢false (ap (bytes_eq (codes "check")) h.0))
@@ -166,7 +173,7 @@ check_spelled a fit (task.Check image) h =
     ap (λ x. codes "check" ∷ x ∷ []) one
 check_spelled a fit (task.Export image path) h = absurd (true≢false (ap (bytes_eq (codes "check")) h.0))
 check_spelled a fit (task.Import image path) h = absurd (true≢false (ap (bytes_eq (codes "check")) h.0))
-check_spelled a fit (task.Serve image) h = absurd (true≢false (ap (bytes_eq (codes "check")) h.0))
+check_spelled a fit (task.Serve image by) h = absurd (true≢false (ap (bytes_eq (codes "check")) h.0))
 
 export_spelled : (a b : Text) → list_any is_misfit (a ∷ b ∷ []) ≡ false → (asked : Task) → IsRead (codes "export") (read_of (rows_after (leaf export).rules [] (a ∷ b ∷ []))) asked
     → Spells (codes "export" ∷ a ∷ b ∷ []) asked
@@ -179,7 +186,7 @@ export_spelled a b fit (task.Export image path) h =
     let two : b ≡ path.now = same_text b path.now (sym (export_path a b fit) ∙ h.2) in
     ap₂ (λ x y. codes "export" ∷ x ∷ y ∷ []) one two
 export_spelled a b fit (task.Import image path) h = absurd (true≢false (ap (bytes_eq (codes "export")) h.0))
-export_spelled a b fit (task.Serve image) h = absurd (true≢false (ap (bytes_eq (codes "export")) h.0))
+export_spelled a b fit (task.Serve image by) h = absurd (true≢false (ap (bytes_eq (codes "export")) h.0))
 
 import_spelled : (a b : Text) → list_any is_misfit (a ∷ b ∷ []) ≡ false → (asked : Task) → IsRead (codes "import") (read_of (rows_after (leaf import).rules [] (a ∷ b ∷ []))) asked
     → Spells (codes "import" ∷ a ∷ b ∷ []) asked
@@ -192,7 +199,7 @@ import_spelled a b fit (task.Import image path) h =
     let one : a ≡ image.now = same_text a image.now (sym (import_image a b fit) ∙ h.1) in
     let two : b ≡ path.now = same_text b path.now (sym (import_path a b fit) ∙ h.2) in
     ap₂ (λ x y. codes "import" ∷ x ∷ y ∷ []) one two
-import_spelled a b fit (task.Serve image) h = absurd (true≢false (ap (bytes_eq (codes "import")) h.0))
+import_spelled a b fit (task.Serve image by) h = absurd (true≢false (ap (bytes_eq (codes "import")) h.0))
 
 serve_spelled : (a : Text) → list_any is_misfit (a ∷ []) ≡ false → (asked : Task) → IsRead (codes "serve") (read_of (rows_after (leaf serve).rules [] (a ∷ []))) asked → Spells (codes "serve" ∷ a ∷ []) asked
 serve_spelled a fit (task.Mkfs image blocks) h = absurd (true≢false (ap (bytes_eq (codes "serve")) h.0))
@@ -201,9 +208,21 @@ serve_spelled a fit (task.StopAt cut how image script out) h = absurd (true≢fa
 serve_spelled a fit (task.Check image) h = absurd (true≢false (ap (bytes_eq (codes "serve")) h.0))
 serve_spelled a fit (task.Export image path) h = absurd (true≢false (ap (bytes_eq (codes "serve")) h.0))
 serve_spelled a fit (task.Import image path) h = absurd (true≢false (ap (bytes_eq (codes "serve")) h.0))
-serve_spelled a fit (task.Serve image) h =
+serve_spelled a fit (task.Serve image by) h =
     let one : a ≡ image.now = same_text a image.now (sym (serve_image a fit) ∙ h.1) in
-    ap (λ x. codes "serve" ∷ x ∷ []) one
+    ap₂ (λ x (o : Option Text). codes "serve" ∷ x ∷ words_in o) one (sym (serve_checker a fit) ∙ h.2)
+
+serve_by_spelled : (a b : Text) → list_any is_misfit (a ∷ b ∷ []) ≡ false → (asked : Task) → IsRead (codes "serve") (read_of (rows_after (leaf serve).rules [] (a ∷ b ∷ []))) asked
+    → Spells (codes "serve" ∷ a ∷ b ∷ []) asked
+serve_by_spelled a b fit (task.Mkfs image blocks) h = absurd (true≢false (ap (bytes_eq (codes "serve")) h.0))
+serve_by_spelled a b fit (task.Run image script) h = absurd (true≢false (ap (bytes_eq (codes "serve")) h.0))
+serve_by_spelled a b fit (task.StopAt cut how image script out) h = absurd (true≢false (ap (bytes_eq (codes "serve")) h.0))
+serve_by_spelled a b fit (task.Check image) h = absurd (true≢false (ap (bytes_eq (codes "serve")) h.0))
+serve_by_spelled a b fit (task.Export image path) h = absurd (true≢false (ap (bytes_eq (codes "serve")) h.0))
+serve_by_spelled a b fit (task.Import image path) h = absurd (true≢false (ap (bytes_eq (codes "serve")) h.0))
+serve_by_spelled a b fit (task.Serve image by) h =
+    let one : a ≡ image.now = same_text a image.now (sym (serve_by_image a b fit) ∙ h.1) in
+    ap₂ (λ x (o : Option Text). codes "serve" ∷ x ∷ words_in o) one (sym (serve_by_checker a b fit) ∙ h.2)
 
 abbrev pair_or : Text × List Row → Option (Text × List Row) → Text × List Row
 pair_or d o = unwrap_or o d
@@ -234,8 +253,10 @@ spelled words fit faultless p met = elim (parsed words fit faultless) [
       (λ f e. at (codes "export" ∷ h.0 ∷ h.1 ∷ []) _ p (export_entered (h.0 ∷ h.1 ∷ [])) e (export_spelled h.0 h.1 (others_fit (codes "export") (h.0 ∷ h.1 ∷ []) f))) fit met
   | inr (inr (inr (inr (inr (inl h))))) ↦ subst (λ ws. list_any is_misfit ws ≡ false → subcommand_of snapfs ws ≡ Some p → SpelledAs ws p) (sym h.2)
       (λ f e. at (codes "import" ∷ h.0 ∷ h.1 ∷ []) _ p (import_entered (h.0 ∷ h.1 ∷ [])) e (import_spelled h.0 h.1 (others_fit (codes "import") (h.0 ∷ h.1 ∷ []) f))) fit met
-  | inr (inr (inr (inr (inr (inr h))))) ↦ subst (λ ws. list_any is_misfit ws ≡ false → subcommand_of snapfs ws ≡ Some p → SpelledAs ws p) (sym h.1)
+  | inr (inr (inr (inr (inr (inr (inl h)))))) ↦ subst (λ ws. list_any is_misfit ws ≡ false → subcommand_of snapfs ws ≡ Some p → SpelledAs ws p) (sym h.1)
       (λ f e. at (codes "serve" ∷ h.0 ∷ []) _ p (serve_entered (h.0 ∷ [])) e (serve_spelled h.0 (others_fit (codes "serve") (h.0 ∷ []) f))) fit met
+  | inr (inr (inr (inr (inr (inr (inr h)))))) ↦ subst (λ ws. list_any is_misfit ws ≡ false → subcommand_of snapfs ws ≡ Some p → SpelledAs ws p) (sym h.2)
+      (λ f e. at (codes "serve" ∷ h.0 ∷ h.1 ∷ []) _ p (serve_entered (h.0 ∷ h.1 ∷ [])) e (serve_by_spelled h.0 h.1 (others_fit (codes "serve") (h.0 ∷ h.1 ∷ []) f))) fit met
 ]
 
 -- ---- what words ask for is found in them
@@ -316,7 +337,7 @@ spells_found words (task.Import image path) fit h = subst (λ ws. list_any is_mi
       met = import_entered (a ∷ b ∷ []);
       read = (refl, import_image a b f, import_path a b f);
     }) fit
-spells_found words (task.Serve image) fit h = subst (λ ws. list_any is_misfit ws ≡ false → IsFound ws (task.Serve image)) (sym h) (λ all.
+spells_found words (task.Serve image checker.Program) fit h = subst (λ ws. list_any is_misfit ws ≡ false → IsFound ws (task.Serve image checker.Program)) (sym h) (λ all.
     let a = image.now in
     let f : list_any is_misfit (a ∷ []) ≡ false = others_fit (codes "serve") (a ∷ []) all in
     record {
@@ -324,7 +345,18 @@ spells_found words (task.Serve image) fit h = subst (λ ws. list_any is_misfit w
       name = codes "serve";
       rows = rows_after (leaf serve).rules [] (a ∷ []);
       met = serve_entered (a ∷ []);
-      read = (refl, serve_image a f);
+      read = (refl, serve_image a f, serve_checker a f);
+    }) fit
+spells_found words (task.Serve image checker.Kernel) fit h = subst (λ ws. list_any is_misfit ws ≡ false → IsFound ws (task.Serve image checker.Kernel)) (sym h) (λ all.
+    let a = image.now in
+    let b = codes "kernel" in
+    let f : list_any is_misfit (a ∷ b ∷ []) ≡ false = others_fit (codes "serve") (a ∷ b ∷ []) all in
+    record {
+      faultless = serve_faults (a ∷ b ∷ []) ∙ serve_by_fits a b f;
+      name = codes "serve";
+      rows = rows_after (leaf serve).rules [] (a ∷ b ∷ []);
+      met = serve_entered (a ∷ b ∷ []);
+      read = (refl, serve_by_image a b f, serve_by_checker a b f);
     }) fit
 
 pub found : (words : List Text) (asked : Task) → AsksFor words asked → IsFound words asked

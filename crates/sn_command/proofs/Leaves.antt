@@ -1,5 +1,5 @@
 -- Each command of ours, as `clap` builds it, takes as many words as it has names, and reads each of them under its name.
-use Rattle.std.proofs.Common.{◌≡◌, ◌∙◌, ℕ, false, refl, sym, ap, codes, List, [], ◌∷◌, Some, None, true≢false}
+use Rattle.std.proofs.Common.{◌≡◌, ◌∙◌, ◌⊎◌, ℕ, false, inl, inr, refl, sym, ap, codes, List, [], ◌∷◌, Some, None, true≢false}
 use Rattle.std.specs.List.{list_any}
 use Rattle.clap.specs.Faults.{walk_fault}
 use Rattle.clap.specs.Simple.{App, Shape, built_leaf, inherited}
@@ -274,27 +274,48 @@ import_words (a ∷ b ∷ d ∷ more) fit e = absurd (true≢false (sym (ap is_n
 serve_open : (a : Text) → OpenAlong (leaf serve).rules start (a ∷ [])
 serve_open a = (opened _ _, tt)
 
+serve_open_by : (a b : Text) → OpenAlong (leaf serve).rules start (a ∷ b ∷ [])
+serve_open_by a b = (opened _ _, (opened _ _, tt))
+
 pub serve_fits : (a : Text) → list_any is_misfit (a ∷ []) ≡ false → leaf_fault (leaf serve) (a ∷ []) ≡ []
 unfolding clap_on_literals
 serve_fits a fit = leaf_is (leaf serve) (a ∷ []) fit (serve_open a) ∙ refl
+
+pub serve_by_fits : (a b : Text) → list_any is_misfit (a ∷ b ∷ []) ≡ false → leaf_fault (leaf serve) (a ∷ b ∷ []) ≡ []
+unfolding clap_on_literals
+serve_by_fits a b fit = leaf_is (leaf serve) (a ∷ b ∷ []) fit (serve_open_by a b) ∙ refl
 
 pub serve_image : (a : Text) → list_any is_misfit (a ∷ []) ≡ false → first_of (codes "IMAGE") (rows_after (leaf serve).rules [] (a ∷ [])) ≡ Some a
 unfolding clap_on_literals
 serve_image a fit = ap (first_of (codes "IMAGE")) (rows_are (leaf serve) (a ∷ []) fit (serve_open a)) ∙ refl
 
+pub serve_checker : (a : Text) → list_any is_misfit (a ∷ []) ≡ false → first_of (codes "CHECKER") (rows_after (leaf serve).rules [] (a ∷ [])) ≡ None
+unfolding clap_on_literals
+serve_checker a fit = ap (first_of (codes "CHECKER")) (rows_are (leaf serve) (a ∷ []) fit (serve_open a)) ∙ refl
+
+pub serve_by_image : (a b : Text) → list_any is_misfit (a ∷ b ∷ []) ≡ false → first_of (codes "IMAGE") (rows_after (leaf serve).rules [] (a ∷ b ∷ [])) ≡ Some a
+unfolding clap_on_literals
+serve_by_image a b fit = ap (first_of (codes "IMAGE")) (rows_are (leaf serve) (a ∷ b ∷ []) fit (serve_open_by a b)) ∙ refl
+
+pub serve_by_checker : (a b : Text) → list_any is_misfit (a ∷ b ∷ []) ≡ false → first_of (codes "CHECKER") (rows_after (leaf serve).rules [] (a ∷ b ∷ [])) ≡ Some b
+unfolding clap_on_literals
+serve_by_checker a b fit = ap (first_of (codes "CHECKER")) (rows_are (leaf serve) (a ∷ b ∷ []) fit (serve_open_by a b)) ∙ refl
+
 serve_0 : is_none (leaf_fault (leaf serve) []) ≡ false
 unfolding clap_on_literals
 serve_0 = refl
 
-serve_more : (a d : Text) (more : List Text) → list_any is_misfit (a ∷ d ∷ more) ≡ false → is_none (leaf_fault (leaf serve) (a ∷ d ∷ more)) ≡ false
+serve_more : (a b d : Text) (more : List Text) → list_any is_misfit (a ∷ b ∷ d ∷ more) ≡ false → is_none (leaf_fault (leaf serve) (a ∷ b ∷ d ∷ more)) ≡ false
 unfolding clap_on_literals
-serve_more a d more fit =
-    let front : list_any is_misfit (a ∷ d ∷ []) ≡ false = front_fits (a ∷ d ∷ []) more fit in
-    let opens : OpenAlong (leaf serve).rules start (a ∷ d ∷ []) = (opened _ _, (opened _ _, tt)) in
-    or_else_some (walk_fault (leaf serve) [] start (a ∷ d ∷ more)) _ (ap is_none (faults_along (leaf serve) start (a ∷ d ∷ []) more front opens) ∙ refl)
+serve_more a b d more fit =
+    let front : list_any is_misfit (a ∷ b ∷ d ∷ []) ≡ false = front_fits (a ∷ b ∷ d ∷ []) more fit in
+    let opens : OpenAlong (leaf serve).rules start (a ∷ b ∷ d ∷ []) = (opened _ _, (opened _ _, (opened _ _, tt))) in
+    or_else_some (walk_fault (leaf serve) [] start (a ∷ b ∷ d ∷ more)) _ (ap is_none (faults_along (leaf serve) start (a ∷ b ∷ d ∷ []) more front opens) ∙ refl)
 
--- it takes 1 word
-pub serve_words : (words : List Text) → list_any is_misfit words ≡ false → leaf_fault (leaf serve) words ≡ [] → (a : Text) × (words ≡ a ∷ [])
+-- it takes 1 word, or 2
+pub serve_words : (words : List Text) → list_any is_misfit words ≡ false → leaf_fault (leaf serve) words ≡ []
+    → ((a : Text) × (words ≡ a ∷ [])) ⊎ ((a : Text) × (b : Text) × (words ≡ a ∷ b ∷ []))
 serve_words [] fit e = absurd (true≢false (sym (ap is_none e) ∙ serve_0))
-serve_words (a ∷ []) fit e = (a, refl)
-serve_words (a ∷ d ∷ more) fit e = absurd (true≢false (sym (ap is_none e) ∙ serve_more a d more fit))
+serve_words (a ∷ []) fit e = inl (a, refl)
+serve_words (a ∷ b ∷ []) fit e = inr (a, b, refl)
+serve_words (a ∷ b ∷ d ∷ more) fit e = absurd (true≢false (sym (ap is_none e) ∙ serve_more a b d more fit))

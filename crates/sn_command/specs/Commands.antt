@@ -5,6 +5,9 @@ use Rattle.clap.specs.Words.{App, Rule, Text, new_app, new_rule, with_rule, with
 abbrev pub required : Text → Rule
 required name = record (new_rule name) { required = true }
 
+abbrev pub optional : Text → Rule
+optional name = new_rule name
+
 abbrev pub mkfs : App
 mkfs = with_rule (with_rule (new_app (codes "mkfs")) (required (codes "IMAGE"))) (required (codes "BLOCKS"))
 
@@ -25,7 +28,7 @@ abbrev pub import : App
 import = with_rule (with_rule (new_app (codes "import")) (required (codes "IMAGE"))) (required (codes "PATH"))
 
 abbrev pub serve : App
-serve = with_rule (new_app (codes "serve")) (required (codes "IMAGE"))
+serve = with_rule (with_rule (new_app (codes "serve")) (required (codes "IMAGE"))) (optional (codes "CHECKER"))
 
 abbrev pub top : App
 top = record (new_app (codes "snapfs")) {

@@ -51,7 +51,17 @@ pub enum Task<'a> {
     /// Answers the messages of a mount over an image.
     Serve {
         image: &'a str,
+        checker: Checker,
     },
+}
+
+/// Who checks what the messages of a mount may do.
+#[derive(Clone, Copy, PartialEq, Eq, Debug)]
+pub enum Checker {
+    /// The program.
+    Program,
+    /// The kernel, before it sends them.
+    Kernel,
 }
 
 /// An empty word, or one that begins with a dash: there are no options.
@@ -71,7 +81,7 @@ fn has_misfit<S: AsStr>(words: &[S]) -> bool
 ///
 /// Proved: Words of which one is empty or begins with a dash are no command.
 /// Proved: A task comes only of its own words: the command's name, as many words as it takes, numbers of 32 bits in decimal
-/// without leading zeros, and one of the five words for a crash.
+/// without leading zeros, one of the five words for a crash, and at the end of `serve` nothing or the word `kernel`.
 /// Proved: Words that ask for a task are refused only for want of memory, so what else is said is usage.
 pub fn parse<'a, S: AsStr>(alloc: Global, words: &'a [S]) -> Result<Task<'a>, WordsFault>
     ensures misfits { list_any (λ word. is_misfit (S.text word)) words.now ≡ true → result ≡ Err fault.Usage }

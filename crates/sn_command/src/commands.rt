@@ -2,7 +2,7 @@
 ghost use Rattle.std.specs.Prelude.{◌≡◌, false, IfOk, IfErr};
 ghost use Rattle.clap.specs.Words.{app_of, rule_of};
 ghost use Rattle.clap.specs.declared.builder.command.Command.TheViews.{out-Command as fields_of};
-ghost use Rattle.sn_command.specs.Commands.{required, mkfs, run, stop_at, check, export, import, serve, snapfs};
+ghost use Rattle.sn_command.specs.Commands.{optional, required, mkfs, run, stop_at, check, export, import, serve, snapfs};
 ghost use Rattle.sn_command.specs.declared.fault.WordsFault.TheVariants as fault;
 
 use crate::fault::WordsFault;
@@ -15,6 +15,14 @@ fn word<'a>(alloc: Global, name: &'a str) -> Arg<'a>
     ensures local { result.global ≡ false }
 {
     Arg::new(alloc, name).required(true)
+}
+
+/// A word that may be there.
+fn last_word<'a>(alloc: Global, name: &'a str) -> Arg<'a>
+    ensures rule { rule_of result ≡ optional name.entry.now }
+    ensures local { result.global ≡ false }
+{
+    Arg::new(alloc, name)
 }
 
 fn mkfs<'a>(alloc: Global) -> Result<Command<'a>, WordsFault>
@@ -89,7 +97,9 @@ fn serve<'a>(alloc: Global) -> Result<Command<'a>, WordsFault>
     ensures memory { IfErr result (λ why. why ≡ fault.Memory) }
     ensures local { IfOk result (λ c. (fields_of c).has_globals ≡ false) }
 {
-    let command = Command::new(alloc, "serve").arg(word(alloc, "IMAGE"))?;
+    let command = Command::new(alloc, "serve")
+        .arg(word(alloc, "IMAGE"))?
+        .arg(last_word(alloc, "CHECKER"))?;
     Ok(command)
 }
 

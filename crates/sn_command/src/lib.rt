@@ -20,5 +20,5 @@ mod commands;
 mod fault;
 mod task;
 
-pub use command::{Task, parse};
+pub use command::{Checker, Task, parse};
 pub use fault::WordsFault;

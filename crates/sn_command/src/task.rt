@@ -2,11 +2,12 @@
 ghost use Rattle.std.specs.Prelude.{◌≡◌, ◌<◌, ◌^◌, ℕ, Some, None, codes, decimal, IfOk, IfErr, IfSome, IfNone};
 ghost use Rattle.clap.specs.Words.{first_value, found_of};
 ghost use Rattle.sn_device.specs.declared.fill.Fill.{Fill as Left};
-ghost use Rattle.sn_command.specs.Tasks.{IsRead, fill_word};
+ghost use Rattle.sn_command.specs.Tasks.{IsRead, checker_word, fill_word};
+ghost use Rattle.sn_command.specs.declared.command.Checker.{Checker as By};
 ghost use Rattle.sn_command.specs.declared.command.Task.{Task as Asked};
 ghost use Rattle.sn_command.specs.declared.fault.WordsFault.TheVariants as fault;
 
-use crate::command::Task;
+use crate::command::{Checker, Task};
 use crate::fault::WordsFault;
 use clap::ArgMatches;
 use sn_device::Fill;
@@ -108,12 +109,25 @@ fn import<'a>(found: &ArgMatches<'a>) -> Result<Task<'a>, WordsFault>
     })
 }
 
+/// Who checks: the program, or by a word of its own the kernel.
+fn checker(found: &ArgMatches<'_>) -> Result<Checker, WordsFault>
+    ensures there { IfOk result (λ by. first_value (found_of found.now) (codes "CHECKER") ≡ checker_word by) }
+    ensures absent { (by : By) → first_value (found_of found.now) (codes "CHECKER") ≡ checker_word by → IfErr result (λ why. why ≡ fault.Memory) }
+{
+    match found.get_str("CHECKER") {
+        None => Ok(Checker::Program),
+        Some("kernel") => Ok(Checker::Kernel),
+        Some(_) => Err(WordsFault::Usage),
+    }
+}
+
 fn serve<'a>(found: &ArgMatches<'a>) -> Result<Task<'a>, WordsFault>
     ensures read { IfOk result (IsRead (codes "serve") (first_value (found_of found.now))) }
     ensures unread { (task : Asked) → IsRead (codes "serve") (first_value (found_of found.now)) task → IfErr result (λ why. why ≡ fault.Memory) }
 {
     Ok(Task::Serve {
         image: text(found, "IMAGE")?,
+        checker: checker(found)?,
     })
 }
 

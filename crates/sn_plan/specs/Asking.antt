@@ -1,13 +1,14 @@
 -- Calls and looks as plans.
 use Rattle.std.specs.Prelude.{ℕ, List, Option, Result}
 use Rattle.std.specs.Option.{option_copied}
-use Rattle.sn_callers.specs.Logins.{login_of}
+use Rattle.sn_callers.specs.declared.login.Caller.{Caller}
 use Rattle.sn_fuse_replies.specs.declared.errno.Errno.{Errno}
 use Rattle.sn_model.specs.declared.call.Call.{Call}
 use Rattle.sn_model.specs.declared.call.Call.TheVariants.{Logout, Umask}
 use Rattle.sn_model.specs.declared.reply.Reply.{Reply}
 use Rattle.sn_model.specs.declared.reply.Reply.TheVariants.{Refused}
 use Rattle.sn_walk.specs.declared.view.Attributes.{Attributes}
+use Rattle.sn_plan.specs.Checking.{login_from, maker_of}
 use Rattle.sn_plan.specs.Plans.{Plan, Gives, Takes, Calls, Counts, Finds, Sees, given, ◌>>=◌}
 use Rattle.sn_plan.specs.declared.asking.Asker.{Asker}
 use Rattle.sn_plan.specs.declared.file_system.Space.{Space}
@@ -58,5 +59,9 @@ asked_masked login mask call = calls 1 login >>= once_in (as_masked mask call)
 unfoldable pub asks_masked : Result Call Errno → ℕ → Call → Plan Reply
 asks_masked login mask call = Takes (given login >>= (λ l. asked_masked l mask call))
 
+-- the login of who asks, and to whom is given what is made for them
 abbrev pub login_by : Asker → Result Call Errno
-login_by asker = login_of asker.caller (option_copied asker.status) asker.all_mapped
+login_by asker = login_from asker.checker asker.sender (option_copied asker.status)
+
+abbrev pub maker_by : Asker → Option Caller
+maker_by asker = maker_of asker.checker asker.sender

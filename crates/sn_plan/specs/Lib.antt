@@ -2,6 +2,7 @@ pub mod Errors
 pub mod Acts
 pub mod Plans
 pub mod Follows
+pub mod Checking
 pub mod Asking
 pub mod Replies
 pub mod Places

@@ -1,9 +1,10 @@
 //! Calls of a server.
-ghost use Rattle.std.specs.Prelude.{◌≡◌, Ok, IfOk, IfErr};
+ghost use Rattle.std.specs.Prelude.{◌≡◌, ◌⊎◌, Ok, Err, IfOk, IfErr};
 ghost use Rattle.sn_fuse_replies.specs.declared.errno.Errno.TheVariants.{ENOMEM};
-ghost use Rattle.sn_plan.specs.Asking.{as_caller, asked, asked_masked, asks, asks_masked, calls, login_by};
+ghost use Rattle.sn_plan.specs.Asking.{as_caller, asked, asked_masked, asks, asks_masked, calls, login_by, maker_by};
 ghost use Rattle.sn_plan.specs.Follows.{Does};
 
+use crate::checker::Checker;
 use crate::file_system::FileSystem;
 use crate::server::Server;
 use sn_callers::{ASKER, Caller, login_of};
@@ -11,14 +12,22 @@ use sn_fuse_replies::Errno;
 use sn_model::{Call, Reply, Word};
 use std::alloc::Global;
 
-/// Who asks: the caller of a message, with what the system tells of its groups.
+/// Who asks: the sender of a message, where the system doesn't check, with what it tells of the sender's groups; else user 0.
 #[derive(Clone, Copy)]
 pub struct Asker<'a> {
-    pub caller: Caller,
+    pub checker: Checker,
+    pub sender: Caller,
     /// The text of `/proc/PID/status`, `None` where it couldn't be read.
     pub status: Option<&'a [u8]>,
-    /// Whether the server's namespace maps all groups.
-    pub all_mapped: bool,
+}
+
+impl Asker<'_> {
+    /// To whom is given what is made for who asks: `None` where it is theirs already.
+    pub fn maker(&self) -> Option<Caller>
+        ensures { result ≡ maker_by self.now }
+    {
+        self.checker.maker(self.sender)
+    }
 }
 
 impl<F: FileSystem> Server<F> {
@@ -49,15 +58,23 @@ impl<F: FileSystem> Server<F> {
         self.call_and_leave(call)
     }
 
+    /// The call that logs in who asks. `EACCES` where their groups aren't known, and `ENOMEM` where memory is refused.
+    pub fn login(&self, asker: &Asker<'_>) -> Result<Call, Errno>
+        ensures { (result ≡ login_by asker.now) ⊎ (result ≡ Err ENOMEM) }
+    {
+        let caller = asker.checker.caller(asker.sender);
+        login_of(self.alloc, &caller, asker.status, asker.checker.maps_all())
+    }
+
     /// Makes a call as who asks. Where the login is refused, its reply is returned. `EACCES` where the asker's groups aren't known, and then no
     /// call is made.
     ///
-    /// Proved: A call as who asks is made by a login of the caller's user and group and the groups that are told, and a logout follows it,
-    /// whatever its reply is; without known groups, or memory for them, none is made.
+    /// Proved: A call as who asks is made by a login of the sender's user and group and the groups that are told, or where the system checks by
+    /// one of user 0, and a logout follows it, whatever its reply is; without known groups, or memory for them, none is made.
     pub fn ask(&mut self, asker: &Asker<'_>, call: &Call) -> Result<Reply, Errno>
         ensures { Does F.did self.old self.new (asks (login_by asker.now) call.now) result }
     {
-        let login = login_of(self.alloc, &asker.caller, asker.status, asker.all_mapped)?;
+        let login = self.login(asker)?;
         Ok(self.call_as(&login, call))
     }
 
@@ -77,7 +94,7 @@ impl<F: FileSystem> Server<F> {
     pub fn ask_masked(&mut self, asker: &Asker<'_>, mask: u16, call: &Call) -> Result<Reply, Errno>
         ensures { Does F.did self.old self.new (asks_masked (login_by asker.now) mask call.now) result }
     {
-        let login = login_of(self.alloc, &asker.caller, asker.status, asker.all_mapped)?;
+        let login = self.login(asker)?;
         Ok(self.call_masked(&login, mask, call))
     }
 }

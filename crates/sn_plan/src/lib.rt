@@ -12,6 +12,8 @@
 //! The parts of plans that messages share:
 //! - `asks` (`specs/Asking`): a call as who asks, which logs in, makes the call and logs out, whatever the call's reply is; where the login is
 //!   refused, its reply is that of the call ([`Server::ask`]). `asks_masked` also sets the umask of the message ([`Server::ask_masked`]).
+//! - `caller_of` and `maker_of` (`specs/Checking`): who asks is the sender of a message, or user 0 where the system has checked before; what is
+//!   made then is given to the sender ([`Checker`]).
 //! - `place_of` (`specs/Places`): the path of a node. A path is looked at before it is used: it has to lead user 0 to the node's own object.
 //!   Else the name that it was made of is forgotten, and the node's next one is tried ([`Server::place`], [`Server::path`],
 //!   [`Server::child`]).
@@ -22,7 +24,7 @@
 //! A refusal of memory is `ENOMEM`, and may come only where a plan takes some (`Takes`): never between a login and its logout. A look that
 //! fails ends a message with `EIO` or `ENOMEM`.
 //!
-//! The way through: `file_system` has the trait, `server` what is held, `asking` the calls, `looking` the looks, `places` the paths, `handles` the counts and the open files, `errors`
+//! The way through: `file_system` has the trait, `server` what is held, `checker` who checks, `asking` the calls, `looking` the looks, `places` the paths, `handles` the counts and the open files, `errors`
 //! and `replies` what calls answered, as a message's answer has it.
 //!
 //! What the sources leave open is decided in `docs/DECISIONS.md`, under "Plans of messages".
@@ -35,6 +37,7 @@
 #![tactic(auto)]
 
 mod asking;
+mod checker;
 mod errors;
 mod file_system;
 mod handles;
@@ -44,6 +47,7 @@ mod replies;
 mod server;
 
 pub use asking::{Asker, word};
+pub use checker::Checker;
 pub use errors::{LookFault, errno_of};
 pub use file_system::{FileSystem, Space};
 pub use replies::{done, status};

@@ -17,6 +17,8 @@ use Rattle.sn_model.specs.declared.end.End.TheVariants as ending
 use Rattle.sn_model.specs.declared.reply.Reply.{Reply}
 use Rattle.sn_model.specs.declared.reply.Reply.TheVariants as answer
 use Rattle.sn_command.specs.Tasks.{AsksFor}
+use Rattle.sn_command.specs.declared.command.Checker.{Checker as CheckerWord}
+use Rattle.sn_command.specs.declared.command.Checker.TheVariants as by
 use Rattle.sn_command.specs.declared.command.Task.{Task}
 use Rattle.sn_command.specs.declared.command.Task.TheVariants as task
 use Rattle.sn_script.specs.Replies.{reply_line}
@@ -24,6 +26,8 @@ use Rattle.sn_export_walk.specs.Streams.{BeginsStream, WritesStream}
 use Rattle.sn_output.specs.Outputs.{AppendsFront}
 use Rattle.sn_device.specs.Disk.{Disk}
 use Rattle.sn_mount_streams.specs.Told.{tells_anything}
+use Rattle.sn_plan.specs.declared.checker.Checker.{Checker}
+use Rattle.sn_plan.specs.declared.checker.Checker.TheVariants as checker
 use Rattle.sn_serve_image.specs.Serves.{IsServed}
 use Rattle.sn_serve_image.specs.declared.fault.ServeFault.{ServeFault}
 use Rattle.sn_program.specs.Answers.{AreEventsOf}
@@ -107,20 +111,25 @@ IsImported Done = Unit {0}
 IsImported InPart = Unit {0}
 IsImported came = ⊥
 
+-- who checks what messages may do, by the words of the command
+abbrev pub checker_of : CheckerWord → Bool → Checker
+checker_of by.Program maps_all = checker.Server maps_all
+checker_of by.Kernel maps_all = checker.System
+
 -- An image was mounted, and messages were answered by replies on the output, each by its plan, up to this outcome. Which messages came, which groups the system
 -- told of their senders, and what the image had, can't be said.
-pub record ServesMount (outcome : Result (Unit {0}) ServeFault) (old new : Option (List ℕ)) : Type 0 where
+pub record ServesMount (asked : CheckerWord) (outcome : Result (Unit {0}) ServeFault) (old new : Option (List ℕ)) : Type 0 where
   pub told : Bool
   pub maps_all : Bool
   pub input : Option (List ℕ)
   pub rest : Option (List ℕ)
   pub disk : Disk
   pub last : Disk
-  pub served : IsServed told tells_anything maps_all tt tt input rest old new outcome disk last
+  pub served : IsServed told tells_anything (checker_of asked maps_all) tt tt input rest old new outcome disk last
 
 -- nothing was written, or replies up to a fault
-abbrev pub BeginsToServe : Option (List ℕ) → Option (List ℕ) → Type 0
-BeginsToServe old new = (new ≡ old) ⊎ ((why : ServeFault) × ServesMount (Err why) old new)
+abbrev pub BeginsToServe : CheckerWord → Option (List ℕ) → Option (List ℕ) → Type 0
+BeginsToServe asked old new = (new ≡ old) ⊎ ((why : ServeFault) × ServesMount asked (Err why) old new)
 
 -- What a task that was done leaves on the output, by what came of it. Of which bytes a file had, and so of the replies of a run on one and of what a check finds in one, nothing can be said; an image that is made is answered by `ok`, an import by nothing, and the messages of a mount by their replies. A fault is reported of what was done only where that was to cut a run short.
 abbrev pub Leaves : Task → Ending → Option (List ℕ) → Option (List ℕ) → Type 0
@@ -130,7 +139,7 @@ Leaves (task.StopAt cut how image script out) came old new = ComesOfCopy how cam
 Leaves (task.Check image) came old new = SaysVerdict came old new
 Leaves (task.Export image path) came old new = (came ≡ Done) × WritesStream old new
 Leaves (task.Import image path) came old new = IsImported came × (new ≡ old)
-Leaves (task.Serve image) came old new = (came ≡ Done) × ServesMount (Ok tt) old new
+Leaves (task.Serve image asked) came old new = (came ≡ Done) × ServesMount asked (Ok tt) old new
 
 -- with a reported fault, or without one
 abbrev pub came_of : Option ProgramFault → Ending
@@ -153,7 +162,7 @@ Begins (task.StopAt cut how image script out) old new = BeginsOfCopy how old new
 Begins (task.Check image) old new = BeginsToSayVerdict old new
 Begins (task.Export image path) old new = BeginsStream old new
 Begins (task.Import image path) old new = Keeps old new
-Begins (task.Serve image) old new = BeginsToServe old new
+Begins (task.Serve image asked) old new = BeginsToServe asked old new
 
 -- nothing, or the front of what may be said to the words
 abbrev pub HasBegun : List (List ℕ) → Option (List ℕ) → Option (List ℕ) → Type 0

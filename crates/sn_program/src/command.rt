@@ -300,7 +300,7 @@ fn execute<
         },
         Task::Export { image, path } => quietly(export_on(rt, image, path, out), err),
         Task::Import { image, path } => import_on(rt, image, path, input, err),
-        Task::Serve { image } => quietly(serve_on(rt, image, input, out), err),
+        Task::Serve { image, checker } => quietly(serve_on(rt, image, checker, input, out), err),
     }
 }
 
@@ -381,7 +381,8 @@ pub fn refuse<E: Write, P: Write>(fault: ProgramFault, err: &mut E, person: &mut
 /// nothing on standard error.
 /// Proved: `export` writes a stream of members and its end, or with status 1 nothing or the front of one.
 /// Proved: `import` writes nothing on standard output, and with status 0 nothing on standard error: then all entries were made.
-/// Proved: `serve` writes replies to messages, each by its plan, and nothing where there was no mount.
+/// Proved: `serve` writes replies to messages, each by its plan, for which the kernel has checked exactly where the words say so, and nothing where there
+/// was no mount.
 /// Proved: K1 comes exactly where no disk has so many blocks.
 pub fn program<
     F: FileExt + OpenFile + LockFile + Read + Drop,

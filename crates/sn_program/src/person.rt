@@ -49,7 +49,7 @@ fn name_of<'a>(which: Which, task: Task<'a>) -> &'a str {
             | Task::Check { image }
             | Task::Export { image, .. }
             | Task::Import { image, .. }
-            | Task::Serve { image },
+            | Task::Serve { image, .. },
         ) => image,
         (Which::Script, Task::Run { script, .. } | Task::StopAt { script, .. }) => script,
         (Which::Saved, Task::StopAt { out, .. }) => out,
@@ -98,7 +98,8 @@ const COMMANDS: [&str; 8] = [
      FILL is old, new, zero, one or junk",
     "snapfs export IMAGE PATH: writes the tree at PATH of IMAGE to standard output, as a tar stream",
     "snapfs import IMAGE PATH: makes what the tar stream of standard input holds below the directory PATH of IMAGE",
-    "snapfs serve IMAGE: mounts IMAGE and answers the messages of a mount from standard input on standard output, until it is gone",
+    "snapfs serve IMAGE [kernel]: mounts IMAGE and answers the messages of a mount from standard input on standard output, until it is gone; \
+     with kernel, Linux checks what they may do",
     "README.md tells more, docs/SCRIPT.md has the calls, and docs/FAULTS.md what to do about a fault",
 ];
 

@@ -1,35 +1,49 @@
 //! Messages of a mount over an image.
-ghost use Rattle.std.specs.Prelude.{◌≢◌, Ok, IfErr, OnErr, OnOk};
-ghost use Rattle.sn_program.specs.Tasks.{BeginsToServe, ServesMount};
+ghost use Rattle.std.specs.Prelude.{◌≡◌, ◌≢◌, Ok, IfErr, OnErr, OnOk};
+ghost use Rattle.sn_program.specs.Tasks.{BeginsToServe, ServesMount, checker_of};
 ghost use Rattle.sn_program.specs.declared.fault.ProgramFault.TheVariants as fault;
 
 use crate::fault::{ProgramFault, Which, on_file};
+use sn_command::Checker as Asked;
 use sn_core::Device;
 use sn_filedev::{FileDevice, LockFile};
 use sn_mount_streams::{Requests, Senders, maps_all};
+use sn_plan::Checker;
 use sn_serve_image::{Served, serve_image};
 use std::fs::{Files, OpenFile};
 use std::io::{Read, Write};
 use std::os::unix::fs::FileExt;
 
+/// Who checks what messages may do.
+fn checker_of(asked: Asked, maps_all: bool) -> Checker
+    ensures { result ≡ checker_of asked maps_all }
+{
+    match asked {
+        Asked::Program => Checker::Server { maps_all },
+        Asked::Kernel => Checker::System,
+    }
+}
+
 /// Mounts what a device has, and answers the messages of an input, whose senders have the groups that the system tells.
 fn serve_from<D: Device + Drop, R: Files + AllocGlobal, I: Read, W: Write>(
     rt: &R,
     device: D,
+    asked: Asked,
     input: &mut I,
     out: &mut W,
 ) -> Result<(), ProgramFault>
-    ensures done { OnOk result (ServesMount (Ok tt) (W.contents out.old) (W.contents out.new)) }
-    ensures front { OnErr result (BeginsToServe (W.contents out.old) (W.contents out.new)) }
+    ensures done { OnOk result (ServesMount asked (Ok tt) (W.contents out.old) (W.contents out.new)) }
+    ensures front { OnErr result (BeginsToServe asked (W.contents out.old) (W.contents out.new)) }
     ensures words { IfErr result (λ why. why ≢ fault.Usage) }
 {
+    let checker = checker_of(asked, maps_all(rt));
     let mut senders = Senders::new(rt);
     let mut requests = Requests::of(&mut *input);
     let Served { outcome, .. } = serve_image(
         rt.alloc(),
         device,
         &mut senders,
-        maps_all(rt),
+        checker,
         &mut requests,
         out,
     );
@@ -45,11 +59,11 @@ pub(crate) fn serve_on<
     R: Files<File = F> + AllocGlobal,
     I: Read,
     W: Write,
->(rt: &R, image: &str, input: &mut I, out: &mut W) -> Result<(), ProgramFault>
-    ensures done { OnOk result (ServesMount (Ok tt) (W.contents out.old) (W.contents out.new)) }
-    ensures front { OnErr result (BeginsToServe (W.contents out.old) (W.contents out.new)) }
+>(rt: &R, image: &str, asked: Asked, input: &mut I, out: &mut W) -> Result<(), ProgramFault>
+    ensures done { OnOk result (ServesMount asked (Ok tt) (W.contents out.old) (W.contents out.new)) }
+    ensures front { OnErr result (BeginsToServe asked (W.contents out.old) (W.contents out.new)) }
     ensures words { IfErr result (λ why. why ≢ fault.Usage) }
 {
     let opened = FileDevice::open(rt.alloc(), rt, image);
-    serve_from(rt, on_file(Which::Image, opened)?, input, out)
+    serve_from(rt, on_file(Which::Image, opened)?, asked, input, out)
 }

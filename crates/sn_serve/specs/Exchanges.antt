@@ -1,26 +1,28 @@
 -- A message and its reply.
 use Rattle.std.specs.Prelude.{◌≡◌, ◌⊎◌, ◌==◌, ◌&&◌, ℕ, Bool, true, false, not, List, [], Option, None, Some, Result, if◌then◌else◌}
-use Rattle.sn_callers.specs.Logins.{login_of}
+use Rattle.sn_callers.specs.declared.login.Caller.{Caller}
 use Rattle.sn_fuse.specs.Message.{IsMisspelt, IsRequest, IsShort, IsUnknown}
 use Rattle.sn_fuse.specs.declared.message.Head.{Head}
 use Rattle.sn_fuse.specs.declared.operation.Op.{Op}
 use Rattle.sn_fuse.specs.declared.operation.Op.TheVariants.{BatchForget, Flush, Forget, Fsync, FsyncDir, Init, Interrupt, Read, ReadDir, Release, ReleaseDir, Statfs, Write}
+use Rattle.sn_fuse.specs.declared.operation.Time.{Time}
 use Rattle.sn_fuse_replies.specs.Answer.{reply_bytes}
 use Rattle.sn_fuse_replies.specs.declared.answer.Answer.{Answer}
 use Rattle.sn_fuse_replies.specs.declared.answer.Answer.TheVariants.{Error}
 use Rattle.sn_fuse_replies.specs.declared.errno.Errno.{Errno}
 use Rattle.sn_fuse_replies.specs.declared.errno.Errno.TheVariants.{EINVAL, EIO, ENOMEM, ENOSYS}
 use Rattle.sn_listings.specs.Told.{directory_at}
-use Rattle.sn_model.specs.declared.call.Call.{Call}
 use Rattle.sn_plan.specs.Acts.{Act}
-use Rattle.sn_serve.specs.Answers.{reply_of}
-use Rattle.sn_serve.specs.Messages.{Answers, acts_in}
+use Rattle.sn_plan.specs.Checking.{caller_of}
+use Rattle.sn_plan.specs.declared.checker.Checker.{Checker}
+use Rattle.sn_serve.specs.Answers.{holds_for, reply_of}
+use Rattle.sn_serve.specs.Messages.{Answers, acts_in, way_of}
 use Rattle.sn_serve.specs.declared.service.Service.{Service}
 use Rattle.sn_serve.specs.declared.told.Told.{Told}
 
--- the login of who sent a message, by what was told of its process
-abbrev pub login_by_head : Head → Option (List ℕ) → Bool → Result Call Errno
-login_by_head head text all_mapped = login_of (record { user = head.user; group = head.group }) text all_mapped
+-- who sent a message, as its head says
+abbrev pub sender_of : Head → Caller
+sender_of head = record { user = head.user; group = head.group }
 
 -- three have no reply
 abbrev pub has_reply : Op → Bool
@@ -30,17 +32,17 @@ has_reply (Interrupt unique) = false
 has_reply other = true
 
 -- what was told, or that memory was refused for that
-abbrev pub IsToldBy : Result Told Errno → Answer → Type 0
-IsToldBy told answer = (answer ≡ reply_of told) ⊎ (answer ≡ Error ENOMEM)
+abbrev pub IsToldBy : Time → Result Told Errno → Answer → Type 0
+IsToldBy last told answer = (answer ≡ reply_of last told) ⊎ (answer ≡ Error ENOMEM)
 
-abbrev pub IsReplyBy : Bool → Result Told Errno → Option Answer → Type 0
-IsReplyBy true told None = ⊥
-IsReplyBy true told (Some answer) = IsToldBy told answer
-IsReplyBy false told reply = reply ≡ None
+abbrev pub IsReplyBy : Bool → Time → Result Told Errno → Option Answer → Type 0
+IsReplyBy true last told None = ⊥
+IsReplyBy true last told (Some answer) = IsToldBy last told answer
+IsReplyBy false last told reply = reply ≡ None
 
--- the reply to a request that has one
-abbrev pub IsReply : Op → Result Told Errno → Option Answer → Type 0
-IsReply op told reply = IsReplyBy (has_reply op) told reply
+-- the reply to a request that has one, with how long attributes last
+abbrev pub IsReply : Time → Op → Result Told Errno → Option Answer → Type 0
+IsReply last op told reply = IsReplyBy (has_reply op) last told reply
 
 -- ---- the groups of who sent a request
 
@@ -61,32 +63,32 @@ asks (Init major minor readahead flags) = false
 asks (Interrupt unique) = false
 asks other = true
 
--- user 0 needs no groups
-abbrev pub needs_groups : Head → Op → Bool
-needs_groups head op = not (head.user == 0) && asks op
+-- user 0 needs no groups, and so nobody does where the system checks
+abbrev pub needs_groups : Checker → Head → Op → Bool
+needs_groups checker head op = not ((caller_of checker (sender_of head)).user == 0) && asks op
 
 abbrev pub IsTextBy : {P : Type 0} → (P → ℕ → Option (List ℕ) → P → Type 0) → Bool → ℕ → P → Option (List ℕ) → P → Type 0
 IsTextBy tells true process before text after = tells before process text after
 IsTextBy tells false process before text after = (text ≡ None) × (after ≡ before)
 
 -- the text that was told of its process, where groups are needed; else none, and nothing was asked for
-abbrev pub IsTextOf : {P : Type 0} → (P → ℕ → Option (List ℕ) → P → Type 0) → Head → Op → P → Option (List ℕ) → P → Type 0
-IsTextOf tells head op before text after = IsTextBy tells (needs_groups head op) head.process before text after
+abbrev pub IsTextOf : {P : Type 0} → (P → ℕ → Option (List ℕ) → P → Type 0) → Checker → Head → Op → P → Option (List ℕ) → P → Type 0
+IsTextOf tells checker head op before text after = IsTextBy tells (needs_groups checker head op) head.process before text after
 
--- A request is performed as one of who sent it.
+-- A request is performed as one of who sent it, or as user 0's where the system checks.
 pub record Performs {F P : Type 0} (did : F → F → List Act → Type 0) (tells : P → ℕ → Option (List ℕ) → P → Type 0) (head : Head) (op : Op) (old : Service F) (before : P) (new : Service F) (after : P)
     (told : Result Told Errno) : Type 0 where
   pub text : Option (List ℕ)
-  pub is_text : IsTextOf tells head op before text after
-  pub answers : Answers did (login_by_head head text old.maps_all) head.node old.server new.server (directory_at old.listings) (directory_at new.listings) op told
-  pub maps_all : new.maps_all ≡ old.maps_all
+  pub is_text : IsTextOf tells old.checker head op before text after
+  pub answers : Answers did (way_of old.checker (sender_of head) text) head.node old.server new.server (directory_at old.listings) (directory_at new.listings) op told
+  pub checker : new.checker ≡ old.checker
 
 -- and answered by what was told
 pub record IsAnswered {F P : Type 0} (did : F → F → List Act → Type 0) (tells : P → ℕ → Option (List ℕ) → P → Type 0) (head : Head) (op : Op) (old : Service F) (before : P) (new : Service F) (after : P)
     (reply : Option Answer) : Type 0 where
   pub told : Result Told Errno
   pub performs : Performs did tells head op old before new after told
-  pub told_reply : IsReply op told reply
+  pub told_reply : IsReply (holds_for old.checker) op told reply
 
 abbrev pub spelled : ℕ → Option Answer → List ℕ
 spelled unique None = []

@@ -1,6 +1,8 @@
 -- What is done for each message, and what it is answered.
+use Rattle.std.specs.Option.{option_copied}
 use Rattle.std.specs.Prelude.{◌≡◌, ℕ, List, Option, None, Some, Result, Ok, Err, IfOk, drop, min}
 use Rattle.sn_acl.specs.declared.entries.Entry.{Entry}
+use Rattle.sn_callers.specs.declared.login.Caller.{Caller}
 use Rattle.sn_fuse.specs.declared.operation.NewAttributes.{NewAttributes}
 use Rattle.sn_fuse.specs.declared.operation.Op.{Op}
 use Rattle.sn_fuse.specs.declared.operation.Op.TheVariants as op
@@ -15,8 +17,11 @@ use Rattle.sn_listings.specs.Held.{Changes, Directory, entries_of, node_of, unre
 use Rattle.sn_listings.specs.declared.entry.HeldEntry.{HeldEntry}
 use Rattle.sn_model.specs.declared.call.Call.{Call}
 use Rattle.sn_plan.specs.Acts.{Act}
+use Rattle.sn_plan.specs.Checking.{login_from, maker_of}
 use Rattle.sn_plan.specs.Follows.{Does}
 use Rattle.sn_plan.specs.Plans.{Gives, Plan, Refuses, given, ◌>>=◌}
+use Rattle.sn_plan.specs.declared.asking.Asker.{Asker}
+use Rattle.sn_plan.specs.declared.checker.Checker.{Checker}
 use Rattle.sn_plan.specs.declared.server.Server.{Server}
 use Rattle.sn_serve.specs.Answers.{done, told_as, told_in}
 use Rattle.sn_serve.specs.declared.entries.Entries.{Entries}
@@ -29,38 +34,51 @@ use Rattle.sn_serve_looks.specs.Room.{init}
 use Rattle.sn_serve_looks.specs.Xattrs.{IsRead}
 use Rattle.sn_serve_names.specs.Messages as names
 
+-- how a message is done: who checks, the login of who asks, and to whom is given what is made
+pub record Way : Type 0 where
+  pub checker : Checker
+  pub login : Result Call Errno
+  pub maker : Option Caller
+
+-- for a sender, with what was told of its process
+abbrev pub way_of : Checker → Caller → Option (List ℕ) → Way
+way_of checker sender text = record { checker = checker; login = login_from checker sender text; maker = maker_of checker sender }
+
+abbrev pub way_by : Asker → Way
+way_by asker = way_of asker.checker asker.sender (option_copied asker.status)
+
 -- what a SETATTR sets, and what the node is like then
 unfoldable pub setattr : Result Call Errno → ℕ → NewAttributes → Plan Attributes
 setattr login node new = files.set_attributes login node new >>= (λ _. looks.getattr login node)
 
--- The plan of a message of who asks, on a node. What is done is durable when it is answered, so nothing is left for a FLUSH or an FSYNC to do. Symbolic
+-- The plan of a message on a node. What is done is durable when it is answered, so nothing is left for a FLUSH or an FSYNC to do. Symbolic
 -- links aren't made.
-abbrev pub plan_of : Result Call Errno → ℕ → Op → Plan Told
-plan_of login node (op.Lookup name) = told_as told.Found (names.lookup login node name)
-plan_of login node (op.Forget lookups) = told_as done (looks.forget node lookups)
-plan_of login node (op.BatchForget forgets) = told_as done (looks.batch_forget forgets)
-plan_of login node (op.GetAttr flags handle) = told_as told.Known (looks.getattr login node)
-plan_of login node (op.SetAttr new) = told_as told.Known (setattr login node new)
-plan_of login node (op.Symlink name target) = Refuses EPERM
-plan_of login node (op.Mknod mode device umask name) = told_as told.Found (files.mknod login node name mode umask)
-plan_of login node (op.Mkdir mode umask name) = told_as told.Found (names.mkdir login node name mode umask)
-plan_of login node (op.Unlink name) = told_as done (names.unlink login node name)
-plan_of login node (op.Rmdir name) = told_as done (names.rmdir login node name)
-plan_of login node (op.Rename directory name other) = told_as done (names.rename login node name directory other (record { 0 = 0 }))
-plan_of login node (op.Rename2 directory flags name other) = told_as done (names.rename login node name directory other flags)
-plan_of login node (op.Link other name) = told_as told.Found (names.link login other node name)
-plan_of login node (op.Open flags) = told_as told.Handle (files.open_node login node flags)
-plan_of login node (op.Create flags mode umask name) = told_as told.Made (files.create login node name flags mode umask)
-plan_of login node (op.Read span) = told_as told.Content (files.read span.handle span.offset span.size)
-plan_of login node (op.Write handle offset flags bytes) = told_as told.Written (files.write handle offset bytes)
-plan_of login node (op.Release handle) = told_as done (files.release handle)
-plan_of login node op.Statfs = told_as told.Room looks.statfs
-plan_of login node (op.GetXattr size name) = told_as told.Value (looks.getxattr login node name size)
-plan_of login node (op.ListXattr size) = told_as told.Value (looks.listxattr login node size)
-plan_of login node (op.RemoveXattr name) = told_as done (looks.removexattr login node name)
-plan_of login node (op.Init major minor readahead flags) = given (told_in told.Begun (init major readahead flags))
-plan_of login node (op.Access mask) = told_as done (names.access login node mask)
-plan_of login node other = Gives told.Done
+abbrev pub plan_of : Way → ℕ → Op → Plan Told
+plan_of way node (op.Lookup name) = told_as told.Found (names.lookup way.login node name)
+plan_of way node (op.Forget lookups) = told_as done (looks.forget node lookups)
+plan_of way node (op.BatchForget forgets) = told_as done (looks.batch_forget forgets)
+plan_of way node (op.GetAttr flags handle) = told_as told.Known (looks.getattr way.login node)
+plan_of way node (op.SetAttr new) = told_as told.Known (setattr way.login node new)
+plan_of way node (op.Symlink name target) = Refuses EPERM
+plan_of way node (op.Mknod mode device umask name) = told_as told.Found (files.mknod way.login way.maker node name mode umask)
+plan_of way node (op.Mkdir mode umask name) = told_as told.Found (names.mkdir way.login way.maker node name mode umask)
+plan_of way node (op.Unlink name) = told_as done (names.unlink way.login node name)
+plan_of way node (op.Rmdir name) = told_as done (names.rmdir way.login node name)
+plan_of way node (op.Rename directory name other) = told_as done (names.rename way.login node name directory other (record { 0 = 0 }))
+plan_of way node (op.Rename2 directory flags name other) = told_as done (names.rename way.login node name directory other flags)
+plan_of way node (op.Link other name) = told_as told.Found (names.link way.login other node name)
+plan_of way node (op.Open flags) = told_as told.Handle (files.open_node way.login node flags)
+plan_of way node (op.Create flags mode umask name) = told_as told.Made (files.create way.login way.maker node name flags mode umask)
+plan_of way node (op.Read span) = told_as told.Content (files.read span.handle span.offset span.size)
+plan_of way node (op.Write handle offset flags bytes) = told_as told.Written (files.write handle offset bytes)
+plan_of way node (op.Release handle) = told_as done (files.release handle)
+plan_of way node op.Statfs = told_as told.Room looks.statfs
+plan_of way node (op.GetXattr size name) = told_as told.Value (looks.getxattr way.login node name size)
+plan_of way node (op.ListXattr size) = told_as told.Value (looks.listxattr way.login node size)
+plan_of way node (op.RemoveXattr name) = told_as done (looks.removexattr way.login node name)
+plan_of way node (op.Init major minor readahead flags) = given (told_in told.Begun (init way.checker major readahead flags))
+plan_of way node (op.Access mask) = told_as done (names.access way.login node mask)
+plan_of way node other = Gives told.Done
 
 -- ---- open directories, which are held besides
 
@@ -80,17 +98,17 @@ abbrev pub listing_room : ℕ → ℕ
 listing_room size = min size 65536
 
 -- The plan of a message. That of a SETXATTR is of the ACL that its value spells, if it spells one. Those of open directories are apart.
-abbrev pub IsPlanOf : Result Call Errno → ℕ → Op → Plan Told → Type 0
-IsPlanOf login node (op.SetXattr flags name value) p = (read : Option (List Entry)) × IsRead value read × (p ≡ told_as done (looks.setxattr login node name read))
-IsPlanOf login node (op.OpenDir flags) p = ⊥
-IsPlanOf login node (op.ReadDir span) p = ⊥
-IsPlanOf login node (op.ReleaseDir handle) p = ⊥
-IsPlanOf login node other p = p ≡ plan_of login node other
+abbrev pub IsPlanOf : Way → ℕ → Op → Plan Told → Type 0
+IsPlanOf way node (op.SetXattr flags name value) p = (read : Option (List Entry)) × IsRead value read × (p ≡ told_as done (looks.setxattr way.login node name read))
+IsPlanOf way node (op.OpenDir flags) p = ⊥
+IsPlanOf way node (op.ReadDir span) p = ⊥
+IsPlanOf way node (op.ReleaseDir handle) p = ⊥
+IsPlanOf way node other p = p ≡ plan_of way node other
 
 -- it was followed
-pub record Follows {F : Type 0} (did : F → F → List Act → Type 0) (login : Result Call Errno) (node : ℕ) (op : Op) (old new : Server F) (r : Result Told Errno) : Type 0 where
+pub record Follows {F : Type 0} (did : F → F → List Act → Type 0) (way : Way) (node : ℕ) (op : Op) (old new : Server F) (r : Result Told Errno) : Type 0 where
   pub plan : Plan Told
-  pub is : IsPlanOf login node op plan
+  pub is : IsPlanOf way node op plan
   pub does : Does did old new plan r
 
 -- without what it gives
@@ -107,22 +125,22 @@ pub record Lists {F : Type 0} (did : F → F → List Act → Type 0) (span : Sp
   pub entries : IfOk r (λ entries. entries.listing.bytes ≡ fitting (listing_room span.size) span.offset (drop span.offset (entries_of (after span.handle))))
 
 -- a directory that was opened has a handle that none had
-pub record OpensDirectory {F : Type 0} (did : F → F → List Act → Type 0) (login : Result Call Errno) (node : ℕ) (old new : Server F) (before after : Held) (r : Result Opened Errno) : Type 0 where
+pub record OpensDirectory {F : Type 0} (did : F → F → List Act → Type 0) (way : Way) (node : ℕ) (old new : Server F) (before after : Held) (r : Result Opened Errno) : Type 0 where
   pub handle : ℕ
-  pub does : Does did old new (opendir login node handle) r
+  pub does : Does did old new (opendir way.login node handle) r
   pub opened : IsOpened before after node r
 
 -- A message was answered: its plan was followed, and what is held of open directories is what it says.
-pub data Answers {F : Type 0} (did : F → F → List Act → Type 0) (login : Result Call Errno) (node : ℕ) (old new : Server F) (before after : Held) : Op → Result Told Errno → Type 0 where
-  follows : {op : Op} {r : Result Told Errno} → Follows did login node op old new r → Keeps before after → Answers did login node old new before after op r
-  opens : {flags : OpenFlags} {r : Result Opened Errno} → OpensDirectory did login node old new before after r → Answers did login node old new before after (op.OpenDir flags) (told_in told.Handle r)
-  lists : {span : Span} {r : Result Entries Errno} → Lists did span old new before after r → Answers did login node old new before after (op.ReadDir span) (told_in told.Listed r)
+pub data Answers {F : Type 0} (did : F → F → List Act → Type 0) (way : Way) (node : ℕ) (old new : Server F) (before after : Held) : Op → Result Told Errno → Type 0 where
+  follows : {op : Op} {r : Result Told Errno} → Follows did way node op old new r → Keeps before after → Answers did way node old new before after op r
+  opens : {flags : OpenFlags} {r : Result Opened Errno} → OpensDirectory did way node old new before after r → Answers did way node old new before after (op.OpenDir flags) (told_in told.Handle r)
+  lists : {span : Span} {r : Result Entries Errno} → Lists did span old new before after r → Answers did way node old new before after (op.ReadDir span) (told_in told.Listed r)
   closes : {handle : ℕ} {r : Result (Unit {0}) Errno} → Does did old new (releasedir (node_of (before handle))) r → Changes before after handle None
-      → Answers did login node old new before after (op.ReleaseDir handle) (told_in done r)
+      → Answers did way node old new before after (op.ReleaseDir handle) (told_in done r)
 
 -- what was done for it
-abbrev pub acts_in : {F : Type 0} {did : F → F → List Act → Type 0} {login : Result Call Errno} {node : ℕ} {old new : Server F} {before after : Held} {op : Op} {r : Result Told Errno}
-    → Answers did login node old new before after op r → List Act
+abbrev pub acts_in : {F : Type 0} {did : F → F → List Act → Type 0} {way : Way} {node : ℕ} {old new : Server F} {before after : Held} {op : Op} {r : Result Told Errno}
+    → Answers did way node old new before after op r → List Act
 acts_in (follows f keeps) = f.does.goes.acts
 acts_in (opens o) = o.does.goes.acts
 acts_in (lists l) = l.does.goes.acts

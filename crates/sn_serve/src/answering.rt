@@ -9,11 +9,11 @@ ghost use Rattle.sn_serve.specs.Exchanges.{IsExchange, IsRefusal, IsReply, IsTex
 use crate::performing::perform;
 use crate::processes::Processes;
 use crate::service::Service;
-use crate::told::{Told, encode_reply};
+use crate::told::{Told, encode_reply, holds_for};
 use sn_callers::Caller;
-use sn_fuse::{Decoded, Head, Op, decode};
+use sn_fuse::{Decoded, Head, Op, Time, decode};
 use sn_fuse_replies::{Answer, Errno, encode};
-use sn_plan::{Asker, FileSystem};
+use sn_plan::{Asker, Checker, FileSystem};
 use std::alloc::AllocError;
 
 fn has_reply(op: &Op<'_>) -> bool
@@ -48,18 +48,32 @@ fn asks(op: &Op<'_>) -> bool
     )
 }
 
-// Whether the groups of who asks are needed. Those of user 0 aren't looked at.
-fn needs_groups(head: &Head, op: &Op<'_>) -> bool
-    ensures { result ≡ exchanges.needs_groups head.now op.now }
+fn sender_of(head: &Head) -> Caller
+    ensures { result ≡ exchanges.sender_of head.now }
 {
-    head.user != 0 && asks(op)
+    Caller {
+        user: head.user,
+        group: head.group,
+    }
+}
+
+// Whether the groups of who asks are needed. Those of user 0 aren't looked at.
+fn needs_groups(checker: Checker, head: &Head, op: &Op<'_>) -> bool
+    ensures { result ≡ exchanges.needs_groups checker head.now op.now }
+{
+    checker.caller(sender_of(head)).user != 0 && asks(op)
 }
 
 // The text that tells the groups of who asks, where they are needed.
-fn status_of<P: Processes>(processes: &mut P, head: &Head, op: &Op<'_>) -> Option<Vec<u8>>
-    ensures { IsTextOf P.tells head.now op.now processes.old (option_map vec_items result) processes.new }
+fn status_of<P: Processes>(
+    processes: &mut P,
+    checker: Checker,
+    head: &Head,
+    op: &Op<'_>,
+) -> Option<Vec<u8>>
+    ensures { IsTextOf P.tells checker head.now op.now processes.old (option_map vec_items result) processes.new }
 {
-    if needs_groups(head, op) {
+    if needs_groups(checker, head, op) {
         processes.status(head.process)
     } else {
         None
@@ -74,7 +88,7 @@ fn refuse(out: &mut Vec<u8>, unique: u64, errno: Errno) -> Result<(), AllocError
     encode(out, unique, &Answer::Error { errno })
 }
 
-// Does what a request asks for, as who sent it.
+// Does what a request asks for, as who sent it, or where the system checks as user 0.
 fn perform_as<F: FileSystem, P: Processes>(
     service: &mut Service<F>,
     processes: &mut P,
@@ -83,14 +97,11 @@ fn perform_as<F: FileSystem, P: Processes>(
 ) -> Result<Told, Errno>
     ensures { Performs F.did P.tells head.now op.now service.old processes.old service.new processes.new result }
 {
-    let status = status_of(processes, head, op);
+    let status = status_of(processes, service.checker, head, op);
     let asker = Asker {
-        caller: Caller {
-            user: head.user,
-            group: head.group,
-        },
+        checker: service.checker,
+        sender: sender_of(head),
         status: status.as_deref(),
-        all_mapped: service.maps_all,
     };
     perform(
         &mut service.server,
@@ -102,10 +113,15 @@ fn perform_as<F: FileSystem, P: Processes>(
 }
 
 // Appends the reply of what is told, or that there was no memory for it.
-fn reply_told(out: &mut Vec<u8>, unique: u64, told: &Result<Told, Errno>) -> Result<(), AllocError>
-    ensures { (answer : TheAnswer) × IsToldBy told.now answer × OnOk result (out.new.items ≡ out.old.items ++ reply_bytes unique answer) }
+fn reply_told(
+    out: &mut Vec<u8>,
+    unique: u64,
+    last: Time,
+    told: &Result<Told, Errno>,
+) -> Result<(), AllocError>
+    ensures { (answer : TheAnswer) × IsToldBy last told.now answer × OnOk result (out.new.items ≡ out.old.items ++ reply_bytes unique answer) }
 {
-    match encode_reply(out, unique, told) {
+    match encode_reply(out, unique, last, told) {
         Ok(()) => Ok(()),
         Err(_) => refuse(out, unique, Errno::ENOMEM),
     }
@@ -116,12 +132,13 @@ fn reply(
     out: &mut Vec<u8>,
     head: &Head,
     op: &Op<'_>,
+    last: Time,
     told: &Result<Told, Errno>,
 ) -> Result<(), AllocError>
-    ensures { (reply : Option TheAnswer) × IsReply op.now told.now reply × OnOk result (out.new.items ≡ out.old.items ++ spelled head.now.unique reply) }
+    ensures { (reply : Option TheAnswer) × IsReply last op.now told.now reply × OnOk result (out.new.items ≡ out.old.items ++ spelled head.now.unique reply) }
 {
     if has_reply(op) {
-        reply_told(out, head.unique, told)
+        reply_told(out, head.unique, last, told)
     } else {
         Ok(())
     }
@@ -153,6 +170,9 @@ pub fn refuse_message(message: &[u8], out: &mut Vec<u8>) -> Result<(), AllocErro
 /// Proved: A message is answered once, with its own number: an unknown operation with `ENOSYS`, a misspelt one with `EINVAL`, and a request by
 /// what its plan asks for, as the user and group in its head, with the groups that are told of its process; a FORGET and an INTERRUPT have no
 /// reply. Nothing is asked of a process where user 0 sends the request, or where nothing is done as its sender.
+///
+/// Proved: Where the system checks, each call is user 0's, what is made is given to the user and group in the head, nothing is asked of a process, and
+/// attributes may be held for a year; where the server does, they may not be held.
 pub fn answer<F: FileSystem, P: Processes>(
     service: &mut Service<F>,
     processes: &mut P,
@@ -167,6 +187,7 @@ pub fn answer<F: FileSystem, P: Processes>(
         Decoded::Misspelt { head } => return refuse(out, head.unique, Errno::EINVAL),
         Decoded::Request { head, op } => (head, op),
     };
+    let last = holds_for(service.checker);
     let told = perform_as(service, processes, &head, &op);
-    reply(out, &head, &op, &told)
+    reply(out, &head, &op, last, &told)
 }

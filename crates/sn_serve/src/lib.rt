@@ -5,9 +5,10 @@
 //! `IsExchange` (`specs/Exchanges`) is what [`answer`] does with the bytes of a message: which requests they spell is for `sn_fuse`, and how a
 //! reply is spelled for `sn_fuse_replies`.
 //!
-//! A request is made as its sender: user and group are those in the head of the message, and the groups are read from the text that
-//! [`Processes`] gives of the sender's process. `tells`, a relation of that trait, says which text that may be. It is asked for once for each
-//! request that needs it, so no text is used for a second one.
+//! Who checks is of the whole mount (`Checker` of `sn_plan`). Where the server does, a request is made as its sender: user and group are those
+//! in the head of the message, and the groups are read from the text that [`Processes`] gives of the sender's process. `tells`, a relation of
+//! that trait, says which text that may be. It is asked for once for each request that needs it, so no text is used for a second one. Where the
+//! system checks, a request is made as user 0, and no text is asked for.
 //!
 //! The way through: `groups` and `performing` do what a request asks for, `told` is what it is answered with, and `answering` has the
 //! message and the reply. `service` is what is held, and `processes` who tells of senders.

@@ -2,15 +2,12 @@
 ghost use Rattle.std.specs.Prelude.{◌≡◌};
 ghost use Rattle.sn_listings.specs.Told.{directory_at};
 ghost use Rattle.sn_plan.specs.Asking.{login_by};
-ghost use Rattle.std.specs.Prelude.{Result};
 ghost use Rattle.sn_plan.specs.Follows.{Does};
 ghost use Rattle.sn_serve.specs.Answers as answers;
 ghost use Rattle.sn_serve.specs.Answers.{told_as};
 ghost use Rattle.sn_serve.specs.Groups.{group_of};
 ghost use Rattle.sn_serve.specs.Messages as messages;
-ghost use Rattle.sn_serve.specs.Messages.{Answers, Follows, Lists};
-ghost use Rattle.sn_fuse_replies.specs.declared.errno.Errno.{Errno as TheErrno};
-ghost use Rattle.sn_model.specs.declared.call.Call.{Call as TheCall};
+ghost use Rattle.sn_serve.specs.Messages.{Answers, Follows, Lists, way_by};
 ghost use Rattle.sn_serve.specs.declared.groups.Group.TheVariants as group;
 ghost use Rattle.sn_serve.specs.declared.told.Told.TheVariants as told;
 
@@ -102,7 +99,7 @@ fn on_names<F: FileSystem>(
     op: &Op<'_>,
 ) -> Result<Told, Errno>
     requires { group_of op.now ≡ group.Names }
-    ensures { Follows F.did (login_by asker.now) node op.now server.old server.new result }
+    ensures { Follows F.did (way_by asker.now) node op.now server.old server.new result }
 {
     match op {
         Op::Lookup { name } => found(lookup(server, asker, node, name.as_bytes())),
@@ -143,7 +140,7 @@ fn on_files<F: FileSystem>(
     op: &Op<'_>,
 ) -> Result<Told, Errno>
     requires { group_of op.now ≡ group.Files }
-    ensures { Follows F.did (login_by asker.now) node op.now server.old server.new result }
+    ensures { Follows F.did (way_by asker.now) node op.now server.old server.new result }
 {
     match op {
         Op::Mknod {
@@ -192,7 +189,7 @@ fn on_attributes<F: FileSystem>(
     op: &Op<'_>,
 ) -> Result<Told, Errno>
     requires { group_of op.now ≡ group.Attributes }
-    ensures { Follows F.did (login_by asker.now) node op.now server.old server.new result }
+    ensures { Follows F.did (way_by asker.now) node op.now server.old server.new result }
 {
     match op {
         Op::GetAttr { .. } => known(getattr(server, asker, node)),
@@ -231,7 +228,7 @@ fn on_directories<F: FileSystem>(
     op: &Op<'_>,
 ) -> Result<Told, Errno>
     requires { group_of op.now ≡ group.Directories }
-    ensures { Answers F.did (login_by asker.now) node server.old server.new (directory_at listings.old) (directory_at listings.new) op.now result }
+    ensures { Answers F.did (way_by asker.now) node server.old server.new (directory_at listings.old) (directory_at listings.new) op.now result }
 {
     match op {
         Op::OpenDir { .. } => handle(opendir(server, listings, asker, node)),
@@ -242,9 +239,14 @@ fn on_directories<F: FileSystem>(
 }
 
 /// Answers a message on no node, or that forgets it, and one for which nothing is done.
-fn on_mount<F: FileSystem>(server: &mut Server<F>, node: u64, op: &Op<'_>) -> Result<Told, Errno>
+fn on_mount<F: FileSystem>(
+    server: &mut Server<F>,
+    asker: &Asker<'_>,
+    node: u64,
+    op: &Op<'_>,
+) -> Result<Told, Errno>
     requires { group_of op.now ≡ group.Mount }
-    ensures { (login : Result TheCall TheErrno) → Follows F.did login node op.now server.old server.new result }
+    ensures { Follows F.did (way_by asker.now) node op.now server.old server.new result }
 {
     match op {
         Op::Forget { lookups } => done(Ok(forget(server, node, *lookups))),
@@ -255,7 +257,7 @@ fn on_mount<F: FileSystem>(server: &mut Server<F>, node: u64, op: &Op<'_>) -> Re
             readahead,
             flags,
             ..
-        } => begun(init(*major, *readahead, *flags)),
+        } => begun(init(asker.checker, *major, *readahead, *flags)),
         Op::Flush { .. } => Ok(Told::Done),
         Op::Fsync { .. } => Ok(Told::Done),
         Op::FsyncDir { .. } => Ok(Told::Done),
@@ -274,13 +276,13 @@ pub(crate) fn perform<F: FileSystem>(
     node: u64,
     op: &Op<'_>,
 ) -> Result<Told, Errno>
-    ensures { Answers F.did (login_by asker.now) node server.old server.new (directory_at listings.old) (directory_at listings.new) op.now result }
+    ensures { Answers F.did (way_by asker.now) node server.old server.new (directory_at listings.old) (directory_at listings.new) op.now result }
 {
     match group_of(op) {
         Group::Names => on_names(server, asker, node, op),
         Group::Files => on_files(server, asker, node, op),
         Group::Attributes => on_attributes(server, asker, node, op),
         Group::Directories => on_directories(server, listings, asker, node, op),
-        Group::Mount => on_mount(server, node, op),
+        Group::Mount => on_mount(server, asker, node, op),
     }
 }

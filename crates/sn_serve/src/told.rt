@@ -1,6 +1,7 @@
 //! What a message is answered with, until it is spelled.
 ghost use Rattle.std.specs.Prelude.{◌≡◌, ◌++◌, ◌≤◌, ◌^◌, length, true, OnOk, OnErr};
 ghost use Rattle.sn_fuse_replies.specs.Answer.{reply_bytes, tail_of};
+ghost use Rattle.sn_fuse.specs.declared.operation.Time.{Time as TheTime};
 ghost use Rattle.sn_serve.specs.Answers as answers;
 
 use crate::entries::Entries;
@@ -9,8 +10,10 @@ use sn_fuse_replies::{
     Answer, Attributes, Entry, Errno, Initialized, Listing, Opened, Statistics, encode,
 };
 use sn_model::FileData;
+use sn_plan::Checker;
 use sn_serve_files::Created;
 use sn_serve_looks::Xattr;
+use sn_serve_names::{NO_TIME, YEAR};
 use std::alloc::AllocError;
 
 /// What a message is answered with where it is done.
@@ -40,10 +43,24 @@ pub enum Told {
 /// The most bytes of data that an answer has. No read gives more than 65,536.
 const DATA_MAX: usize = 1 << 20;
 
-const NO_TIME: Time = Time {
-    seconds: 0,
-    nanoseconds: 0,
-};
+/// For how long the system may hold attributes: a year where it checks by them, since all that changes them comes from it; else not at all.
+pub(crate) fn holds_for(checker: Checker) -> Time
+    ensures { result ≡ answers.holds_for checker }
+{
+    match checker {
+        Checker::Server { .. } => NO_TIME,
+        Checker::System => YEAR,
+    }
+}
+
+fn lasting(last: Time, entry: Entry) -> Entry
+    ensures { result ≡ answers.lasting last entry }
+{
+    Entry {
+        attributes_last: last,
+        ..entry
+    }
+}
 
 fn xattr_answer(xattr: &Xattr) -> Answer<'_>
     ensures { result ≡ answers.xattr_answer xattr.now }
@@ -56,19 +73,21 @@ fn xattr_answer(xattr: &Xattr) -> Answer<'_>
     }
 }
 
-fn answer_of(told: &Told) -> Answer<'_>
-    ensures { result ≡ answers.answer_of told.now }
+fn answer_of(last: Time, told: &Told) -> Answer<'_>
+    ensures { result ≡ answers.answer_of last told.now }
 {
     match told {
         Told::Done => Answer::Nothing,
-        Told::Found(entry) => Answer::Entry { entry: *entry },
+        Told::Found(entry) => Answer::Entry {
+            entry: lasting(last, *entry),
+        },
         Told::Known(attributes) => Answer::Attributes {
-            last: NO_TIME,
+            last,
             attributes: *attributes,
         },
         Told::Handle(opened) => Answer::Opened { opened: *opened },
         Told::Made(created) => Answer::Created {
-            entry: created.entry,
+            entry: lasting(last, created.entry),
             opened: created.opened,
         },
         Told::Content(bytes) => Answer::Data {
@@ -88,11 +107,11 @@ fn answer_of(told: &Told) -> Answer<'_>
     }
 }
 
-fn reply_of(told: &Result<Told, Errno>) -> Answer<'_>
-    ensures { result ≡ answers.reply_of told.now }
+fn reply_of(last: Time, told: &Result<Told, Errno>) -> Answer<'_>
+    ensures { result ≡ answers.reply_of last told.now }
 {
     match told {
-        Ok(told) => answer_of(told),
+        Ok(told) => answer_of(last, told),
         Err(errno) => Answer::Error { errno: *errno },
     }
 }
@@ -107,7 +126,7 @@ fn is_small(entries: &Entries) -> bool
 
 // Whether all data fits. No read gives more than 65,536 bytes, and no listing has more.
 fn told_fits(told: &Told) -> bool
-    ensures { result ≡ true → length (tail_of (answers.answer_of told.now)) ≤ 2 ^ 31 }
+    ensures { result ≡ true → (last : TheTime) → length (tail_of (answers.answer_of last told.now)) ≤ 2 ^ 31 }
 {
     match told {
         Told::Content(bytes) => bytes.as_bytes().len() <= DATA_MAX,
@@ -126,7 +145,7 @@ fn told_fits(told: &Told) -> bool
 }
 
 fn fits(told: &Result<Told, Errno>) -> bool
-    ensures { result ≡ true → length (tail_of (answers.reply_of told.now)) ≤ 2 ^ 31 }
+    ensures { result ≡ true → (last : TheTime) → length (tail_of (answers.reply_of last told.now)) ≤ 2 ^ 31 }
 {
     match told {
         Ok(told) => told_fits(told),
@@ -134,18 +153,19 @@ fn fits(told: &Result<Told, Errno>) -> bool
     }
 }
 
-/// Appends the reply of what is told. Without memory for it the buffer stays as it was; data of over a megabyte, which no read gives, are
+/// Appends the reply of what is told, with how long attributes last. Without memory for it the buffer stays as it was; data of over a megabyte, which no read gives, are
 /// refused in the same way.
 pub(crate) fn encode_reply(
     out: &mut Vec<u8>,
     unique: u64,
+    last: Time,
     told: &Result<Told, Errno>,
 ) -> Result<(), AllocError>
-    ensures ok { OnOk result (out.new.items ≡ out.old.items ++ reply_bytes unique (answers.reply_of told.now)) }
+    ensures ok { OnOk result (out.new.items ≡ out.old.items ++ reply_bytes unique (answers.reply_of last told.now)) }
     ensures err { OnErr result (out.new.items ≡ out.old.items) }
 {
     if !fits(told) {
         return Err(AllocError);
     }
-    encode(out, unique, &reply_of(told))
+    encode(out, unique, &reply_of(last, told))
 }

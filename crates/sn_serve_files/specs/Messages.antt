@@ -1,6 +1,7 @@
 -- The plan of each message on files.
 use Rattle.std.specs.Prelude.{ℕ, ◌%◌, ◌||◌, Bool, List, Option, None, Some, Result, Ok, Err, is_some, min, if◌then◌else◌}
 use Rattle.sn_callers.specs.Sessions.{session_of}
+use Rattle.sn_callers.specs.declared.login.Caller.{Caller}
 use Rattle.sn_callers.specs.declared.open_files.OpenFile.{OpenFile}
 use Rattle.sn_fuse.specs.declared.operation.NewAttributes.{NewAttributes}
 use Rattle.sn_fuse_flags.specs.declared.OpenFlags.{OpenFlags}
@@ -21,7 +22,7 @@ use Rattle.sn_serve_files.specs.Flags.{asked, file_of, is_regular, making, makin
 use Rattle.sn_serve_files.specs.Replies.{content, number, numbered, sought}
 use Rattle.sn_serve_files.specs.declared.creating.Created.{Created}
 use Rattle.sn_serve_names.specs.Entries.{made_at, met_at, status_at}
-use Rattle.sn_serve_names.specs.Messages.{takes}
+use Rattle.sn_serve_names.specs.Messages.{gives_owner, takes}
 use Rattle.sn_serve_names.specs.Names.{NamedPath, child_of}
 
 -- ---- OPEN
@@ -79,23 +80,29 @@ opens_made handle parent child was_there flags = Takes (do
   reply ← opens handle child.path flags
   keeps_made handle entry (number reply))
 
-unfoldable pub create : Result Call Errno → ℕ → List ℕ → OpenFlags → ℕ → ℕ → Plan Created
-create login parent name flags mode umask = do
+-- what was there has an owner
+abbrev pub gives_new : Option Caller → ℕ → NamedPath → Bool → Plan (Unit {0})
+gives_new maker parent child was_there = if was_there then Gives tt else gives_owner maker parent child.path
+
+unfoldable pub create : Result Call Errno → Option Caller → ℕ → List ℕ → OpenFlags → ℕ → ℕ → Plan Created
+create login maker parent name flags mode umask = do
   handle ← vacant
   child ← child_of parent name
   found ← finds child.path
   _ ← makes_file login child (making flags) mode umask
+  _ ← gives_new maker parent child (is_some found)
   opens_made handle parent child (is_some found) (owned flags)
 
-unfoldable pub makes_node : Result Call Errno → ℕ → List ℕ → ℕ → ℕ → Plan Entry
-makes_node login parent name mode umask = do
+unfoldable pub makes_node : Result Call Errno → Option Caller → ℕ → List ℕ → ℕ → ℕ → Plan Entry
+makes_node login maker parent name mode umask = do
   child ← child_of parent name
   _ ← makes_file login child making_new mode umask
+  _ ← gives_owner maker parent child.path
   made_at parent child
 
 -- only a regular file is made
-unfoldable pub mknod : Result Call Errno → ℕ → List ℕ → ℕ → ℕ → Plan Entry
-mknod login parent name mode umask = if is_regular mode then makes_node login parent name mode umask else Refuses EPERM
+unfoldable pub mknod : Result Call Errno → Option Caller → ℕ → List ℕ → ℕ → ℕ → Plan Entry
+mknod login maker parent name mode umask = if is_regular mode then makes_node login maker parent name mode umask else Refuses EPERM
 
 -- ---- READ, WRITE, RELEASE
 

@@ -1,6 +1,6 @@
 //! Files that are made.
 ghost use Rattle.std.specs.Prelude.{◌≡◌, ◌<◌};
-ghost use Rattle.sn_plan.specs.Asking.{login_by};
+ghost use Rattle.sn_plan.specs.Asking.{login_by, maker_by};
 ghost use Rattle.sn_plan.specs.Follows.{Does};
 ghost use Rattle.sn_serve_files.specs.Messages as messages;
 
@@ -12,7 +12,7 @@ use sn_fuse_flags::OpenFlags;
 use sn_fuse_replies::{Entry, Errno, Opened};
 use sn_model::{Call, OpenFlags as CallFlags};
 use sn_plan::{Asker, FileSystem, Server, word};
-use sn_serve_names::{Child, child_of, made_at, met_at, status_at};
+use sn_serve_names::{Child, child_of, give_owner, made_at, met_at, status_at};
 
 /// How many modes the permission bits make.
 const MODES: u32 = 512;
@@ -106,11 +106,28 @@ fn open_made<F: FileSystem>(
     keep_made(server, handle, entry, number(&reply))
 }
 
+/// Gives a file to its maker, if it wasn't there already.
+fn give_new<F: FileSystem>(
+    server: &mut Server<F>,
+    asker: &Asker<'_>,
+    parent: u64,
+    child: &Child,
+    was_there: bool,
+) -> Result<(), Errno>
+    ensures { Does F.did server.old server.new (messages.gives_new (maker_by asker.now) parent child.now was_there) result }
+{
+    if was_there {
+        Ok(())
+    } else {
+        give_owner(server, asker, parent, child.path())
+    }
+}
+
 /// CREATE: makes a file, or without O_EXCL opens the one that is there, and opens it. `ENFILE` where 4,032 are open, before any call is made.
 /// Of the mode and the umask the permission bits count.
 ///
 /// Proved: CREATE is an open as who asks that makes the file, with the umask of its message, by a path whose directory was looked at, and then
-/// one of user 0 as for OPEN. A file that was made gets an id that was never given; where user 0's open is refused, no lookup is counted.
+/// one of user 0 as for OPEN. A file that user 0 made for somebody is given to them; one that was made gets an id that was never given; where user 0's open is refused, no lookup is counted.
 pub fn create<F: FileSystem>(
     server: &mut Server<F>,
     asker: &Asker<'_>,
@@ -120,20 +137,15 @@ pub fn create<F: FileSystem>(
     mode: u32,
     umask: u32,
 ) -> Result<Created, Errno>
-    ensures { Does F.did server.old server.new (messages.create (login_by asker.now) parent name.now flags mode umask) result }
+    ensures { Does F.did server.old server.new (messages.create (login_by asker.now) (maker_by asker.now) parent name.now flags mode umask) result }
 {
     let handle = server.vacant()?;
     let child = child_of(server, parent, name)?;
     let found = server.find(child.path())?;
+    let was_there = found.is_some();
     make_file(server, asker, &child, making(flags), mode, umask)?;
-    open_made(
-        server,
-        handle,
-        parent,
-        &child,
-        found.is_some(),
-        owned(flags),
-    )
+    give_new(server, asker, parent, &child, was_there)?;
+    open_made(server, handle, parent, &child, was_there, owned(flags))
 }
 
 /// Makes a file that isn't there.
@@ -145,17 +157,18 @@ fn make_node<F: FileSystem>(
     mode: u32,
     umask: u32,
 ) -> Result<Entry, Errno>
-    ensures { Does F.did server.old server.new (messages.makes_node (login_by asker.now) parent name.now mode umask) result }
+    ensures { Does F.did server.old server.new (messages.makes_node (login_by asker.now) (maker_by asker.now) parent name.now mode umask) result }
 {
     let child = child_of(server, parent, name)?;
     make_file(server, asker, &child, making_new(), mode, umask)?;
+    give_owner(server, asker, parent, child.path())?;
     made_at(server, parent, &child)
 }
 
 /// MKNOD: makes a regular file. `EPERM` for what else the mode asks for.
 ///
 /// Proved: MKNOD of a regular file is one open as who asks that makes it, with the umask of its message, by a path whose directory was looked
-/// at; nothing else is made.
+/// at; nothing else is made. One that user 0 made for somebody is given to them.
 pub fn mknod<F: FileSystem>(
     server: &mut Server<F>,
     asker: &Asker<'_>,
@@ -164,7 +177,7 @@ pub fn mknod<F: FileSystem>(
     mode: u32,
     umask: u32,
 ) -> Result<Entry, Errno>
-    ensures { Does F.did server.old server.new (messages.mknod (login_by asker.now) parent name.now mode umask) result }
+    ensures { Does F.did server.old server.new (messages.mknod (login_by asker.now) (maker_by asker.now) parent name.now mode umask) result }
 {
     if is_regular(mode) {
         make_node(server, asker, parent, name, mode, umask)

@@ -8,7 +8,7 @@ ghost use Rattle.sn_serve_files.specs.Replies as replies;
 use crate::flags::to_write;
 use crate::opening::open_call;
 use crate::replies::number;
-use sn_callers::{ASKER, OpenFile, login_of, session_of};
+use sn_callers::{ASKER, OpenFile, session_of};
 use sn_fuse_replies::Errno;
 use sn_model::{Call, Reply};
 use sn_plan::{Asker, FileSystem, Server, done, word};
@@ -53,7 +53,7 @@ fn ask_size<F: FileSystem>(
 ) -> Result<Reply, Errno>
     ensures { Does F.did server.old server.new (messages.asks_size (login_by asker.now) opening.now size) result }
 {
-    let login = login_of(server.alloc, &asker.caller, asker.status, asker.all_mapped)?;
+    let login = server.login(asker)?;
     Ok(size_in(server, &login, opening, size))
 }
 

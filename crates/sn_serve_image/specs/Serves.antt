@@ -12,6 +12,7 @@ use Rattle.sn_model.specs.declared.reply.Reply.{Reply}
 use Rattle.sn_mounted.specs.Doing.{DidFrom}
 use Rattle.sn_mounted.specs.Runs.{AreEventsOf}
 use Rattle.sn_mounted.specs.Shown.{Shown}
+use Rattle.sn_plan.specs.declared.checker.Checker.{Checker}
 use Rattle.sn_run.specs.Ending.{IsLastEnd}
 use Rattle.sn_run.specs.Runs.{IsRunOf}
 use Rattle.sn_serve.specs.declared.service.Service.{Service}
@@ -42,10 +43,10 @@ abbrev pub stopped : Shown → Bool
 stopped shown = shown.served.has_stopped
 
 -- Over a mount user 0 is logged in for all open files, and the messages of the input are answered one after the other; then it is unmounted.
-pub record IsServedFrom {P : Type 0} (told : Bool) (tells : P → ℕ → Option (List ℕ) → P → Type 0) (maps_all : Bool) (mounted : Shown) (before after : P) (input rest output written : Option (List ℕ))
+pub record IsServedFrom {P : Type 0} (told : Bool) (tells : P → ℕ → Option (List ℕ) → P → Type 0) (checker : Checker) (mounted : Shown) (before after : P) (input rest output written : Option (List ℕ))
     (outcome : Result (Unit {0}) ServeFault) (last : Disk) : Type 0 where
   pub first : Service Shown
-  pub new : IsNew first mounted maps_all
+  pub new : IsNew first mounted checker
   pub ended : Service Shown
   pub why : Stop
   pub conversation : LogsInAndConverses (DidFrom told) tells stopped first before ended after why [] input rest output written
@@ -55,11 +56,11 @@ pub record IsServedFrom {P : Type 0} (told : Bool) (tells : P → ℕ → Option
   pub unmounts : IsTrue told → Unmounts end ended.server.file_system.served last
 
 -- All that was called is a part of a run: where the device tells its bytes, from the world that the disk was an image of, with all that a crash leaves of it.
-pub record IsServed {P : Type 0} (told : Bool) (tells : P → ℕ → Option (List ℕ) → P → Type 0) (maps_all : Bool) (before after : P) (input rest output written : Option (List ℕ))
+pub record IsServed {P : Type 0} (told : Bool) (tells : P → ℕ → Option (List ℕ) → P → Type 0) (checker : Checker) (before after : P) (input rest output written : Option (List ℕ))
     (outcome : Result (Unit {0}) ServeFault) (disk last : Disk) : Type 0 where
   pub mounted : Shown
   pub places : mounted.places ≡ []
-  pub served : IsServedFrom told tells maps_all mounted before after input rest output written outcome last
+  pub served : IsServedFrom told tells checker mounted before after input rest output written outcome last
   pub events : List Event
   pub replies : List Reply
   pub are : AreEventsOf (served.conversation.logins ++ served.conversation.conversation.acts) events replies

@@ -8,6 +8,7 @@ ghost use Rattle.sn_serve_image.specs.Serves.{IsRefused, IsServed, IsServedFrom,
 use crate::fault::{ServeFault, outcome_of};
 use sn_core::{Device, Unmounted};
 use sn_mounted::Mounted;
+use sn_plan::Checker;
 use sn_serve::Processes;
 use sn_serve_loop::{NewConnection, converse};
 use std::alloc::Global;
@@ -25,7 +26,7 @@ fn serve_mounted<D: Device + Drop, P: Processes, R: Read, W: Write>(
     alloc: Global,
     mounted: Mounted<D>,
     new_connection: NewConnection,
-    maps_all: bool,
+    checker: Checker,
     processes: &mut P,
     input: &mut R,
     output: &mut W,
@@ -33,9 +34,9 @@ fn serve_mounted<D: Device + Drop, P: Processes, R: Read, W: Write>(
     requires nodes { table_of new_connection.nodes ≡ root_alone }
     requires files { new_connection.files ≡ replicate 4032 None }
     requires frames { new_connection.frames ≡ [] }
-    ensures { IsServedFrom D.tells_bytes P.tells maps_all mounted processes.old processes.new (R.remaining input.old) (R.remaining input.new) (W.contents output.old) (W.contents output.new) result.outcome (D.disk result.device) }
+    ensures { IsServedFrom D.tells_bytes P.tells checker mounted processes.old processes.new (R.remaining input.old) (R.remaining input.new) (W.contents output.old) (W.contents output.new) result.outcome (D.disk result.device) }
 {
-    let mut connection = new_connection.of(alloc, mounted, maps_all);
+    let mut connection = new_connection.of(alloc, mounted, checker);
     let stop = converse(&mut connection, processes, input, output);
     let (end, device) = connection.into_file_system().finish();
     Served {
@@ -44,24 +45,24 @@ fn serve_mounted<D: Device + Drop, P: Processes, R: Read, W: Write>(
     }
 }
 
-/// Mounts a device, answers the messages of an input until it ends, and unmounts. `maps_all` says whether the server's namespace maps all groups.
+/// Mounts a device, answers the messages of an input until it ends, and unmounts. `checker` checks what messages may do.
 /// `Mount` where the device can't be mounted, and `Memory` where what is kept has no memory, before any message is read. A fault of the unmount
 /// replaces what ended the messages.
 ///
 /// Proved: The messages of the input are answered one after the other, each by its plan and by one reply, as who sent it with the groups that are told of
-/// its process; what is called is a run of the machine from the world that the disk is an image of, with steps of consistency points between messages; a
+/// its process, or where the system checks as user 0; what is called is a run of the machine from the world that the disk is an image of, with steps of consistency points between messages; a
 /// crash leaves what that leaves.
 pub fn serve_image<D: Device + Drop, P: Processes, R: Read, W: Write>(
     alloc: Global,
     device: D,
     processes: &mut P,
-    maps_all: bool,
+    checker: Checker,
     input: &mut R,
     output: &mut W,
 ) -> Served<D>
     ensures { IsRefused result.outcome (D.disk device) (D.disk result.device) × (output.new ≡ output.old)
         ⊎ ((why : Why) × IsUnmounted D.tells_bytes why (D.status device).sectors result.outcome (D.disk device) (D.disk result.device) × (output.new ≡ output.old))
-        ⊎ IsServed D.tells_bytes P.tells maps_all processes.old processes.new (R.remaining input.old) (R.remaining input.new) (W.contents output.old) (W.contents output.new) result.outcome (D.disk device) (D.disk result.device) }
+        ⊎ IsServed D.tells_bytes P.tells checker processes.old processes.new (R.remaining input.old) (R.remaining input.new) (W.contents output.old) (W.contents output.new) result.outcome (D.disk device) (D.disk result.device) }
 {
     let Ok(new_connection) = NewConnection::new(alloc) else {
         return Served {
@@ -74,7 +75,7 @@ pub fn serve_image<D: Device + Drop, P: Processes, R: Read, W: Write>(
             alloc,
             mounted,
             new_connection,
-            maps_all,
+            checker,
             processes,
             input,
             output,

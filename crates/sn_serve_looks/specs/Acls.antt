@@ -14,8 +14,9 @@ use Rattle.sn_plan.specs.Asking.{calls}
 use Rattle.sn_plan.specs.Errors.{errno_of}
 use Rattle.sn_plan.specs.Places.{place_of}
 use Rattle.sn_plan.specs.Plans.{Gives, Plan, Takes, given, ◌>>=◌}
-use Rattle.sn_serve_looks.specs.Telling.{seen_at, status_by}
+use Rattle.sn_serve_looks.specs.Telling.{status_by}
 use Rattle.sn_serve_looks.specs.Xattrs.{has_value, names_text}
+use Rattle.sn_serve_names.specs.Entries.{seen_at}
 use Rattle.sn_walk.specs.Views.{is_directory}
 use Rattle.sn_walk.specs.declared.view.Attributes.{Attributes}
 

@@ -18,10 +18,10 @@ use Rattle.sn_plan.specs.Places.{path_at}
 use Rattle.sn_plan.specs.Plans.{Forgets, Gives, Plan, given, ◌>>=◌}
 use Rattle.sn_serve_looks.specs.Acls.{acl_of, names_of}
 use Rattle.sn_serve_looks.specs.Room.{statistics_of}
-use Rattle.sn_serve_looks.specs.Telling.{number_of, status_of}
+use Rattle.sn_serve_looks.specs.Telling.{status_of}
 use Rattle.sn_serve_looks.specs.Xattrs.{kind_there, kind_to_set, sized, value_in}
 use Rattle.sn_serve_looks.specs.declared.values.Xattr.{Xattr}
-use Rattle.sn_serve_names.specs.Entries.{attributes_of}
+use Rattle.sn_serve_names.specs.Entries.{attributes_of, number_of}
 use Rattle.sn_serve_names.specs.Messages.{status_as, takes}
 
 -- ---- GETATTR

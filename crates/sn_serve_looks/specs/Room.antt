@@ -5,6 +5,8 @@ use Rattle.sn_fuse_replies.specs.declared.answer.Initialized.{Initialized}
 use Rattle.sn_fuse_replies.specs.declared.answer.Statistics.{Statistics}
 use Rattle.sn_fuse_replies.specs.declared.errno.Errno.{Errno}
 use Rattle.sn_fuse_replies.specs.declared.errno.Errno.TheVariants.{EINVAL}
+use Rattle.sn_plan.specs.declared.checker.Checker.{Checker}
+use Rattle.sn_plan.specs.declared.checker.Checker.TheVariants.{Server, System}
 use Rattle.sn_plan.specs.declared.file_system.Space.{Space}
 
 -- the blocks that are left, less those that a removal may take
@@ -24,17 +26,22 @@ statistics_of space = record {
   fragment_size = 4096;
 }
 
--- ASYNC_READ, ATOMIC_O_TRUNC, BIG_WRITES, DONT_MASK, HANDLE_KILLPRIV and MAX_PAGES, as far as they are offered
-abbrev pub taken : InitFlags → InitFlags
-taken offered = record { 0 = bit_and offered.0 0x480069 }
+-- ASYNC_READ, ATOMIC_O_TRUNC, BIG_WRITES, DONT_MASK, HANDLE_KILLPRIV and MAX_PAGES; and POSIX_ACL where the system checks: by the ACLs too then
+abbrev pub known : Checker → ℕ
+known (Server maps_all) = 0x480069
+known System = 0x580069
+
+-- as far as they are offered
+abbrev pub taken : Checker → InitFlags → InitFlags
+taken checker offered = record { 0 = bit_and offered.0 (known checker) }
 
 -- seven pages in a WRITE, and sixteen in a READ
-abbrev pub taken_up : ℕ → InitFlags → Initialized
-taken_up readahead offered = record {
+abbrev pub taken_up : Checker → ℕ → InitFlags → Initialized
+taken_up checker readahead offered = record {
   major = 7;
   minor = 31;
   readahead = readahead;
-  flags = taken offered;
+  flags = taken checker offered;
   background = 0;
   congestion = 0;
   write = 28672;
@@ -57,5 +64,5 @@ version = record {
 }
 
 -- a system with a later major version begins again with this one
-abbrev pub init : ℕ → ℕ → InitFlags → Result Initialized Errno
-init major readahead offered = if nat_lt major 7 then Err EINVAL else (if major == 7 then Ok (taken_up readahead offered) else Ok version)
+abbrev pub init : Checker → ℕ → ℕ → InitFlags → Result Initialized Errno
+init checker major readahead offered = if nat_lt major 7 then Err EINVAL else (if major == 7 then Ok (taken_up checker readahead offered) else Ok version)

@@ -1,37 +1,22 @@
 -- What is told of a node.
-use Rattle.std.specs.Prelude.{ℕ, nat_lt, Bool, List, Option, None, Some, Result, ok_or, if◌then◌else◌}
+use Rattle.std.specs.Prelude.{ℕ, nat_lt, Bool, List, Option, None, Some, Result, if◌then◌else◌}
 use Rattle.std.specs.FinMap as map
 use Rattle.sn_fuse_replies.specs.declared.errno.Errno.{Errno}
-use Rattle.sn_fuse_replies.specs.declared.errno.Errno.TheVariants.{ESTALE}
 use Rattle.sn_model.specs.Calls.{status_of as status_told}
 use Rattle.sn_model.specs.declared.call.Call.{Call}
 use Rattle.sn_model.specs.declared.reply.FileStatus.{FileStatus}
-use Rattle.sn_node_table.specs.Tables.{handles_of, inode_of}
-use Rattle.sn_plan.specs.Asking.{sees}
+use Rattle.sn_node_table.specs.Tables.{handles_of}
 use Rattle.sn_plan.specs.Places.{place_of}
-use Rattle.sn_plan.specs.Plans.{Gives, Kept, Knows, Plan, given, ◌>>=◌}
-use Rattle.sn_serve_names.specs.Entries.{status_at}
+use Rattle.sn_plan.specs.Plans.{Gives, Kept, Knows, Plan, ◌>>=◌}
+use Rattle.sn_serve_names.specs.Entries.{seen_at, status_at}
 use Rattle.sn_serve_names.specs.Messages.{status_as}
 use Rattle.sn_walk.specs.declared.view.Attributes.{Attributes}
-
--- the number of a node's object
-abbrev pub number_in : ℕ → Kept → Result ℕ Errno
-number_in node kept = ok_or (inode_of kept.nodes node) ESTALE
-
-unfoldable pub number_of : ℕ → Plan ℕ
-number_of node = Knows (λ kept. given (number_in node kept))
-
--- a node to which no name leads is looked at by its number
-unfoldable pub seen_at : ℕ → Plan Attributes
-seen_at node = do
-  number ← number_of node
-  seen ← sees number
-  given (ok_or seen ESTALE)
 
 -- Attributes as stat tells them. The number in its tree is not among these.
 abbrev pub status_in : Attributes → FileStatus
 status_in a = status_told 0 a
 
+-- a node to which no name leads is looked at by its number
 unfoldable pub nameless_status : ℕ → Plan FileStatus
 nameless_status node = seen_at node >>= (λ seen. Gives (status_in seen))
 

@@ -5,13 +5,14 @@ ghost use Rattle.sn_plan.specs.Follows.{Does};
 ghost use Rattle.sn_serve_looks.specs.Acls as acls;
 ghost use Rattle.sn_walk.specs.Views.{is_directory};
 
-use crate::telling::{seen_at, status_by};
+use crate::telling::status_by;
 use sn_acl::Acl;
 use sn_callers::LOOKER;
 use sn_fuse_replies::Errno;
 use sn_limits::Kind;
 use sn_model::{AclKind, Call, Reply};
 use sn_plan::{Asker, FileSystem, Server, errno_of, word};
+use sn_serve_names::seen_at;
 use sn_walk::Attributes;
 
 /// What getacl told. The error of one that was refused; `EIO` for a reply that getacl doesn't have.

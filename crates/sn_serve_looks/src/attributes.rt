@@ -3,10 +3,10 @@ ghost use Rattle.sn_plan.specs.Asking.{login_by};
 ghost use Rattle.sn_plan.specs.Follows.{Does};
 ghost use Rattle.sn_serve_looks.specs.Messages as messages;
 
-use crate::telling::{number_of, status_of};
+use crate::telling::status_of;
 use sn_fuse_replies::{Attributes, Errno};
 use sn_plan::{Asker, FileSystem, Server};
-use sn_serve_names::attributes_of;
+use sn_serve_names::{attributes_of, number_of};
 
 /// GETATTR: what a node is like. Of one that somebody has open anybody is told; of one to which no name leads too.
 ///

@@ -4,6 +4,7 @@ ghost use Rattle.sn_serve_looks.specs.Room as room;
 
 use sn_fuse_flags::InitFlags;
 use sn_fuse_replies::{Errno, Initialized};
+use sn_plan::Checker;
 
 /// The version of the protocol.
 const MAJOR: u32 = 7;
@@ -17,22 +18,34 @@ const WRITE_MAX: u32 = 28_672;
 const PAGES: u16 = 16;
 
 /// ASYNC_READ, ATOMIC_O_TRUNC, BIG_WRITES, DONT_MASK, HANDLE_KILLPRIV and MAX_PAGES.
-const TAKEN: u32 = 0x48_0069;
+const KNOWN: u32 = 0x48_0069;
 
-fn taken(offered: InitFlags) -> InitFlags
-    ensures { result ≡ room.taken offered }
+/// These and POSIX_ACL, by which the system reads ACLs and checks by them.
+const KNOWN_WITH_ACLS: u32 = 0x58_0069;
+
+fn known(checker: Checker) -> u32
+    ensures { result ≡ room.known checker }
 {
-    InitFlags(offered.0 & TAKEN)
+    match checker {
+        Checker::Server { .. } => KNOWN,
+        Checker::System => KNOWN_WITH_ACLS,
+    }
 }
 
-fn taken_up(readahead: u32, offered: InitFlags) -> Initialized
-    ensures { result ≡ room.taken_up readahead offered }
+fn taken(checker: Checker, offered: InitFlags) -> InitFlags
+    ensures { result ≡ room.taken checker offered }
+{
+    InitFlags(offered.0 & known(checker))
+}
+
+fn taken_up(checker: Checker, readahead: u32, offered: InitFlags) -> Initialized
+    ensures { result ≡ room.taken_up checker readahead offered }
 {
     Initialized {
         major: MAJOR,
         minor: MINOR,
         readahead,
-        flags: taken(offered),
+        flags: taken(checker, offered),
         background: 0,
         congestion: 0,
         write: WRITE_MAX,
@@ -61,15 +74,21 @@ fn version() -> Initialized
 /// INIT: what a server takes of what the system offers. A later major version is told this one, with which the system begins again. `EINVAL` for an
 /// earlier one.
 ///
-/// Proved: INIT is answered with version 7.31, and of the flags that the system offers with those that are known here.
-pub fn init(major: u32, readahead: u32, offered: InitFlags) -> Result<Initialized, Errno>
-    ensures { result ≡ room.init major readahead offered }
+/// Proved: INIT is answered with version 7.31, and of the flags that the system offers with those that are known here: that for ACLs exactly where
+/// the system checks.
+pub fn init(
+    checker: Checker,
+    major: u32,
+    readahead: u32,
+    offered: InitFlags,
+) -> Result<Initialized, Errno>
+    ensures { result ≡ room.init checker major readahead offered }
 {
     if major < MAJOR {
         return Err(Errno::EINVAL);
     }
     if major == MAJOR {
-        return Ok(taken_up(readahead, offered));
+        return Ok(taken_up(checker, readahead, offered));
     }
     Ok(version())
 }

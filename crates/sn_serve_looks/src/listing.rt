@@ -5,13 +5,14 @@ ghost use Rattle.sn_plan.specs.Follows.{Writes, bytes_of};
 ghost use Rattle.sn_serve_looks.specs.Acls as acls;
 
 use crate::acls::acl_at;
-use crate::telling::{seen_at, status_by};
+use crate::telling::status_by;
 use crate::values::{XattrBytes, has_value, names_text};
 use sn_acl::Acl;
 use sn_fuse_replies::Errno;
 use sn_limits::Kind;
 use sn_model::AclKind;
 use sn_plan::{Asker, FileSystem, Server};
+use sn_serve_names::seen_at;
 use sn_walk::Attributes;
 
 /// The names of the attributes that attributes of a node tell of. `ESTALE` for those of a directory, which don't have its default ACL.

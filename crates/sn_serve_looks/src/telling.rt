@@ -7,24 +7,8 @@ ghost use Rattle.sn_serve_looks.specs.Telling as telling;
 use sn_fuse_replies::Errno;
 use sn_model::FileStatus;
 use sn_plan::{Asker, FileSystem, Server};
-use sn_serve_names::{status_as, status_at};
+use sn_serve_names::{seen_at, status_as, status_at};
 use sn_walk::Attributes;
-
-/// The number of a node's object, as the mount shows it. `ESTALE` where the id has no node.
-pub(crate) fn number_of<F: FileSystem>(server: &Server<F>, node: u64) -> Result<u64, Errno>
-    ensures { Does F.did server.now server.now (telling.number_of node) result }
-{
-    server.nodes.inode(node).ok_or(Errno::ESTALE)
-}
-
-/// What a node's number tells. `ESTALE` where nothing has it any longer.
-pub(crate) fn seen_at<F: FileSystem>(server: &mut Server<F>, node: u64) -> Result<Attributes, Errno>
-    ensures { Does F.did server.old server.new (telling.seen_at node) result }
-{
-    let number = number_of(server, node)?;
-    let seen = server.node(number)?;
-    seen.ok_or(Errno::ESTALE)
-}
 
 /// Attributes as stat tells them, but for the number.
 fn status_in(seen: &Attributes) -> FileStatus

@@ -6,9 +6,8 @@ use Rattle.sn_plan.specs.Acts.{Act, Grows}
 use Rattle.sn_serve.specs.Exchanges.{IsExchange, acts_for, misspelt, request, short, unknown}
 use Rattle.sn_fuse.specs.declared.operation.Op.{Op}
 use Rattle.sn_fuse_replies.specs.declared.errno.Errno.{Errno}
-use Rattle.sn_model.specs.declared.call.Call.{Call}
 use Rattle.sn_plan.specs.declared.server.Server.{Server}
-use Rattle.sn_serve.specs.Messages.{Answers, Held, acts_in, closes, follows, lists, opens}
+use Rattle.sn_serve.specs.Messages.{Answers, Held, acts_in, Way, closes, follows, lists, opens}
 use Rattle.sn_serve.specs.declared.told.Told.{Told}
 use Rattle.std.specs.declared.result.Result.{Result}
 use Rattle.sn_serve.specs.declared.service.Service.{Service}
@@ -24,7 +23,7 @@ module _ {F : Type 0} (did : F → F → List Act → Type 0) where
       record { grows = λ first before d. subst (did c first) (append_assoc before done more) (k.grows first (before ++ done) (h.grows first before d)) }
 
 module _ {F P : Type 0} (did : F → F → List Act → Type 0) (tells : P → ℕ → Option (List ℕ) → P → Type 0) (stopped : F → Bool) where
-  answers_grow : {login : Result Call Errno} {node : ℕ} {old new : Server F} {before after : Held} {op : Op} {told : Result Told Errno} (h : Answers did login node old new before after op told)
+  answers_grow : {way : Way} {node : ℕ} {old new : Server F} {before after : Held} {op : Op} {told : Result Told Errno} (h : Answers did way node old new before after op told)
       → Grows (did old.file_system) (did new.file_system) (acts_in h)
   answers_grow (follows f keeps) = f.does.goes.grows
   answers_grow (opens o) = o.does.goes.grows

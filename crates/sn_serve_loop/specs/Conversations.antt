@@ -1,7 +1,7 @@
 -- Messages and replies, one after the other.
 use Rattle.std.specs.Io.KnownBytes.{Appends, Consumes, IsAtEnd}
 use Rattle.std.specs.List.{concat}
-use Rattle.std.specs.Prelude.{◌≡◌, ℕ, Bool, true, false, List, [], ◌∷◌, ◌++◌, Option}
+use Rattle.std.specs.Prelude.{◌≡◌, ◌≢◌, ℕ, Bool, true, false, List, [], ◌∷◌, ◌++◌, Option}
 use Rattle.sn_output.specs.Outputs.{AppendsFront}
 use Rattle.sn_plan.specs.Acts.{Act, Grows}
 use Rattle.sn_serve.specs.Exchanges.{IsExchange, IsRefusal, acts_for}
@@ -9,7 +9,7 @@ use Rattle.sn_serve.specs.declared.service.Service.{Service}
 use Rattle.sn_serve_loop.specs.Fronts.{IsMessage, front_of}
 use Rattle.sn_serve_loop.specs.declared.frames.Front.TheVariants.{Part}
 use Rattle.sn_serve_loop.specs.declared.stop.Stop.{Stop}
-use Rattle.sn_serve_loop.specs.declared.stop.Stop.TheVariants.{Ended}
+use Rattle.sn_serve_loop.specs.declared.stop.Stop.TheVariants.{Ended, Memory}
 use Rattle.sn_serve_loop.specs.Sessions.{LogIn}
 
 -- work that is due is done, which is no act, and nothing else
@@ -62,7 +62,8 @@ pub record HasEnded (whole : Bool) (left : List ℕ) (rest : Option (List ℕ)) 
   pub part : front_of left ≡ Part
   pub end : IsAtEnd rest
 
--- User 0 is logged in, in the sessions of open files, which changes the file system alone. Then messages are answered.
+-- User 0 is logged in, in the sessions of open files, in all of them unless memory is refused, which changes the file system alone. Then
+-- messages are answered.
 pub record LogsInAndConverses {F P : Type 0} (did : F → F → List Act → Type 0) (tells : P → ℕ → Option (List ℕ) → P → Type 0) (stopped : F → Bool) (old : Service F) (before : P) (new : Service F) (after : P)
     (why : Stop) (pending : List ℕ) (input rest output written : Option (List ℕ)) : Type 0 where
   pub first : Service F
@@ -70,6 +71,7 @@ pub record LogsInAndConverses {F P : Type 0} (did : F → F → List Act → Typ
   pub blocks : ℕ
   pub logins : List Act
   pub log_in : LogIn blocks logins
+  pub all : why ≢ Memory → blocks ≡ 63
   pub grows : Grows (did old.server.file_system) (did first.server.file_system) logins
   pub left : List ℕ
   pub whole : Bool

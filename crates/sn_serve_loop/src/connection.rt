@@ -8,7 +8,7 @@ use crate::frames::Frames;
 use sn_callers::OpenFiles;
 use sn_listings::Listings;
 use sn_node_table::NodeTable;
-use sn_plan::Server;
+use sn_plan::{Checker, Server};
 use sn_serve::Service;
 use std::alloc::{AllocError, Global};
 
@@ -41,11 +41,11 @@ impl NewConnection {
         })
     }
 
-    /// The connection of a file system. `maps_all` says whether the server's namespace maps all groups.
-    pub fn of<F>(self, alloc: Global, file_system: F, maps_all: bool) -> Connection<F>
+    /// The connection of a file system. `checker` checks what messages may do.
+    pub fn of<F>(self, alloc: Global, file_system: F, checker: Checker) -> Connection<F>
         requires nodes { table_of self.nodes ≡ root_alone }
         requires files { self.files ≡ replicate 4032 None }
-        ensures new { IsNew result.service file_system maps_all }
+        ensures new { IsNew result.service file_system checker }
         ensures frames { result.frames ≡ self.frames }
     {
         let NewConnection {
@@ -62,7 +62,7 @@ impl NewConnection {
                     alloc,
                 },
                 listings: Listings::new(alloc),
-                maps_all,
+                checker,
             },
             frames,
             out: Vec::new(alloc),
@@ -83,7 +83,7 @@ impl<F> Connection<F> {
         let Service {
             server,
             listings: _,
-            maps_all: _,
+            checker: _,
         } = service;
         let Server {
             file_system,

@@ -132,8 +132,8 @@ pub fn converse<F: FileSystem, P: Processes, R: Read, W: Write>(
     ensures { LogsInAndConverses F.did P.tells F.stopped connection.old.service processes.old connection.new.service processes.new result connection.old.frames (R.remaining input.old) (R.remaining input.new) (W.contents output.old) (W.contents output.new) }
 {
     let alloc = connection.service.server.alloc;
-    if log_in(&mut connection.service.server.file_system, alloc).is_err() {
-        return Stop::Memory;
+    match log_in(&mut connection.service.server.file_system, alloc) {
+        Ok(()) => answer_all(connection, processes, input, output),
+        Err(_) => Stop::Memory,
     }
-    answer_all(connection, processes, input, output)
 }

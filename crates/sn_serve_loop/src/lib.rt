@@ -10,7 +10,7 @@
 //! What the sources leave open is decided in `docs/DECISIONS.md`, under "Messages, one after the other".
 //!
 //! ```text
-//! let mut connection = NewConnection::new(alloc)?.of(alloc, file_system, maps_all);
+//! let mut connection = NewConnection::new(alloc)?.of(alloc, file_system, checker);
 //! let stop = converse(&mut connection, &mut processes, &mut input, &mut output);
 //! let file_system = connection.into_file_system();
 //! ```

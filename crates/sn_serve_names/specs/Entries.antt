@@ -1,5 +1,5 @@
 -- What an answer tells of a node.
-use Rattle.std.specs.Prelude.{ℕ, ◌+◌, Bool, List, is_none, ok_or, if◌then◌else◌}
+use Rattle.std.specs.Prelude.{ℕ, ◌+◌, Bool, List, Result, is_none, ok_or, if◌then◌else◌}
 use Rattle.std.specs.Int.{div_ceil}
 use Rattle.sn_acl.specs.Modes.{mode_bits as permission_bits}
 use Rattle.sn_fuse.specs.declared.operation.Time.{Time}
@@ -11,19 +11,20 @@ use Rattle.sn_limits.specs.declared.kind.Kind.{Kind}
 use Rattle.sn_limits.specs.declared.kind.Kind.TheVariants.{Directory, File}
 use Rattle.sn_model.specs.declared.call.Call.TheVariants.{Stat}
 use Rattle.sn_model.specs.declared.reply.FileStatus.{FileStatus}
-use Rattle.sn_node_table.specs.Tables.{given as given_id, node_at}
+use Rattle.sn_node_table.specs.Tables.{given as given_id, inode_of, node_at}
 use Rattle.sn_node_table.specs.declared.meeting.NodeFault.{NodeFault}
 use Rattle.sn_node_table.specs.declared.meeting.NodeFault.TheVariants.{Refused, Stale}
-use Rattle.sn_plan.specs.Asking.{calls, finds}
+use Rattle.sn_plan.specs.Asking.{calls, finds, sees}
 use Rattle.sn_plan.specs.Plans.{Change, Gives, Keeps, Kept, Knows, Makes, Meets, Plan, Refuses, Takes, given, ◌>>=◌}
 use Rattle.sn_plan.specs.Replies.{status}
 use Rattle.sn_serve_names.specs.Names.{NamedPath}
+use Rattle.sn_walk.specs.declared.view.Attributes.{Attributes as Seen}
 
 -- no time is kept yet
 abbrev pub no_time : Time
 no_time = record { seconds = 0; nanoseconds = 0 }
 
--- names are held for a year, and attributes not at all
+-- names are held for a year; how long attributes are is said where the answer is spelled
 abbrev pub year : Time
 year = record { seconds = 31536000; nanoseconds = 0 }
 
@@ -56,6 +57,20 @@ attributes_of number s = record {
 
 abbrev pub entry_of : ℕ → ℕ → FileStatus → Entry
 entry_of id number s = record { node = id; generation = 0; name_lasts = year; attributes_last = no_time; attributes = attributes_of number s }
+
+-- the number of a node's object
+abbrev pub number_in : ℕ → Kept → Result ℕ Errno
+number_in node kept = ok_or (inode_of kept.nodes node) ESTALE
+
+unfoldable pub number_of : ℕ → Plan ℕ
+number_of node = Knows (λ kept. given (number_in node kept))
+
+-- what a node's number tells
+unfoldable pub seen_at : ℕ → Plan Seen
+seen_at node = do
+  number ← number_of node
+  seen ← sees number
+  given (ok_or seen ESTALE)
 
 -- what is at a path has a number
 unfoldable pub number_at : List ℕ → Plan ℕ

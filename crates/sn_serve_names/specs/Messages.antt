@@ -1,5 +1,6 @@
 -- The plan of each message on names.
 use Rattle.std.specs.Prelude.{ℕ, ◌%◌, ◌==◌, nat_le, Bool, true, false, List, Option, None, Some, Result, Ok, Err, is_some, if◌then◌else◌}
+use Rattle.sn_callers.specs.declared.login.Caller.{Caller}
 use Rattle.sn_fuse_flags.specs.declared.RenameFlags.{RenameFlags}
 use Rattle.sn_fuse_replies.specs.declared.answer.Entry.{Entry}
 use Rattle.sn_fuse_replies.specs.declared.errno.Errno.{Errno}
@@ -9,12 +10,13 @@ use Rattle.sn_model.specs.declared.call.Call.TheVariants as call
 use Rattle.sn_model.specs.declared.reply.Access.{Access}
 use Rattle.sn_model.specs.declared.reply.FileStatus.{FileStatus}
 use Rattle.sn_node_table.specs.Tables.{named}
-use Rattle.sn_plan.specs.Asking.{asks, asks_masked, finds}
+use Rattle.sn_plan.specs.Asking.{asks, asks_masked, calls, finds}
 use Rattle.sn_plan.specs.Places.{path_at, place_of}
 use Rattle.sn_plan.specs.Plans.{Gives, Keeps, Kept, Knows, Plan, Refuses, Renames, Takes, Unlinks, given, ◌>>=◌}
 use Rattle.sn_plan.specs.Replies.{done, status}
-use Rattle.sn_serve_names.specs.Entries.{made_at, met_at, status_at}
+use Rattle.sn_serve_names.specs.Entries.{made_at, met_at, seen_at, status_at}
 use Rattle.sn_serve_names.specs.Names.{NamedPath, are_snapshots, child_of}
+use Rattle.sn_walk.specs.declared.view.Attributes.{Attributes as Seen}
 
 -- a call of who asks, with nothing to tell
 unfoldable pub does : Result Call Errno → Call → Plan (Unit {0})
@@ -89,6 +91,25 @@ rmdir login parent name = do
   _ ← removes login parent child
   forgets parent child.name
 
+-- ---- what was made by user 0 for somebody, where the system checks
+
+-- with the group of its maker, unless S_ISGID of the directory gave it that of the directory
+abbrev pub group_in : Seen → Caller → Option ℕ
+group_in directory maker = if directory.set_gid then None else Some maker.group
+
+unfoldable pub chowns : List ℕ → ℕ → Option ℕ → Plan (Unit {0})
+chowns path user group = Takes (calls 0 (call.Chown path (Some user) group) >>= (λ reply. given (done reply)))
+
+unfoldable pub gives_to : Caller → ℕ → List ℕ → Plan (Unit {0})
+gives_to maker parent path = do
+  directory ← seen_at parent
+  chowns path maker.user (group_in directory maker)
+
+-- it is given to its maker, if it isn't theirs already
+abbrev pub gives_owner : Option Caller → ℕ → List ℕ → Plan (Unit {0})
+gives_owner None parent path = Gives tt
+gives_owner (Some maker) parent path = gives_to maker parent path
+
 -- ---- MKDIR
 
 unfoldable pub makes_snapshot : Result Call Errno → NamedPath → Plan (Unit {0})
@@ -98,15 +119,21 @@ makes_snapshot login child = takes login (call.SnapCreate child.name)
 unfoldable pub makes_directory : Result Call Errno → NamedPath → ℕ → ℕ → Plan (Unit {0})
 makes_directory login child mode umask = Takes (asks_masked login (umask % 512) (call.Mkdir child.path (mode % 512)) >>= (λ reply. given (done reply)))
 
-unfoldable pub makes_child : Result Call Errno → ℕ → NamedPath → ℕ → ℕ → Plan (Unit {0})
-makes_child login parent child mode umask = do
-  snapshots ← are_snapshots parent
-  if snapshots then makes_snapshot login child else makes_directory login child mode umask
+unfoldable pub makes_owned : Result Call Errno → Option Caller → ℕ → NamedPath → ℕ → ℕ → Plan (Unit {0})
+makes_owned login maker parent child mode umask = do
+  _ ← makes_directory login child mode umask
+  gives_owner maker parent child.path
 
-unfoldable pub mkdir : Result Call Errno → ℕ → List ℕ → ℕ → ℕ → Plan Entry
-mkdir login parent name mode umask = do
+-- a snapshot is given to nobody
+unfoldable pub makes_child : Result Call Errno → Option Caller → ℕ → NamedPath → ℕ → ℕ → Plan (Unit {0})
+makes_child login maker parent child mode umask = do
+  snapshots ← are_snapshots parent
+  if snapshots then makes_snapshot login child else makes_owned login maker parent child mode umask
+
+unfoldable pub mkdir : Result Call Errno → Option Caller → ℕ → List ℕ → ℕ → ℕ → Plan Entry
+mkdir login maker parent name mode umask = do
   child ← child_of parent name
-  _ ← makes_child login parent child mode umask
+  _ ← makes_child login maker parent child mode umask
   made_at parent child
 
 -- ---- RENAME, RENAME2

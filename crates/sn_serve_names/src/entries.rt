@@ -16,13 +16,14 @@ const SET_GID: u32 = 1024;
 
 const STICKY: u32 = 512;
 
-const NO_TIME: Time = Time {
+/// No time is kept.
+pub const NO_TIME: Time = Time {
     seconds: 0,
     nanoseconds: 0,
 };
 
-/// For how long the system may hold a name: a year. Attributes it may not hold.
-const YEAR: Time = Time {
+/// For how long the system may hold a name: a year. How long it may hold attributes is said where the answer is spelled.
+pub const YEAR: Time = Time {
     seconds: 31_536_000,
     nanoseconds: 0,
 };

@@ -6,10 +6,12 @@
 //!
 //! In the directory of snapshots MKDIR makes a snapshot and RMDIR deletes one.
 //!
-//! The other messages use what these share: [`child_of`], the name of a directory with its path; [`met_at`] and [`made_at`], the answer for what
-//! was found or made under it; [`status_at`], [`status_as`] and [`does`], what user 0 and who asks are told.
+//! Where the system checks, what is made is user 0's, and [`give_owner`] gives it to who asked for it.
 //!
-//! The way through: `names` has the names, `entries` what is told of a node, `meeting` how it gets its id, `asking` the calls, and `looking`,
+//! The other messages use what these share: [`child_of`], the name of a directory with its path; [`met_at`] and [`made_at`], the answer for what
+//! was found or made under it; [`status_at`], [`seen_at`], [`status_as`] and [`does`], what user 0 and who asks are told.
+//!
+//! The way through: `names` has the names, `entries` what is told of a node, `meeting` how it gets its id, `asking` the calls, `giving` whose is what was made, and `looking`,
 //! `making`, `removing` and `moving` the messages.
 //!
 //! What the sources leave open is decided in `docs/DECISIONS.md`, under "Messages on names".
@@ -22,6 +24,7 @@
 
 mod asking;
 mod entries;
+mod giving;
 mod looking;
 mod making;
 mod meeting;
@@ -30,10 +33,11 @@ mod names;
 mod removing;
 
 pub use asking::{does, status_as};
-pub use entries::{attributes_of, entry_of};
+pub use entries::{NO_TIME, YEAR, attributes_of, entry_of};
+pub use giving::give_owner;
 pub use looking::{access, lookup};
 pub use making::mkdir;
-pub use meeting::{made_at, met_at, number_at, status_at};
+pub use meeting::{made_at, met_at, number_at, number_of, seen_at, status_at};
 pub use moving::{link, rename};
 pub use names::{Child, child_of, is_snapshots};
 pub use removing::{rmdir, unlink};

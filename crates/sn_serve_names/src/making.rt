@@ -1,9 +1,10 @@
 //! Directories and snapshots that are made.
-ghost use Rattle.sn_plan.specs.Asking.{login_by};
+ghost use Rattle.sn_plan.specs.Asking.{login_by, maker_by};
 ghost use Rattle.sn_plan.specs.Follows.{Does};
 ghost use Rattle.sn_serve_names.specs.Messages as messages;
 
 use crate::asking::does;
+use crate::giving::give_owner;
 use crate::meeting::made_at;
 use crate::names::{Child, child_of, is_snapshots};
 use sn_fuse_replies::{Entry, Errno};
@@ -42,6 +43,21 @@ fn make_directory<F: FileSystem>(
     done(&reply)
 }
 
+/// Makes a directory, which is its maker's.
+fn make_owned<F: FileSystem>(
+    server: &mut Server<F>,
+    asker: &Asker<'_>,
+    parent: u64,
+    child: &Child,
+    mode: u32,
+    umask: u32,
+) -> Result<(), Errno>
+    ensures { Does F.did server.old server.new (messages.makes_owned (login_by asker.now) (maker_by asker.now) parent child.now mode umask) result }
+{
+    make_directory(server, asker, child, mode, umask)?;
+    give_owner(server, asker, parent, child.path())
+}
+
 /// Makes a directory, or a snapshot in the directory of those.
 fn make_child<F: FileSystem>(
     server: &mut Server<F>,
@@ -51,19 +67,19 @@ fn make_child<F: FileSystem>(
     mode: u32,
     umask: u32,
 ) -> Result<(), Errno>
-    ensures { Does F.did server.old server.new (messages.makes_child (login_by asker.now) parent child.now mode umask) result }
+    ensures { Does F.did server.old server.new (messages.makes_child (login_by asker.now) (maker_by asker.now) parent child.now mode umask) result }
 {
     if is_snapshots(server, parent) {
         make_snapshot(server, asker, child)
     } else {
-        make_directory(server, asker, child, mode, umask)
+        make_owned(server, asker, parent, child, mode, umask)
     }
 }
 
 /// MKDIR: makes a directory; in the directory of snapshots it makes a snapshot. Of the mode and the umask the permission bits count.
 ///
 /// Proved: MKDIR is one call as who asks, with the umask of its message, by a path whose directory was looked at; in the directory of
-/// snapshots that which makes one. What was made gets an id that was never given.
+/// snapshots that which makes one. What was made for somebody by user 0 is given to them, and gets an id that was never given.
 pub fn mkdir<F: FileSystem>(
     server: &mut Server<F>,
     asker: &Asker<'_>,
@@ -72,7 +88,7 @@ pub fn mkdir<F: FileSystem>(
     mode: u32,
     umask: u32,
 ) -> Result<Entry, Errno>
-    ensures { Does F.did server.old server.new (messages.mkdir (login_by asker.now) parent name.now mode umask) result }
+    ensures { Does F.did server.old server.new (messages.mkdir (login_by asker.now) (maker_by asker.now) parent name.now mode umask) result }
 {
     let child = child_of(server, parent, name)?;
     make_child(server, asker, parent, &child, mode, umask)?;

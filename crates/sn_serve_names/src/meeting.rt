@@ -10,6 +10,23 @@ use sn_fuse_replies::{Entry, Errno};
 use sn_model::{Call, FileStatus};
 use sn_node_table::NodeFault;
 use sn_plan::{FileSystem, Server, status, word};
+use sn_walk::Attributes;
+
+/// The number of a node's object, as the mount shows it. `ESTALE` where the id has no node.
+pub fn number_of<F: FileSystem>(server: &Server<F>, node: u64) -> Result<u64, Errno>
+    ensures { Does F.did server.now server.now (entries.number_of node) result }
+{
+    server.nodes.inode(node).ok_or(Errno::ESTALE)
+}
+
+/// What a node's number tells. `ESTALE` where nothing has it any longer.
+pub fn seen_at<F: FileSystem>(server: &mut Server<F>, node: u64) -> Result<Attributes, Errno>
+    ensures { Does F.did server.old server.new (entries.seen_at node) result }
+{
+    let number = number_of(server, node)?;
+    let seen = server.node(number)?;
+    seen.ok_or(Errno::ESTALE)
+}
 
 /// The number of what is at a path. `ENOENT` where nothing is.
 pub fn number_at<F: FileSystem>(server: &mut Server<F>, path: &[u8]) -> Result<u64, Errno>

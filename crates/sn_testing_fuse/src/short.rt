@@ -1,5 +1,5 @@
 //! Answers in short, as those of a file system that keeps no times: all times are 0, the block size is 4,096, names last a year, and
-//! attributes don't last.
+//! attributes don't last, or with `HELD` before the answer a year too.
 
 ghost use Rattle.std.specs.Prelude.{◌≡◌, [], IfOk};
 ghost use Rattle.sn_fuse_replies.specs.Answer.{tail_of};
@@ -65,32 +65,42 @@ fn attributes(case: Case<'_>, at: usize) -> Result<Attributes> {
     })
 }
 
-// A node, and its attributes.
-fn entry(case: Case<'_>) -> Result<Entry> {
+// A node, and its attributes, with how long they last.
+fn entry(last: Time, case: Case<'_>) -> Result<Entry> {
     Ok(Entry {
         node: wide(case, 0)?,
         generation: 0,
         name_lasts: YEAR,
-        attributes_last: NO_TIME,
+        attributes_last: last,
         attributes: attributes(case, 1)?,
     })
 }
 
-/// `FOUND NODE ATTRIBUTES`, `KNOWN ATTRIBUTES` or `MADE NODE ATTRIBUTES HANDLE`.
+/// `FOUND NODE ATTRIBUTES`, `KNOWN ATTRIBUTES` or `MADE NODE ATTRIBUTES HANDLE`, or one of these after `HELD`.
 pub(crate) fn short_answer_of<'a>(word: &str, words: &str) -> Result<Answer<'a>>
+    ensures { IfOk result (λ answer. tail_of answer ≡ []) }
+{
+    if word == "HELD" {
+        let (word, words) = words.split_once(' ').context("nothing held")?;
+        return lasting_answer_of(YEAR, word, words);
+    }
+    lasting_answer_of(NO_TIME, word, words)
+}
+
+fn lasting_answer_of<'a>(last: Time, word: &str, words: &str) -> Result<Answer<'a>>
     ensures { IfOk result (λ answer. tail_of answer ≡ []) }
 {
     let case = Case::new(words);
     match word {
         "FOUND" => Ok(Answer::Entry {
-            entry: entry(case)?,
+            entry: entry(last, case)?,
         }),
         "KNOWN" => Ok(Answer::Attributes {
-            last: NO_TIME,
+            last,
             attributes: attributes(case, 0)?,
         }),
         "MADE" => Ok(Answer::Created {
-            entry: entry(case)?,
+            entry: entry(last, case)?,
             opened: Opened {
                 handle: wide(case, 6)?,
                 flags: 0,

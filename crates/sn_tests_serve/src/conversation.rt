@@ -1,6 +1,7 @@
 //! Texts of conversations.
 
 use anyhow::{Context, Result, bail, ensure};
+use sn_plan::Checker;
 use sn_testing_tables::number_of;
 use std::alloc::Global;
 
@@ -12,11 +13,11 @@ pub(crate) struct Status<'a> {
     pub text: &'a str,
 }
 
-/// What the system tells of all processes.
+/// What the system tells of all processes, and who checks what they may do.
 #[derive(Drop)]
 pub(crate) struct Senders<'a> {
     pub statuses: Vec<Status<'a>>,
-    pub maps_all: bool,
+    pub checker: Checker,
 }
 
 /// A message and its reply, each as a line.
@@ -49,7 +50,11 @@ fn take_sender<'a>(senders: &mut Senders<'a>, line: &'a str) -> Result<()> {
         .strip_prefix("? ")
         .context(format_args!("nothing told: {line}"))?;
     if words == "map whole" {
-        senders.maps_all = true;
+        senders.checker = Checker::Server { maps_all: true };
+        return Ok(());
+    }
+    if words == "kernel" {
+        senders.checker = Checker::System;
         return Ok(());
     }
     let (process, text) = words.split_once(' ').context("no status")?;
@@ -63,7 +68,7 @@ pub(crate) fn senders_of<'a>(alloc: Global, text: &'a str) -> Result<Senders<'a>
     let (front, _serves) = parts_of(text)?;
     let mut senders = Senders {
         statuses: Vec::new(alloc),
-        maps_all: false,
+        checker: Checker::Server { maps_all: false },
     };
     for line in front.lines() {
         if !is_comment(line) {

@@ -4,6 +4,7 @@ use crate::conversation::{Exchange, Senders, senders_of, serve_alone};
 use crate::serving::{Ended, Replies, bytes_of, formatted, messages_of, reply_of, serve};
 use anyhow::{Context, Result, ensure};
 use sn_device::{Device, Fill, MemDevice};
+use sn_plan::Checker;
 use sn_testing_tables::{Report, Tally};
 use sn_tests_exports::exported;
 use std::alloc::Global;
@@ -18,6 +19,14 @@ struct Whole<'a> {
     senders: Senders<'a>,
     exchanges: Vec<Exchange<'a>>,
     archives: Vec<Vec<u8>>,
+    /// The same with the next message as user 0 sends it: what was made for its sender then stays user 0's. None of the whole conversation.
+    begun: Vec<Vec<u8>>,
+}
+
+/// A message with user 0 and group 0 in its head.
+fn as_user_zero(message: &mut [u8]) -> Result<()> {
+    message.get_mut(24..32).context("no head")?.fill(0);
+    Ok(())
 }
 
 /// The archive of an image after the next mount. None where that can't be mounted.
@@ -35,11 +44,36 @@ fn is_archive(found: &[u8], archive: Option<&Vec<u8>>) -> bool {
 }
 
 impl<'a> Whole<'a> {
+    /// The messages of a front.
+    fn front(&self, count: usize) -> Result<Vec<u8>> {
+        let front = self.exchanges.get(..count).context("no front")?;
+        messages_of(self.alloc, front)
+    }
+
     /// Serves a front of the messages.
     fn serve_front(&self, device: MemDevice, count: usize) -> Result<Ended> {
-        let front = self.exchanges.get(..count).context("no front")?;
-        let messages = messages_of(self.alloc, front)?;
+        let messages = self.front(count)?;
         Ok(serve(self.alloc, device, &self.senders, &messages))
+    }
+
+    /// The message at an index, sent by user 0.
+    fn by_user_zero(&self, at: usize) -> Result<Vec<u8>> {
+        let next = at.saturating_add(1);
+        let exchange = self.exchanges.get(at..next).context("no message")?;
+        let mut message = messages_of(self.alloc, exchange)?;
+        as_user_zero(message.as_mut_slice())?;
+        Ok(message)
+    }
+
+    /// The archive after a front and the next message, which user 0 sends.
+    fn add_begun(&mut self, count: usize) -> Result<()> {
+        let mut messages = self.front(count)?;
+        messages.extend_from_slice(self.by_user_zero(count)?.as_slice())?;
+        let device = formatted(self.alloc, BLOCKS)?;
+        let ended = serve(self.alloc, device, &self.senders, &messages);
+        let archive = archive_of(self.alloc, ended.device, Fill::Old)?;
+        self.begun.push(archive.context("no archive")?)?;
+        Ok(())
     }
 
     fn add_archive(&mut self, count: usize) -> Result<()> {
@@ -56,9 +90,15 @@ impl<'a> Whole<'a> {
             senders: senders_of(alloc, text)?,
             exchanges: serve_alone(alloc, text)?.exchanges,
             archives: Vec::new(alloc),
+            begun: Vec::new(alloc),
         };
         for count in 0..=whole.exchanges.len() {
             whole.add_archive(count)?;
+        }
+        if whole.senders.checker == Checker::System {
+            for count in 0..whole.exchanges.len() {
+                whole.add_begun(count)?;
+            }
         }
         Ok(whole)
     }
@@ -107,7 +147,8 @@ impl<'a> Whole<'a> {
         }
     }
 
-    /// Whether what was answered is on the disk after the next mount, and nothing else but maybe the message in flight.
+    /// Whether what was answered is on the disk after the next mount, and nothing else but maybe the message in flight: where the system checks, maybe
+    /// without its last call, which gives what was made to its sender.
     fn holds(&self, stop: u64, fill: Fill) -> Result<bool> {
         let mut device = formatted(self.alloc, BLOCKS)?;
         device.stop_at(stop);
@@ -121,7 +162,8 @@ impl<'a> Whole<'a> {
         let next = count.saturating_add(1);
         Ok(
             is_archive(&found, self.archives.get(count))
-                || is_archive(&found, self.archives.get(next)),
+                || is_archive(&found, self.archives.get(next))
+                || is_archive(&found, self.begun.get(count)),
         )
     }
 }

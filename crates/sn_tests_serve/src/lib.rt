@@ -7,6 +7,7 @@
 //! |---|---|
 //! | `? PID TEXT` | the status of a process, in which `%0A` is a line end; `-` can't be read, nor that of one that no line names |
 //! | `? map whole` | the groups of the server's namespace are all mapped |
+//! | `? kernel` | the system checks what messages may do |
 //! | `= END` | a serve begins, which has to end so: `clean`, `message` where what comes is no message |
 //! | `> LINE` | a message. Its number is its place in the serve, from 1 up |
 //! | `< LINE` | its reply; `-` where it has none |
@@ -29,7 +30,7 @@ use anyhow::{Context, Result};
 use sn_testing_tables::Report;
 use std::{env, fs};
 
-const CONVERSATIONS: [&str; 11] = [
+const CONVERSATIONS: [&str; 13] = [
     "conversations/names.txt",
     "conversations/files.txt",
     "conversations/directories.txt",
@@ -39,13 +40,16 @@ const CONVERSATIONS: [&str; 11] = [
     "conversations/snapshots.txt",
     "conversations/forgets.txt",
     "conversations/broken.txt",
+    "conversations/kernel.txt",
     "conversations/drawn.txt",
+    "conversations/drawn_kernel.txt",
     "conversations/tar.txt",
 ];
 
-const FAILING: [&str; 2] = [
+const FAILING: [&str; 3] = [
     "conversations/failing.txt",
     "conversations/drawn_failing.txt",
+    "conversations/failing_kernel.txt",
 ];
 
 /// What stands in a file of the folder that is the program's first argument.

@@ -62,7 +62,7 @@ pub(crate) fn serve(
         alloc,
         device,
         &mut processes,
-        senders.maps_all,
+        senders.checker,
         &mut input,
         &mut replies,
     );

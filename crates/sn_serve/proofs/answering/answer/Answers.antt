@@ -1,9 +1,11 @@
-use Rattle.std.proofs.Common.{[], sym}
+use Rattle.std.proofs.Common.{[], subst, sym}
 use Rattle.std.proofs.lemmas.List.{append-nil}
 use Rattle.std.specs.Prelude.{Some}
+use Rattle.sn_fuse.specs.declared.operation.Time.{Time}
 use Rattle.sn_fuse_replies.specs.declared.answer.Answer.TheVariants.{Error}
 use Rattle.sn_fuse_replies.specs.declared.errno.Errno.TheVariants.{EINVAL, ENOSYS}
-use Rattle.sn_serve.specs.Exchanges.{spelled}
+use Rattle.sn_serve.specs.Answers.{holds_for}
+use Rattle.sn_serve.specs.Exchanges.{IsReply, spelled}
 use Rattle.sn_serve.specs.Exchanges.IsExchange.{short, unknown, misspelt, request}
 use Rattle.sn_serve.proofs.answering.answer.Goals as goal
 
@@ -25,4 +27,5 @@ returns g c =
     let h = c.in-Request.head in
     let op = c.in-Request.op in
     let e = c.reply.ensures in
-    (spelled h.unique e.0, request ((c.decode.ensures.request h op).0 c.in-Request.is) (record { told = c.perform_as-told.result; performs = c.perform_as-told.ensures; told_reply = e.1 }), e.2)
+    let reply : IsReply (holds_for c.args.service.now.checker) op c.perform_as-told.result e.0 = subst (λ (last : Time). IsReply last op c.perform_as-told.result e.0) c.holds_for-last.ensures e.1 in
+    (spelled h.unique e.0, request ((c.decode.ensures.request h op).0 c.in-Request.is) (record { told = c.perform_as-told.result; performs = c.perform_as-told.ensures; told_reply = reply }), e.2)

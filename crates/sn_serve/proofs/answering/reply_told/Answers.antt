@@ -7,7 +7,7 @@ use Rattle.sn_serve.specs.Answers.{reply_of}
 use Rattle.sn_serve.proofs.answering.reply_told.Goals as goal
 
 pub returns-in-Ok : goal.returns-in-Ok
-returns-in-Ok c = (reply_of c.args.told.now, inl refl, c.in-Ok.ensures.ok)
+returns-in-Ok c = (reply_of c.args.last c.args.told.now, inl refl, c.in-Ok.ensures.ok)
 
 pub returns-in-Err : goal.returns-in-Err
 returns-in-Err c = (

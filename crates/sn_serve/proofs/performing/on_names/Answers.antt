@@ -3,7 +3,7 @@ use Rattle.sn_serve.specs.Answers.{done, told_as}
 use Rattle.sn_serve.specs.declared.told.Told.TheVariants as told
 use Rattle.sn_serve.proofs.Telling.{follows_told}
 use Rattle.sn_fuse_replies.specs.declared.errno.Errno.TheVariants.{EPERM}
-use Rattle.sn_plan.specs.Asking.{login_by}
+use Rattle.sn_plan.specs.Asking.{login_by, maker_by}
 use Rattle.sn_plan.specs.Plans.{Refuses}
 use Rattle.sn_plan.proofs.Following.{refuses}
 use Rattle.sn_serve_names.specs.Messages as names
@@ -13,7 +13,7 @@ pub returns-in-Lookup : goal.returns-in-Lookup
 returns-in-Lookup g c = rw c.in-Lookup.is (follows_told told.Found c.lookup.result c.found.result c.found.ensures (ap (λ (n : List ℕ). told_as told.Found (names.lookup (login_by c.args.asker.now) c.args.node n)) c.as_bytes.ensures.same) c.lookup.ensures)
 
 pub returns-in-Mkdir : goal.returns-in-Mkdir
-returns-in-Mkdir g c = rw c.in-Mkdir.is (follows_told told.Found c.mkdir.result c.found-in-Mkdir.result c.found-in-Mkdir.ensures (ap (λ (n : List ℕ). told_as told.Found (names.mkdir (login_by c.args.asker.now) c.args.node n c.in-Mkdir.mode c.in-Mkdir.umask)) c.as_bytes-in-Mkdir.ensures.same) c.mkdir.ensures)
+returns-in-Mkdir g c = rw c.in-Mkdir.is (follows_told told.Found c.mkdir.result c.found-in-Mkdir.result c.found-in-Mkdir.ensures (ap (λ (n : List ℕ). told_as told.Found (names.mkdir (login_by c.args.asker.now) (maker_by c.args.asker.now) c.args.node n c.in-Mkdir.mode c.in-Mkdir.umask)) c.as_bytes-in-Mkdir.ensures.same) c.mkdir.ensures)
 
 pub returns-in-Unlink : goal.returns-in-Unlink
 returns-in-Unlink g c = rw c.in-Unlink.is (follows_told done c.unlink.result c.done.result c.done.ensures (ap (λ (n : List ℕ). told_as done (names.unlink (login_by c.args.asker.now) c.args.node n)) c.as_bytes-in-Unlink.ensures.same) c.unlink.ensures)

@@ -12,4 +12,4 @@ pub returns-in-Attributes : goal.returns-in-Attributes
 returns-in-Attributes g c = follows c.on_attributes.ensures (λ handle. refl)
 
 pub returns-in-Mount : goal.returns-in-Mount
-returns-in-Mount g c = follows (c.on_mount.ensures _) (λ handle. refl)
+returns-in-Mount g c = follows c.on_mount.ensures (λ handle. refl)

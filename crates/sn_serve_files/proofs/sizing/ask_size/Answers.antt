@@ -7,8 +7,8 @@ use Rattle.sn_serve_files.proofs.sizing.ask_size.Goals as goal
 pub returns-in_err-login : goal.returns-in_err-login
 unfolding asks_size
 returns-in_err-login g c = passed_on c.from_residual.result c.in_err-login.field-0.0 c.from_residual.ensures.1
-    (is_not_asked g.F.FileSystem.did c.args.server.now (login_by c.args.asker.now) c.login_of.result _ c.in_err-login.field-0.0 c.login_of.ensures c.in_err-login.was)
+    (is_not_asked g.F.FileSystem.did c.args.server.now (login_by c.args.asker.now) c.login.result _ c.in_err-login.field-0.0 c.login.ensures c.in_err-login.was)
 
 pub returns : goal.returns
 unfolding asks_size
-returns g c = is_asked (login_by c.args.asker.now) c.login_of.result c.in_ok-login.login _ c.login_of.ensures c.in_ok-login.was c.size_in.ensures
+returns g c = is_asked (login_by c.args.asker.now) c.login.result c.in_ok-login.login _ c.login.ensures c.in_ok-login.was c.size_in.ensures

@@ -3,8 +3,8 @@ use Rattle.sn_serve_loop.specs.declared.stop.Stop.TheVariants.{Ended, Memory}
 use Rattle.sn_serve_loop.proofs.ConversationLemmas.{none_yet}
 use Rattle.sn_serve_loop.proofs.conversation.converse.Goals as goal
 
-pub returns-then-is_err : goal.returns-then-is_err
-returns-then-is_err g c =
+pub returns-in-Err : goal.returns-in-Err
+returns-in-Err g c =
     let l = c.log_in.ensures in
     record {
       first = _;
@@ -12,6 +12,7 @@ returns-then-is_err g c =
       blocks = l.0;
       logins = l.1;
       log_in = l.2;
+      all = λ other. absurd (other refl);
       grows = l.3;
       left = c.args.connection.now.frames;
       whole = true;
@@ -19,9 +20,9 @@ returns-then-is_err g c =
       ended = λ is. absurd (let never : Memory ≡ Ended = is in cc);
     }
 
-pub returns : goal.returns
-returns g c =
-    let l = c.log_in.ensures in
+pub returns-in-Ok : goal.returns-in-Ok
+returns-in-Ok g c =
+    let l = c.in-Ok.ensures in
     let v = c.answer_all.ensures in
     record {
       first = _;
@@ -29,6 +30,7 @@ returns g c =
       blocks = l.0;
       logins = l.1;
       log_in = l.2;
+      all = λ _. l.4;
       grows = l.3;
       left = v.0;
       whole = v.1;

@@ -9,4 +9,4 @@ returns-then-is_snapshots g c = after_snapshots c.args.parent _ c.is_snapshots.e
 
 pub returns-else-is_snapshots : goal.returns-else-is_snapshots
 unfolding makes_child
-returns-else-is_snapshots g c = after_snapshots c.args.parent _ c.is_snapshots.ensures (not_chosen _ c.if-is_snapshots.false c.make_directory.ensures)
+returns-else-is_snapshots g c = after_snapshots c.args.parent _ c.is_snapshots.ensures (not_chosen _ c.if-is_snapshots.false c.make_owned.ensures)

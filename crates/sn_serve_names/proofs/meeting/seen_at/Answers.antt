@@ -1,6 +1,6 @@
 use Rattle.sn_plan.proofs.Following.{and_then, gives_as, stops}
-use Rattle.sn_serve_looks.specs.Telling.{seen_at}
-use Rattle.sn_serve_looks.proofs.telling.seen_at.Goals as goal
+use Rattle.sn_serve_names.specs.Entries.{seen_at}
+use Rattle.sn_serve_names.proofs.meeting.seen_at.Goals as goal
 
 pub returns-in_err-number : goal.returns-in_err-number
 unfolding seen_at
