@@ -14,10 +14,11 @@ use sn_testing_tables::Report;
 use std::env;
 
 /// The parts, in the order in which they run.
-const PARTS: [&str; 6] = ["names", "nodes", "fuse", "tar", "untar", "import"];
+const PARTS: [&str; 7] = ["manual", "names", "nodes", "fuse", "tar", "untar", "import"];
 
 fn run(report: &mut Report<'_>, part: &str) -> Result<()> {
     match part {
+        "manual" => sn_tests_manual::run(report),
         "names" => sn_tests_names::run(report),
         "nodes" => sn_tests_nodes::run(report),
         "fuse" => sn_tests_fuse::run(report),
