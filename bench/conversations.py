@@ -1,7 +1,8 @@
 #!/usr/bin/env python3
 """Draws conversations of the system with the server of a mount, and answers them by a plain reading of the messages.
 
-    bench/conversations.py                    writes drawn.txt, drawn_kernel.txt and drawn_failing.txt in crates/sn_tests_serving/data/conversations
+    bench/conversations.py                    writes drawn.txt, drawn_times.txt, drawn_kernel.txt and drawn_failing.txt in
+                                              crates/sn_tests_serving/data/conversations
     bench/conversations.py --check FILE..     prints the replies of conversations that aren't those of the plain reading
     bench/conversations.py --drawn SEED FILE  writes one that is drawn from another seed
 
@@ -25,11 +26,11 @@ from acl_values import entries_of, value_of  # noqa: E402
 from names import to_host  # noqa: E402
 from plain_callers import Callers  # noqa: E402
 from plain_serve import SNAPSHOTS as HIDDEN  # noqa: E402
-from plain_serve import Senders, Server, frames_of  # noqa: E402
+from plain_serve import NUMBERS, Senders, Server, frames_of  # noqa: E402
 from spelling import message_of, reply_of  # noqa: E402
 
 FOLDER = TOP / "crates/sn_tests_serving/data/conversations"
-DRAWN = ("drawn.txt", "drawn_kernel.txt", "drawn_failing.txt")
+DRAWN = ("drawn.txt", "drawn_times.txt", "drawn_kernel.txt", "drawn_failing.txt")
 
 SENDERS = [
     "? 70 Name:%09sh%0AGroups:%09 %0A",
@@ -48,8 +49,11 @@ NAMES = ("a", "b", "c", "d", "e", "f", "a%20b", "%41", "é", ".a")
 SNAPSHOTS = ("s", "t", "s", "t", "s", "t", "old", "a@b", "..")
 SIZES = (0, 1, 3, 5, 10, 100, 4096, 5000, 70_000, 68_719_476_737)
 OFFSETS = (0, 0, 0, 1, 3, 10, 100, 4090, 5000, 69_000, 68_719_476_736, 68_719_476_737)
-# What a SETATTR sets: 1 the mode, 2 the user, 4 the group, 8 the size, 64 through a handle, 48 times.
+# What a SETATTR sets: 1 the mode, 2 the user, 4 the group, 8 the size, 64 through a handle, 16 the access time and 32 that of modification, which with 128
+# and 256 are now.
 SETTINGS = (1, 1, 1, 2, 4, 6, 7, 8, 8, 72, 72, 9, 13, 48, 0)
+DATINGS = (48, 48, 48, 16, 32, 432, 432, 432, 144, 288, 176, 304, 40, 296, 296, 360, 49, 54, 439, 384)
+TIMES = ((0, 0), *((1_000_000_000, 5), (1_500_000_000, 999_999_999)) * 2, (2**64 - 1, 1), (1_600_000_000, 1_000_000_000))
 MODES = (0o755, 0o777, 0o700, 0o750, 0o705, 0o644, 0o666, 0o1777, 0o2775, 0o640, 0o4711, 0)
 ACLS = (
     "u::rw-,u:1001:rw-,g::r--,m::rw-,o::---",
@@ -62,10 +66,18 @@ ATTRIBUTES = ("system.posix_acl_access",) * 4 + ("system.posix_acl_default",) * 
 OPERATIONS = {
     "lookup": 12, "getattr": 6, "setattr": 8, "mkdir": 6, "mknod": 4, "create": 8, "unlink": 8, "rmdir": 4, "rename": 7, "rename2": 3, "link": 5, "open": 6,
     "read": 7, "write": 6, "release": 4, "access": 3, "setxattr": 5, "getxattr": 5, "listxattr": 1, "removexattr": 1, "opendir": 5, "readdir": 12,
-    "releasedir": 3, "forget": 4, "batch_forget": 2, "statfs": 3, "snapshot": 5, "other": 1,
+    "releasedir": 3, "forget": 4, "batch_forget": 2, "statfs": 3, "snapshot": 5, "other": 1, "dating": 5, "same": 3,
 }
-# What isn't drawn for a serve of which writes fail: what changes nothing, and what ends a descriptor.
-NOT_FAILING = ("getattr", "read", "access", "getxattr", "listxattr", "opendir", "readdir", "releasedir", "release", "forget", "batch_forget", "statfs", "other")
+# What is drawn where all that is marked is asked for then.
+MARKING = {
+    "lookup": 12, "setattr": 6, "mkdir": 6, "mknod": 4, "create": 10, "unlink": 8, "rmdir": 5, "rename": 9, "rename2": 3, "link": 6, "open": 6, "read": 3,
+    "write": 9, "release": 3, "setxattr": 3, "removexattr": 2, "opendir": 2, "readdir": 3, "forget": 2, "snapshot": 9, "dating": 20, "same": 6,
+}
+# What isn't drawn for a serve of which writes fail: what changes nothing on the disk, and what ends a descriptor.
+NOT_FAILING = (
+    "getattr", "read", "access", "getxattr", "listxattr", "opendir", "readdir", "releasedir", "release", "forget", "batch_forget", "statfs", "other", "dating",
+    "same",
+)
 # What neither asks nor changes anything.
 REST = (
     "FLUSH {} 0:0 0", "FSYNC {} 0:0 0 1", "FSYNCDIR {} 0:0 0 0", "INTERRUPT {} 0:0 3", "SYMLINK {} 0:0 /s /a", "INIT 0 0:0 7 38 131072 1946157051",
@@ -78,8 +90,9 @@ ASKED_OF_LONG = (
     "GETXATTR {1} 0:0 0 /system.posix_acl_access",
 )
 MAKING = ("create", "mkdir", "mknod", "link")
-SEED, KERNEL_SEED, FAILING_SEED = 1, 2, 2687
-SERVES, KERNEL_SERVES, MESSAGES, FAILING_MESSAGES, FEWEST_NODES, MOST_NODES, MOST_SECTORS, MOST_CHARGED = 14, 5, 110, 16, 10, 24, 110, 1000
+SEED, TIMES_SEED, KERNEL_SEED, FAILING_SEED = 1, 2, 2, 2687
+SERVES, TIMES_SERVES, KERNEL_SERVES, FEWEST_NODES, MOST_NODES, MOST_SECTORS, MOST_CHARGED = 14, 6, 5, 10, 24, 110, 1000
+MESSAGES, TIMES_MESSAGES, FAILING_MESSAGES, CLOCK = 110, 120, 16, "? clock 1700000000"
 
 
 # ---- conversations that are there
@@ -388,8 +401,39 @@ class Conversation:
         handle = self.handle() if flags & 64 else 0
         node = self.server.files.get(handle, (0, 1))[1] if flags & 64 else self.file() if flags & 8 else self.node()
         user, group = self.drawn.choice((0, 1001, 1001, 1002)), self.drawn.choice((0, 50, 50, 60, 100))
-        mode = f"0o{(0o40000 if self.server.table.is_current(node) and self.is_directory(node) else 0o100000) | self.drawn.choice(MODES):o}"
-        self.say("SETATTR", node, flags, handle, self.drawn.choice(self.sizes), 0, 0, 0, 0, mode, user, group)
+        mode = self.drawn.choice(MODES)
+        self.say_attributes(node, flags, handle, self.drawn.choice(self.sizes), mode, user, group)
+
+    def say_attributes(self, node, flags, handle, size, mode, user, group, who=None):
+        mode = f"0o{(0o40000 if self.server.table.is_current(node) and self.is_directory(node) else 0o100000) | mode:o}"
+        (accessed, its), (modified, fraction) = [self.drawn.choice(TIMES) for _ in range(2)] if flags & 48 and self.chance(0.9) else TIMES[:1] * 2
+        self.say("SETATTR", node, flags, handle, size, accessed, modified, its, fraction, mode, user, group, who=who)
+
+    def node_to_date(self):
+        """One of a snapshot, or any."""
+        found = [node for node in self.current() if self.server.table.inode(node) >= NUMBERS]
+        return self.drawn.choice(found) if found and self.chance(0.2) else self.node()
+
+    def who_of(self, node):
+        """Its owner, one of the others, or anybody."""
+        found = self.found_at(node) if self.server.table.is_current(node) else None
+        owners = [who for who in OTHERS if found and who.startswith(f"{found.owner}:")]
+        return self.drawn.choice(owners) if owners and self.chance(0.4) else self.drawn.choice(OTHERS) if self.chance(0.4) else self.who()
+
+    def draw_dating(self):
+        """Times are set, often not by user 0."""
+        flags = self.drawn.choice(DATINGS)
+        handle = self.handle() if flags & 64 else 0
+        node = self.server.files.get(handle, (0, 1))[1] if flags & 64 else self.file() if flags & 8 else self.node_to_date()
+        self.say_attributes(node, flags, handle, self.drawn.choice(self.sizes), self.drawn.choice(MODES), 1001, 50, self.who_of(node))
+
+    def draw_same(self):
+        """Mode and owner are set to what they are, or nearly."""
+        node = self.node_to_date()
+        found = self.found_at(node) if self.server.table.is_current(node) else None
+        mode, user, group = (found.special | found.acl.mode(), found.owner, found.group) if found else (0o644, 0, 0)
+        mode ^= self.drawn.choice((0, 0, 0, 0o4000, 0o020))
+        self.say_attributes(node, self.drawn.choice((1, 2, 4, 6, 7, 7, 439)), 0, 0, mode, user, self.drawn.choice((group, group, group, 50)), self.who_of(node))
 
     def draw_setxattr(self):
         value = value_of(entries_of(self.drawn.choice(ACLS)))
@@ -464,6 +508,34 @@ class Kernel(Conversation):
         return self.drawn.choice(self.drawn.choices((ROOTS, OTHERS, UNKNOWN), (20, 60, 20))[0])
 
 
+class Dated(Conversation):
+    """With a clock. What times a message marked is asked for then, and those of another node."""
+
+    def __init__(self, seed):
+        super().__init__(seed, MARKING, [CLOCK, *SENDERS])
+        self.fewest = 7
+
+    def who(self):
+        return self.drawn.choice(ROOTS) if self.chance(0.7) else super().who()
+
+    def directory(self):
+        """Most often one of the live tree."""
+        live = [node for node in self.current() if self.server.table.inode(node) < NUMBERS and self.is_directory(node)]
+        return self.drawn.choice(live) if self.chance(0.8) else super().directory()
+
+    def file(self):
+        live = [node for node in self.current() if self.server.table.inode(node) < NUMBERS and not self.is_directory(node)]
+        return self.drawn.choice(live) if live and self.chance(0.8) else super().file()
+
+    def tell(self, line):
+        before = dict(self.server.times.kept)
+        super().tell(line)
+        after = self.server.times.kept
+        marked = [node for node in self.current() if before.get(number := self.server.table.inode(node)) != after.get(number)]
+        for node in [*marked, *([self.drawn.choice(self.current())] if self.chance(0.2) else [])]:
+            super().tell(f"GETATTR {node} 0:0 0 0")
+
+
 class Limits(Conversation):
     """Besides: paths that get too long for calls, and more handles than a session has descriptors."""
 
@@ -536,6 +608,13 @@ def drawn(seed):
     return conversation
 
 
+def drawn_times(seed):
+    conversation = Dated(seed)
+    for _ in range(TIMES_SERVES):
+        conversation.serve(TIMES_MESSAGES)
+    return conversation
+
+
 def drawn_kernel(seed):
     conversation = Kernel(seed)
     for _ in range(KERNEL_SERVES):
@@ -553,6 +632,10 @@ HEAD = [
     "# Drawn messages, answered by the plain reading in bench/conversations.py: files unlinked, renamed over and linked while they are open, numbers used",
     "# again, directories renamed above what is open, snapshots deleted and made anew, ids forgotten in any order, and senders who are denied or not known.",
 ]
+TIMES_HEAD = [
+    "# Drawn messages, answered by the plain reading in bench/conversations.py, with a clock: what times each has marked is asked for then. The times of access,",
+    "# modification and change stand before the mode, which is in decimal.",
+]
 KERNEL_HEAD = ["# Drawn messages that the kernel has checked, of senders of whom nothing is told, answered by the plain reading in bench/conversations.py."]
 FAILING_HEAD = ["# Drawn messages on devices of 256 blocks, of which each write fails in turn, answered by the plain reading in bench/conversations.py."]
 
@@ -568,6 +651,7 @@ def main():
         return 1
     conversation = drawn(SEED)
     (FOLDER / "drawn.txt").write_text(conversation.text(HEAD))
+    (FOLDER / "drawn_times.txt").write_text(drawn_times(TIMES_SEED).text(TIMES_HEAD))
     (FOLDER / "drawn_kernel.txt").write_text(drawn_kernel(KERNEL_SEED).text(KERNEL_HEAD))
     (FOLDER / "drawn_failing.txt").write_text(drawn_failing(FAILING_SEED).text(FAILING_HEAD))
     for word, count in conversation.counts.most_common():

@@ -2,16 +2,18 @@
 # Uses a mount as people do: cp, tar, rsync, getfacl and setfacl, find, git, make, SQLite and fio, and says what isn't as it was or as on the
 # system's own file system.
 #
-#     bench/mount/clients.sh [PROGRAM]
+#     bench/mount/clients.sh [PROGRAM [kernel]]
 #
-# Run by hand as root where there is /dev/fuse; takes some minutes, most of them syncs. A client that isn't installed is left out with a line.
-# Times aren't kept, so none is compared, rsync goes by sums, and what only times would show isn't tried: it is told at the end.
+# With `kernel` Linux checks on the mount. Run by hand as root where there is /dev/fuse; takes some minutes, most of them syncs. A client that isn't
+# installed is left out with a line.
 # (its functions are called by the words of a case)
 # shellcheck disable=SC2317
 # shellcheck source-path=SCRIPTDIR source=shared.sh
 . "$(dirname "$0")/shared.sh"
 export HOME=$work GIT_CONFIG_GLOBAL=/dev/null GIT_CONFIG_NOSYSTEM=1
 from=$work/from back=$work/back
+checks=()
+[ "${2-}" != kernel ] || checks=(kernel)
 mkdir "$from" "$back"
 
 # Whether these commands are there.
@@ -25,7 +27,16 @@ has() {
     done
 }
 
-# A tree with modes, owners, hard links, access control lists, and names of all kinds.
+# Gives all below here times of whole seconds, which tar keeps, each another.
+date_all() {
+    local path seconds=1600000000
+    find . -depth -mindepth 1 -print0 | while IFS= read -r -d '' path; do
+        touch -d "@$seconds" "$path"
+        seconds=$((seconds + 1000))
+    done
+}
+
+# A tree with modes, owners, hard links, access control lists, times, and names of all kinds.
 make_tree() {
     cd "$from" || return
     mkdir -p a/b/c empty "with space" set-group sticky
@@ -48,6 +59,7 @@ make_tree() {
         setfacl -m u:1001:rw,g:50:r a/b/small
         setfacl -d -m u:1002:rwx,g:60:rx a/b
     fi
+    date_all
 }
 
 # What a tree has but times: kinds, modes, owners, links, sizes; access control lists. Links of directories are one here.
@@ -61,8 +73,16 @@ told_of() {
     )
 }
 
-same() {
+# When all below was modified.
+dates_of() {
+    (cd "$1" && find . -mindepth 1 -printf '%p %T@\n' | sort)
+}
+
+alike() {
     told_of "$1" >"$work/one" && told_of "$2" >"$work/two" && diff "$work/one" "$work/two" && diff -r "$1" "$2"
+}
+same() {
+    alike "$1" "$2" && dates_of "$1" >"$work/one" && dates_of "$2" >"$work/two" && diff "$work/one" "$work/two"
 }
 
 copies_in() { cp -a "$from" "$dir/copied" && same "$from" "$dir/copied"; }
@@ -76,14 +96,20 @@ packs_out() {
         tar --acls -C "$back/unpacked" -xpf "$work/out.tar" && same "$from" "$back/unpacked"
 }
 
-# What rsync says that it changes, which is nothing where the sums, modes, owners and lists are equal.
+# What rsync says that it changes, which is nothing where sizes, times, modes, owners and lists are equal.
 synced() {
-    rsync -rpgoDHAXi --checksum "$@" "$from/" "$dir/synced/"
+    rsync -aHAXi "$@" "$from/" "$dir/synced/"
 }
 syncs() { synced >"$work/list" && same "$from" "$dir/synced"; }
 syncs_again() { [ -z "$(synced)" ]; }
 syncs_a_change() {
-    echo more >>"$from/a/none" && synced | grep -q '^>fc.* a/none$' && same "$from" "$dir/synced" && syncs_again
+    echo more >>"$from/a/none" && synced | grep -q '^>f\.st.* a/none$' && same "$from" "$dir/synced" && syncs_again
+}
+# One that leaves the size is told by its time, and one of the mount is undone.
+syncs_a_change_of_time() {
+    echo o >"$from/100%" && synced | grep -q '^>f\.\.t.* 100%$' && same "$from" "$dir/synced" && syncs_again &&
+        echo undone >"$dir/synced/a/none" && touch -d @1700000000 "$dir/synced/a/large" && synced >"$work/list" &&
+        grep -q ' a/none$' "$work/list" && grep -q '^[>.]f\.\.t.* a/large$' "$work/list" && same "$from" "$dir/synced" && syncs_again
 }
 syncs_a_removal() { rm -r "${from:?}/with space" && synced --delete && same "$from" "$dir/synced"; }
 
@@ -97,13 +123,19 @@ sets_a_list() {
         setfacl -x u:7 large && setfacl -b large && setfacl -d -m u:8:rx . && setfacl -k . && [ -z "$(getfacl -cdn .)" ]
 }
 
-# What find finds here and there by what isn't a time.
+# What find finds here and there.
 finds() {
     local tests
     for tests in "-type f" "-perm -2000" "-user 1001" "-type f -links 2" "-size +100k" "-empty" "-name *%*" "-newermt 2200-01-01"; do
         # shellcheck disable=SC2086
         diff <(cd "$from" && find . $tests | sort) <(cd "$dir/synced" && find . $tests | sort) || return
     done
+    for tests in "-newer a/large" "-newermt @1600005000" "-not -newer a/large" "-mmin -60"; do
+        # shellcheck disable=SC2086
+        diff <(cd "$from" && find . -mindepth 1 $tests | sort) <(cd "$dir/synced" && find . -mindepth 1 $tests | sort) || return
+    done
+    [ -n "$(find "$dir/synced" -newer "$dir/synced/a/large")" ] && touch "$work/before" && sleep 0.1 && echo x >"$dir/newer" &&
+        [ "$(find "$dir" -newer "$work/before")" = "$(printf '%s\n' "$dir" "$dir/newer")" ] && rm "$dir/newer"
 }
 removes_while_listing() {
     mkdir "$dir/many" && (cd "$dir/many" && seq 500 | xargs touch) && [ "$(find "$dir/many" -type f | wc -l)" = 500 ] &&
@@ -119,6 +151,8 @@ keeps_a_history() {
     done
     [ -z "$(git status --porcelain)" ] && git checkout -q HEAD~1 && ! [ -e file3 ] && git checkout -q - && [ "$(cat file3)" = 3 ] &&
         echo longer >>file1 && [ "$(git status --porcelain)" = " M file1" ] && git checkout -q file1 &&
+        echo 9 >file1 && [ "$(git status --porcelain)" = " M file1" ] && git checkout -q file1 && [ "$(cat file1)" = 1 ] &&
+        touch file2 && [ -z "$(git status --porcelain)" ] && git diff-files --quiet &&
         git gc -q && git fsck --no-dangling && [ "$(git log --oneline | wc -l)" = 3 ]
 }
 clones() {
@@ -126,9 +160,17 @@ clones() {
         diff -r --exclude=.git "$dir/repository" "$dir/clone"
 }
 
+# What make has made: only what is older than what it is made of.
+has_made() {
+    make -q all && [ "$(tr '\n' ' ' <made)" = "$*" ] && : >made
+}
 builds() {
-    mkdir "$dir/built" && cd "$dir/built" && printf 'all: one two\none: in\n\tcp in one\ntwo: one\n\tcat one one >two\n' >Makefile &&
-        echo text >in && make -s && make -q && [ "$(cat two)" = "$(printf 'text\ntext')" ] && rm one two && ! make -q && make -s -j2 && make -q
+    mkdir "$dir/built" && cd "$dir/built" &&
+        printf 'all: two three\none: in\n\tcp in one; echo one >>made\ntwo: one\n\tcat one one >two; echo two >>made\nthree: other\n\tcp other three; echo three >>made\n' >Makefile &&
+        echo text >in && echo other >other && make -s && has_made "one two three " && [ "$(cat two)" = "$(printf 'text\ntext')" ] &&
+        make -s && has_made "" && echo new >in && ! make -q && make -s && has_made "one two " && [ "$(cat two)" = "$(printf 'new\nnew')" ] &&
+        touch other && ! make -q && make -s && has_made "three " && touch -d @5 other && make -s && has_made "" &&
+        rm one two && ! make -q && make -s -j2 && has_made "one two "
 }
 
 keeps_tables() {
@@ -188,7 +230,7 @@ removes_all() { rm -rf "${dir:?}"/* && [ -z "$(ls -A "$dir")" ]; }
 
 make_tree
 cd "$work" || exit 1
-"$snapfs" mkfs "$image" 32768 >/dev/null && "$snapfs" mount "$image" "$dir" 2>"$work/told" || exit 1
+"$snapfs" mkfs "$image" 32768 >/dev/null && "$snapfs" mount "$image" "$dir" "${checks[@]}" 2>"$work/told" || exit 1
 holds "cp -a in" copies_in
 holds "cp -a out" copies_out
 holds "tar in" packs_in
@@ -201,6 +243,7 @@ if has rsync; then
     holds "rsync" syncs
     holds "rsync again: nothing to do" syncs_again
     holds "rsync of a change" syncs_a_change
+    holds "rsync of a change that only times show" syncs_a_change_of_time
     holds "rsync --delete" syncs_a_removal
     holds "find" finds
     holds "snapshots: diff, restore, refused change" looks_back
@@ -230,11 +273,10 @@ holds "flock" locks
 holds "tar goes on where it has a symbolic link" goes_on_without_links
 case_of "unmounted, to be mounted again" 0 "" "$snapfs" unmount "$dir"
 holds "and sound" sh -c "'$snapfs' check '$image' | grep '^clean '"
-case_of "mounted again" 0 "" "$snapfs" mount "$image" "$dir"
-holds "all is there" same "$from" "$dir/synced"
+case_of "mounted again" 0 "" "$snapfs" mount "$image" "$dir" "${checks[@]}"
+holds "all is there" alike "$from" "$dir/synced"
 holds "all of it removed" removes_all
 case_of "unmounted" 0 "" "$snapfs" unmount "$dir"
 holds "sound" sh -c "'$snapfs' check '$image' | grep '^clean '"
 holds "the program told nothing" cmp "$work/told" /dev/null
-echo "not tried, since times aren't kept: rsync by times, make of what is newer, git of a change that leaves a file's size"
 finish

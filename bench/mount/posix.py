@@ -1,24 +1,32 @@
 #!/usr/bin/env python3
 """Makes the same calls of the system on a mount and on the host's file system, and compares what they are answered.
 
-    posix.py DIR [HOST [WORD..]]    DIR on the mount, HOST a folder of another file system; with words, only the cases with one in their name
+    posix.py DIR [HOST [kernel] [WORD..]]    DIR on the mount, HOST a folder of another file system; with words, only the cases with one in their name
 
 Run by hand as root; `posix.sh` mounts an image for it. A case is a list of calls, each made by user 0 or another user in a process of its own, in a
-new directory. An answer is a value without numbers of nodes and times, or an errno. Where the two differ, the case has to be in DIFFERS, by its
-name and with why; each of those has to differ. The last line is 'N cases, D that may differ, M wrong'.
+new directory. An answer is a value without numbers of nodes, and without times that a clock showed, or an errno. Where the two differ, the case has
+to be in `posix_differs.py`, by its name and with why; each of those has to differ. With `kernel` the mount is one where Linux checks. The last line is
+'N cases, D that may differ, M wrong'.
 """
 
 import ctypes
 import errno
-import fnmatch
 import itertools
 import mmap
 import os
+import shutil
 import socket
 import stat
 import struct
 import sys
 import tempfile
+import time
+
+sys.dont_write_bytecode = True
+
+import posix_times  # noqa: E402
+from posix_differs import may_differ, why_it_may  # noqa: E402
+from posix_times import NOW, OMIT, marked, set_times, times_of, with_file  # noqa: E402, F401
 
 LIBC = ctypes.CDLL(None, use_errno=True)
 ACCESS, DEFAULT = "system.posix_acl_access", "system.posix_acl_default"
@@ -662,8 +670,13 @@ case("pipe", ("anna", "os.mkfifo('x')"))
 case("device", ("root", "os.mknod('x', 0o20666, os.makedev(1, 3))"))
 case("regular file by mknod", ("anna", "(os.mknod('x', 0o100640), about('x'))[1]"))
 case("socket", ("anna", "socket.socket(socket.AF_UNIX).bind('x')"))
-case("times", ("anna", "put('x')"), ("anna", "(os.utime('x', (5, 7)), os.stat('x').st_mtime)[1]"))
 case("length of names", ("anna", "os.statvfs('.').f_namemax"))
+
+
+# ---- Times
+
+for name, steps in posix_times.cases().items():
+    case(name, *steps)
 
 
 def hash_of(data):
@@ -683,63 +696,11 @@ def direct(file):
         return os.write(file, page)
 
 
-# ---- What may differ, by the name of a case or a pattern of names, and why
-
-DIFFERS = {
-    "access a file root": "user 0 is granted everything, also to run what nobody may run",
-    "access a file of anna's root": "the same",
-    "link a file anna": "a link takes no right on the file, and fs.protected_hardlinks asks the kernel alone",
-    "link a file ben": "the same",
-    "link a file of anna's ben": "the same",
-    "rename with flags 2": "names aren't exchanged",
-    "rename with flags 4*": "nothing is left in the place of a name",
-    "rename of a closed directory to another": "a directory is moved without a right on it",
-    "name 86 of one escape*": "a name of over 255 bytes in the image",
-    "name 43 of two bytes*": "the same",
-    "path of too many parts": "a path of over 1,023 bytes",
-    "path by steps": "the same",
-    "chmod 4755*": "set-user-ID is dropped",
-    "chmod 2775 of a directory anna": "a directory keeps S_ISGID as it is asked for",
-    "chmod 2600 of a directory anna": "the same",
-    "chown * root": "S_ISGID stays where user 0 sets the owner",
-    "chown -1 -1*": "nothing is asked where nothing is set",
-    "open with mode*": "the S bits of the mode of what is made are dropped",
-    "mkdir with mode 1777": "the same",
-    "S bits of a file that is written b'more'": "S_ISGID stays where others write",
-    "S bits of a file that is cut": "the same",
-    "a program that may not be read": "a program is opened to read",
-    "ACL user twice": "an entry comes once",
-    "default ACL user twice": "the same",
-    "ACL users unsorted": "entries are kept in order",
-    "default ACL users unsorted": "the same",
-    "ACL 33 users": "32 entries at the most",
-    "default ACL 33 users": "the same",
-    "access by u::6,u:1002:6,g::6,m::0,o::6 ben": "a mask without rights denies whom an entry names",
-    "attribute nothing": "no other attributes",
-    "attribute that is set": "the same",
-    "a file that is too large": "64 GiB at the most",
-    "unlinked: *": "what has no name is read and written alone",
-    "removed while one is in it": "a removed directory has no attributes",
-    "fallocate": "not there",
-    "without a name": "not there",
-    "symbolic link": "not there",
-    "pipe": "not there",
-    "device": "not there",
-    "socket": "not there",
-    "times": "not kept",
-}
-
-
-def why_it_may(name):
-    """The first pattern of DIFFERS that a name is of."""
-    fronts = [pattern for pattern in DIFFERS if fnmatch.fnmatchcase(name, pattern)]
-    return fronts[0] if fronts else None
-
-
 def main():
     mounted = sys.argv[1]
     host = sys.argv[2] if len(sys.argv) > 2 else tempfile.gettempdir()
-    words = sys.argv[3:]
+    is_checked = sys.argv[3:4] == ["kernel"]
+    words, differs = sys.argv[4 if is_checked else 3 :], may_differ(is_checked)
     cases = wrong = may = 0
     met = set()
     with tempfile.TemporaryDirectory(dir=mounted) as here, tempfile.TemporaryDirectory(dir=host) as there:
@@ -753,7 +714,7 @@ def main():
             for top in (there, here):
                 os.mkdir(f"{top}/{number}")
                 told.append(answers(steps, f"{top}/{number}"))
-            front = why_it_may(name)
+            front = why_it_may(name, differs)
             if told[0] == told[1]:
                 continue
             met.add(front)
@@ -763,7 +724,7 @@ def main():
                 for (who, call), wanted, found in zip(steps, *told):
                     if wanted != found:
                         print(f"wrong: {name}: {call if isinstance(call, str) else name} by {who}: host {wanted[:400]}, mount {found[:400]}")
-    for front in DIFFERS:
+    for front in differs:
         if not words and front not in met:
             wrong += 1
             print(f"wrong: {front} doesn't differ")

@@ -1,7 +1,7 @@
 """The messages of a mount, by a plain reading of what each does: a list of calls by path, whose replies make the answer.
 
-The calls are those of `plain_callers`, the ids of nodes those of `node_tables`. Times aren't there. What is told of room is right for a new image of
-4,096 blocks, until a point is made.
+The calls are those of `plain_callers`, the ids of nodes those of `node_tables`, the times those of `plain_times`. What is told of room is right for a new
+image of 4,096 blocks, until a point is made.
 """
 
 import os
@@ -17,13 +17,16 @@ from names import to_host, to_image  # noqa: E402
 from node_tables import Table  # noqa: E402
 from plain_world import rights  # noqa: E402
 
-from spelling import HEAD, WORDS, Misspelt, fields_of, listing_of  # noqa: E402
+from plain_times import About, Clock, Times, dating_of  # noqa: E402
+from spelling import HEAD, NO_TIMES, WORDS, Misspelt, fields_of, in_full, listing_of  # noqa: E402
 
 HANDLES, BLOCK_HANDLES, MOST_GROUPS, UNMAPPED, MOST_NAMED = 4032, 64, 32, 65534, 32
 SNAPSHOTS, NUMBERS, LARGEST_MESSAGE = 65537, 65536, 1 << 20
 KINDS = {b"system.posix_acl_access": "a", b"system.posix_acl_default": "d"}
 WRITE_MAX, TAKEN, POSIX_ACL, DATA_BLOCKS, RESERVE = 28_672, 0x480069, 0x100000, 4020, 64
 MODE, USER, GROUP, SIZE, BY_HANDLE = 1, 2, 4, 8, 64
+MODES, SET_GROUP = 0o3777, 0o2000
+TELLS_NODE = ("FOUND", "KNOWN", "MADE")
 WITHOUT_REPLY = ("FORGET", "BATCH_FORGET", "INTERRUPT")
 
 
@@ -32,11 +35,13 @@ class No(Exception):
 
 
 class Senders:
-    """What is told of processes: the text of a status, or `-`."""
+    """What is told of processes: the text of a status, or `-`, and of the clock, which shows `first_seconds` at the mount."""
 
     def __init__(self, lines):
         self.maps_all, self.kernel_checks = "? map whole" in lines, "? kernel" in lines
-        words = [line.split(" ", 2)[1:] for line in lines if line not in ("? map whole", "? kernel")]
+        clocks = [int(line.split(" ")[2]) for line in lines if line.startswith("? clock ")]
+        self.first_seconds = clocks[-1] if clocks else None
+        words = [line.split(" ", 2)[1:] for line in lines if line not in ("? map whole", "? kernel") and not line.startswith("? clock ")]
         self.statuses = {int(process): text.replace("%0A", "\n").replace("%09", "\t") for process, text in reversed(words) if text != "-"}
 
     def groups(self, process):
@@ -151,6 +156,7 @@ class Server:
         world.crash()
         self.world, self.senders = world, senders
         self.table, self.homes, self.lists, self.files, self.asks = Table(), Homes(), Lists(), {}, None
+        self.times = Times(Clock(senders.first_seconds))
         for session in (0, *range(2, 64)):
             self.call(session, "login 0 0 -")
 
@@ -164,14 +170,60 @@ class Server:
         if word is None:
             return "ERROR ENOSYS"
         try:
-            reply = getattr(self, f"do_{word.lower()}")(node, *fields_of(opcode, message[HEAD:]))
+            fields = fields_of(opcode, message[HEAD:])
         except Misspelt:
             return "ERROR EINVAL"
-        except No as error:
-            reply = f"ERROR {error}"
-        if self.senders.kernel_checks and reply and reply.split()[0] in ("FOUND", "KNOWN", "MADE"):
-            reply = f"HELD {reply}"
+        reply = self.dated(self.perform(word, node, fields))
         return "-" if word in WITHOUT_REPLY else reply or "NOTHING"
+
+    def perform(self, word, node, fields):
+        """Does what a message asks for, and marks the times that this changes. What is told has none yet."""
+        about = self.about(word, node, fields)
+        try:
+            reply = getattr(self, f"do_{word.lower()}")(node, *fields)
+        except No as error:
+            self.times.clock.now()
+            return f"ERROR {error}"
+        self.times.mark(word, about, fields, self.number_told(reply))
+        return reply
+
+    # ---- times
+
+    def about(self, word, node, fields):
+        """What a message is about, as far as the ids tell it."""
+        if word == "WRITE":
+            return About(node=self.number_of(self.files.get(fields[0], (0, 0))[1]))
+        about = About(node=self.number_of(node))
+        if word == "LINK":
+            about.child = self.number_of(fields[0])
+        if word in ("CREATE", "UNLINK", "RMDIR"):
+            about.child = self.number_below(node, fields[-1])
+        if word in ("RENAME", "RENAME2"):
+            about.child, about.replaced = self.number_below(node, fields[-2]), self.number_below(fields[0], fields[-1])
+            about.directory = self.number_of(fields[0])
+        return about
+
+    def number_of(self, node):
+        number = self.table.inode(node)
+        return None if number == "none" else number
+
+    def number_below(self, parent, name):
+        image = to_image(name)
+        return None if " " in image else self.number_of(self.table.named(parent, image))
+
+    @staticmethod
+    def number_told(reply):
+        """The number of the node that a reply tells of."""
+        word, *words = (reply or "NOTHING").split()
+        return int(words[0] if word == "KNOWN" else words[1]) if word in TELLS_NODE else None
+
+    def dated(self, reply):
+        """What is told of a node, with its times where it has any, and for how long they may be held."""
+        number = self.number_told(reply)
+        if number is None:
+            return reply
+        line, times = f"HELD {reply}" if self.senders.kernel_checks else reply, self.times.of(number)
+        return line if times == NO_TIMES else in_full(line, times)
 
     # ---- calls and looks
 
@@ -412,15 +464,46 @@ class Server:
         return f"KNOWN {told_of(self.table.inode(node), status)}"
 
     def do_setattr(self, node, flags, handle, size, *others):
-        mode, user, group = others[-3:]
+        (_, there), dating = self.status(node), dating_of((flags, handle, size, *others))
+        if dating.is_asked:
+            self.need_dating(node, there, dating, flags & SIZE)
         if flags & SIZE:
             self.set_size(node, handle if flags & BY_HANDLE and handle in self.files else None, size)
-        if flags & (USER | GROUP):
-            owners = f"{user if flags & USER else '-'} {group if flags & GROUP else '-'}"
-            self.as_caller(f"chown {self.path(node)} {owners}")
+        self.set_owner(node, there, *(who if flags & bit else None for who, bit in zip(others[-2:], (USER, GROUP))))
         if flags & MODE:
-            self.as_caller(f"chmod {self.path(node)} {mode & 0o3777:04o}")
+            self.set_mode(node, there, others[-3] & MODES)
         return self.do_getattr(node)
+
+    def is_live(self, node):
+        return self.table.inode(node) < NUMBERS
+
+    def need_dating(self, node, there, dating, with_size):
+        """Whether who asks may set times, by futimens() of POSIX.1-2017: the owner and user 0 any, and who may write both to now."""
+        if not dating.are_times():
+            raise No("EINVAL")
+        if not self.is_live(node):
+            raise No("EROFS")
+        if self.asks[0] not in (0, int(there.split()[3])):
+            if with_size and not dating.names_any():
+                return
+            if not dating.are_both_now():
+                raise No("EPERM")
+            self.as_caller(f"access {self.path(node)} -w-")
+
+    def keeps_all(self, node, there):
+        """Whether a chown or a chmod of who asks that sets what is there would change nothing, and not be refused."""
+        _, mode, _, owner, *_ = there.split()
+        return self.is_live(node) and (self.asks[0] == 0 or self.asks[0] == int(owner) and not int(mode, 8) & SET_GROUP)
+
+    def set_owner(self, node, there, user, group):
+        owners = there.split()[3:5]
+        if user is group is None or self.keeps_all(node, there) and all(who is None or who == int(was) for who, was in zip((user, group), owners)):
+            return
+        self.as_caller(f"chown {self.path(node)} {'-' if user is None else user} {'-' if group is None else group}")
+
+    def set_mode(self, node, there, mode):
+        if not (self.keeps_all(node, there) and mode == int(there.split()[1], 8) & MODES):
+            self.as_caller(f"chmod {self.path(node)} {mode:04o}")
 
     def set_size(self, node, handle, size):
         if handle is None:

@@ -99,8 +99,9 @@ def head():
     tar = subprocess.run(["tar", "--version"], capture_output=True, check=True, text=True).stdout.split("\n")[0]
     return [
         f"# What {system.sysname} {system.release.split('-')[0]} said to the server of a mount while user 0 unpacked and packed a tree by {tar},",
-        "# recorded by bench/serve_session/record.py, which answered by the plain reading: all replies are of that, and times are 0. The groups of user 0 aren't",
-        "# read, so that the numbers of processes are left out, and so is STATFS. INIT is told by its opcode, 26, and its body, and so is what has a name with spaces.",
+        "# recorded by bench/serve_session/record.py, which answered by the plain reading: all replies are of that, with a clock that shows 0. The groups of",
+        "# user 0 aren't read, so that the numbers of processes are left out, and so is STATFS. INIT is told by its opcode, 26, and its body, and so is what has a",
+        "# name with spaces.",
     ]
 
 

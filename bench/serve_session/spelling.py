@@ -15,6 +15,7 @@ LAYOUTS = {
 }
 WORDS = {opcode: word for word, (opcode, _) in LAYOUTS.items()}
 HEAD, PROCESS, UNREAD, YEAR = 40, "77", b"\xa5" * 4, 31_536_000
+NO_TIMES, HELD_FOR = ((0, 0),) * 3, {False: "0 0", True: f"{YEAR} 0"}
 KINDS = {"directory": 4, "file": 8}
 
 
@@ -118,16 +119,32 @@ def line_of(message):
 # ---- replies
 
 
-def attributes_of(words):
+def attributes_in_full(words, times):
+    """All attributes, of those of a short line and the times of access, modification and change."""
     number, mode, links, owners, size = words
-    user, group = owners.split(":")
     kind = {"d": 0x4000, "f": 0x8000}[mode[0]]
-    blocks = (int(size) + 511) // 512
-    return struct.pack("<6Q10I", int(number), int(size), blocks, 0, 0, 0, 0, 0, 0, kind | int(mode[1:], 8), int(links), int(user), int(group), 0, 4096, 0)
+    dates = " ".join(f"{seconds} {nanoseconds}" for seconds, nanoseconds in times)
+    return f"{number} {size} {(int(size) + 511) // 512} {dates} {kind | int(mode[1:], 8)} {links} {owners.replace(':', ' ')} 0 4096"
 
 
-def entry_of(words, last):
-    return struct.pack("<QQQQII", int(words[0]), 0, YEAR, last, 0, 0) + attributes_of(words[1:6])
+def in_full(line, times=NO_TIMES):
+    """The line that spells all fields of what a short one tells of a node, and its times."""
+    word, *words = line.removeprefix("HELD ").split()
+    last = HELD_FOR[line.startswith("HELD ")]
+    if word == "KNOWN":
+        return f"ATTRIBUTES {last};{attributes_in_full(words, times)}"
+    entry = f"{words[0]} 0 {YEAR} 0 {last};{attributes_in_full(words[1:6], times)}"
+    return f"ENTRY {entry}" if word == "FOUND" else f"CREATED {entry};{words[6]} 0"
+
+
+def attributes_of(words):
+    numbers = [int(word) for word in words.split()]
+    return struct.pack("<6Q10I", *numbers[:3], *numbers[3:9:2], *numbers[4:9:2], *numbers[9:], 0)
+
+
+def entry_of(words, attributes):
+    node, generation, name_lasts, name_fraction, last, fraction = map(int, words.split())
+    return struct.pack("<QQQQII", node, generation, name_lasts, last, name_fraction, fraction) + attributes_of(attributes)
 
 
 def opened_of(handle, flags="0"):
@@ -147,15 +164,17 @@ def listing_of(size, *entries):
     return body
 
 
-def answer_body(word, words, last=0):
-    if word == "HELD":
-        return answer_body(words[0], words[1:], YEAR)
-    if word == "FOUND":
-        return entry_of(words, last)
-    if word == "KNOWN":
-        return struct.pack("<QI4x", last, 0) + attributes_of(words)
-    if word == "MADE":
-        return entry_of(words, last) + opened_of(words[6])
+def answer_body(line):
+    word, _, rest = line.partition(" ")
+    words, parts = rest.split(), rest.split(";")
+    if word in ("HELD", "FOUND", "KNOWN", "MADE"):
+        return answer_body(in_full(line))
+    if word == "ENTRY":
+        return entry_of(*parts)
+    if word == "ATTRIBUTES":
+        return struct.pack("<QI4x", *map(int, parts[0].split())) + attributes_of(parts[1])
+    if word == "CREATED":
+        return entry_of(*parts[:2]) + opened_of(*parts[2].split())
     if word == "OPENED":
         return opened_of(*words)
     if word in ("WRITTEN", "XATTRSIZE"):
@@ -176,5 +195,5 @@ def reply_of(unique, line):
     word, *words = line.split()
     if word == "ERROR":
         return struct.pack("<IiQ", 16, -getattr(errno, words[0]), unique)
-    body = b"" if word == "NOTHING" else answer_body(word, words)
+    body = b"" if word == "NOTHING" else answer_body(line)
     return struct.pack("<IiQ", 16 + len(body), 0, unique) + body

@@ -9,32 +9,33 @@ use Rattle.sn_command.specs.declared.command.Checker.{Checker as Asked}
 use Rattle.sn_plan.specs.declared.checker.Checker.{Checker}
 use Rattle.sn_serve_image.specs.Serves.{IsRefused, IsServed, IsUnmounted}
 use Rattle.sn_serve_image.specs.declared.fault.ServeFault.{ServeFault}
+use Rattle.sn_times.specs.Dates.{Dates}
 use Rattle.sn_program.specs.Tasks.{BeginsToServe, ServesMount, checker_of}
 
 -- what came of a serve, by the same output where there was no mount
-abbrev Comes : Type 0 → Bool → Checker → ℕ → Option (List ℕ) → Option (List ℕ) → Option (List ℕ) → Option (List ℕ) → Result (Unit {0}) ServeFault → Disk → Disk → Type 0
-Comes Same told checker sectors input rest old new outcome disk last =
-    (IsRefused outcome disk last × Same) ⊎ (((why : MountFault) × IsUnmounted told why sectors outcome disk last × Same) ⊎ IsServed told tells_anything checker tt tt input rest old new outcome disk last)
+abbrev Comes : Type 0 → Bool → Checker → Dates → Dates → ℕ → Option (List ℕ) → Option (List ℕ) → Option (List ℕ) → Option (List ℕ) → Result (Unit {0}) ServeFault → Disk → Disk → Type 0
+Comes Same told checker dates left sectors input rest old new outcome disk last =
+    (IsRefused outcome disk last × Same) ⊎ (((why : MountFault) × IsUnmounted told why sectors outcome disk last × Same) ⊎ IsServed told tells_anything checker dates left tt tt input rest old new outcome disk last)
 
 abbrev not_ok : {P : Type 0} (outcome : Result (Unit {0}) ServeFault) (why : ServeFault) → outcome ≡ Ok tt → outcome ≡ Err why → P
 not_ok outcome why well is = absurd (true≢false (ap is_ok (sym well ∙ is)))
 
 -- by the checker that the words say, with the outcome that is known
-served_by : (told : Bool) {c d : Checker} {input rest old new : Option (List ℕ)} {o r : Result (Unit {0}) ServeFault} {disk last : Disk} → c ≡ d → o ≡ r
-    → IsServed told tells_anything c tt tt input rest old new o disk last → IsServed told tells_anything d tt tt input rest old new r disk last
-served_by told {input = input} {rest = rest} {old = old} {new = new} {disk = disk} {last = last} by is h =
-    subst₂ (λ (c : Checker) (o : Result (Unit {0}) ServeFault). IsServed told tells_anything c tt tt input rest old new o disk last) by is h
+served_by : (told : Bool) {c d : Checker} {dates left : Dates} {input rest old new : Option (List ℕ)} {o r : Result (Unit {0}) ServeFault} {disk last : Disk} → c ≡ d → o ≡ r
+    → IsServed told tells_anything c dates left tt tt input rest old new o disk last → IsServed told tells_anything d dates left tt tt input rest old new r disk last
+served_by told {dates = dates} {left = left} {input = input} {rest = rest} {old = old} {new = new} {disk = disk} {last = last} by is h =
+    subst₂ (λ (c : Checker) (o : Result (Unit {0}) ServeFault). IsServed told tells_anything c dates left tt tt input rest old new o disk last) by is h
 
-pub serves_well : {Same : Type 0} (told : Bool) (asked : Asked) (maps_all : Bool) (checker : Checker) → checker ≡ checker_of asked maps_all → (sectors : ℕ) (input rest old new : Option (List ℕ)) (outcome : Result (Unit {0}) ServeFault) (disk last : Disk)
-    → Comes Same told checker sectors input rest old new outcome disk last → outcome ≡ Ok tt → ServesMount asked (Ok tt) old new
-serves_well told asked maps_all checker by sectors input rest old new outcome disk last (inl h) well = not_ok outcome _ well h.0.outcome_is
-serves_well told asked maps_all checker by sectors input rest old new outcome disk last (inr (inl h)) well = not_ok outcome _ well h.1.outcome_is
-serves_well told asked maps_all checker by sectors input rest old new outcome disk last (inr (inr h)) well =
-    record { told = told; maps_all = maps_all; input = input; rest = rest; disk = disk; last = last; served = served_by told by well h }
+pub serves_well : {Same : Type 0} (told : Bool) (asked : Asked) (maps_all : Bool) (checker : Checker) (dates left : Dates) → checker ≡ checker_of asked maps_all → (sectors : ℕ) (input rest old new : Option (List ℕ)) (outcome : Result (Unit {0}) ServeFault) (disk last : Disk)
+    → Comes Same told checker dates left sectors input rest old new outcome disk last → outcome ≡ Ok tt → ServesMount asked (Ok tt) old new
+serves_well told asked maps_all checker dates left by sectors input rest old new outcome disk last (inl h) well = not_ok outcome _ well h.0.outcome_is
+serves_well told asked maps_all checker dates left by sectors input rest old new outcome disk last (inr (inl h)) well = not_ok outcome _ well h.1.outcome_is
+serves_well told asked maps_all checker dates left by sectors input rest old new outcome disk last (inr (inr h)) well =
+    record { told = told; maps_all = maps_all; dates = dates; left = left; input = input; rest = rest; disk = disk; last = last; served = served_by told by well h }
 
-pub serves_front : {Same : Type 0} (told : Bool) (asked : Asked) (maps_all : Bool) (checker : Checker) → checker ≡ checker_of asked maps_all → (sectors : ℕ) (input rest old new : Option (List ℕ)) (outcome : Result (Unit {0}) ServeFault) (disk last : Disk)
-    → Comes Same told checker sectors input rest old new outcome disk last → (Same → new ≡ old) → (why : ServeFault) → outcome ≡ Err why → BeginsToServe asked old new
-serves_front told asked maps_all checker by sectors input rest old new outcome disk last (inl h) same why is = inl (same h.1)
-serves_front told asked maps_all checker by sectors input rest old new outcome disk last (inr (inl h)) same why is = inl (same h.2)
-serves_front told asked maps_all checker by sectors input rest old new outcome disk last (inr (inr h)) same why is =
-    inr (why, record { told = told; maps_all = maps_all; input = input; rest = rest; disk = disk; last = last; served = served_by told by is h })
+pub serves_front : {Same : Type 0} (told : Bool) (asked : Asked) (maps_all : Bool) (checker : Checker) (dates left : Dates) → checker ≡ checker_of asked maps_all → (sectors : ℕ) (input rest old new : Option (List ℕ)) (outcome : Result (Unit {0}) ServeFault) (disk last : Disk)
+    → Comes Same told checker dates left sectors input rest old new outcome disk last → (Same → new ≡ old) → (why : ServeFault) → outcome ≡ Err why → BeginsToServe asked old new
+serves_front told asked maps_all checker dates left by sectors input rest old new outcome disk last (inl h) same why is = inl (same h.1)
+serves_front told asked maps_all checker dates left by sectors input rest old new outcome disk last (inr (inl h)) same why is = inl (same h.2)
+serves_front told asked maps_all checker dates left by sectors input rest old new outcome disk last (inr (inr h)) same why is =
+    inr (why, record { told = told; maps_all = maps_all; dates = dates; left = left; input = input; rest = rest; disk = disk; last = last; served = served_by told by is h })

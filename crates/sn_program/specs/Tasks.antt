@@ -30,6 +30,7 @@ use Rattle.sn_plan.specs.declared.checker.Checker.{Checker}
 use Rattle.sn_plan.specs.declared.checker.Checker.TheVariants as checker
 use Rattle.sn_serve_image.specs.Serves.{IsServed}
 use Rattle.sn_serve_image.specs.declared.fault.ServeFault.{ServeFault}
+use Rattle.sn_times.specs.Dates.{Dates}
 use Rattle.sn_program.specs.Answers.{AreEventsOf}
 use Rattle.sn_program.specs.Copies.{IsCutShort}
 use Rattle.sn_program.specs.Fault.{IsOfFile, fault_of}
@@ -117,7 +118,7 @@ checker_of by.Program maps_all = checker.Server maps_all
 checker_of by.Kernel maps_all = checker.System
 
 -- An image was mounted, and messages were answered by replies on the output, each by its plan, up to this outcome. Which messages came, which groups the system
--- told of their senders, and what the image had, can't be said.
+-- told of their senders, which times its clock showed, and what the image had, can't be said.
 pub record ServesMount (asked : CheckerWord) (outcome : Result (Unit {0}) ServeFault) (old new : Option (List ℕ)) : Type 0 where
   pub told : Bool
   pub maps_all : Bool
@@ -125,7 +126,9 @@ pub record ServesMount (asked : CheckerWord) (outcome : Result (Unit {0}) ServeF
   pub rest : Option (List ℕ)
   pub disk : Disk
   pub last : Disk
-  pub served : IsServed told tells_anything (checker_of asked maps_all) tt tt input rest old new outcome disk last
+  pub dates : Dates
+  pub left : Dates
+  pub served : IsServed told tells_anything (checker_of asked maps_all) dates left tt tt input rest old new outcome disk last
 
 -- nothing was written, or replies up to a fault
 abbrev pub BeginsToServe : CheckerWord → Option (List ℕ) → Option (List ℕ) → Type 0

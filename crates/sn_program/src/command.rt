@@ -25,15 +25,14 @@ use crate::fault::{ProgramFault, Which, on_file, tell};
 use crate::import::import_on;
 use crate::output::write_replies;
 use crate::person::{advise, explain, show_commands};
-use crate::progress::Progress;
 use crate::run::{Answered, answer, outcome};
 use crate::script::read_events;
 use crate::serve::serve_on;
-use crate::watched::{WatchReads, WatchedDevice};
 use sn_command::{Task, parse};
 use sn_core::{End, Event, Fill, MemDevice, MkfsFault, Reply, Verdict, Watch, mkfs};
 use sn_filedev::{FileDevice, LockFile};
 use sn_layout::Geometry;
+use sn_progress::{Progress, WatchReads, WatchedDevice};
 use std::alloc::Global;
 use std::convert::AsStr;
 use std::fs::{Files, OpenFile};
@@ -226,13 +225,8 @@ fn check_image<
     ensures front { OnErr result (BeginsToSayVerdict (W.contents out.old) (W.contents out.new)) }
     ensures words { IfErr result (λ why. why ≢ fault.Usage) }
 {
-    let device = match on_file(
-        Which::Image,
-        FileDevice::open_to_read(rt.alloc(), rt, image),
-    ) {
-        Ok(device) => device,
-        Err(fault) => return Err(fault),
-    };
+    let opened = FileDevice::open_to_read(rt.alloc(), rt, image);
+    let device = on_file(Which::Image, opened)?;
     match check_on(rt.alloc(), WatchedDevice::new(device, watch), out) {
         Ok(Verdict::Clean { .. }) => Ok(Ending::Done),
         Ok(Verdict::Fault { damage, block }) => Ok(Ending::Damaged { damage, block }),
@@ -269,7 +263,7 @@ fn quietly<E: Drop>(outcome: Result<(), ProgramFault>, err: E) -> Came<E>
 /// Does what a task asks for. Only an import writes to standard error.
 fn execute<
     F: FileExt + OpenFile + LockFile + Read + Drop,
-    R: Files<File = F> + AllocGlobal,
+    R: Files<File = F> + AllocGlobal + Clock,
     I: Read,
     W: Write,
     E: Write + Drop,

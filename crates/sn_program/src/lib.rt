@@ -8,8 +8,8 @@
 //! written. A run that is cut short runs on a copy in memory, by [`answer_cut`], and its clauses speak of that copy and of what a
 //! crash leaves of it (`specs/Copies`). An image is made by `sn_mkfs`, and checked by `sn_check`: [`check_on`] says
 //! what the result is over every device that tells its bytes, and [`export_from`] the same of the archive of a tree, which
-//! `sn_export_image` writes. The messages of a mount are answered by `sn_serve_image`. How much of an image a check has read is seen by
-//! `watched`, a device around another. Each fault is a [`ProgramFault`], whose text is the line on standard error and whose status the
+//! `sn_export_image` writes. The messages of a mount are answered by `sn_serve_image`. How far a run or a check is, `sn_progress`
+//! shows. Each fault is a [`ProgramFault`], whose text is the line on standard error and whose status the
 //! shell sees. `specs/Tasks` says what is left of what the words ask for.
 //!
 //! What the sources leave open is decided in `docs/DECISIONS.md`, under "Scripts and the program".
@@ -28,11 +28,9 @@ mod fault;
 mod import;
 mod output;
 mod person;
-mod progress;
 mod run;
 mod script;
 mod serve;
-mod watched;
 
 pub use checking::check_on;
 pub use command::{program, refuse};

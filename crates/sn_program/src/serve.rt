@@ -7,12 +7,15 @@ use crate::fault::{ProgramFault, Which, on_file};
 use sn_command::Checker as Asked;
 use sn_core::Device;
 use sn_filedev::{FileDevice, LockFile};
-use sn_mount_streams::{Requests, Senders, maps_all};
+use sn_mount_streams::{Requests, ThisHost, maps_all};
 use sn_plan::Checker;
+use sn_serve::Host;
 use sn_serve_image::{Served, serve_image};
+use sn_times_image::{leave_times, take_times};
 use std::fs::{Files, OpenFile};
 use std::io::{Read, Write};
 use std::os::unix::fs::FileExt;
+use std::time::Clock;
 
 /// Who checks what messages may do.
 fn checker_of(asked: Asked, maps_all: bool) -> Checker
@@ -24,10 +27,18 @@ fn checker_of(asked: Asked, maps_all: bool) -> Checker
     }
 }
 
-/// Mounts what a device has, and answers the messages of an input, whose senders have the groups that the system tells.
-fn serve_from<D: Device + Drop, R: Files + AllocGlobal, I: Read, W: Write>(
+/// Mounts what the device of an image has, and answers the messages of an input, whose senders have the groups that the system tells, with times of its clock.
+/// A clean end leaves these beside the image.
+fn serve_from<
+    D: Device + Drop,
+    F: FileExt + OpenFile + Drop,
+    R: Files<File = F> + AllocGlobal + Clock,
+    I: Read,
+    W: Write,
+>(
     rt: &R,
-    device: D,
+    image: &str,
+    mut device: D,
     asked: Asked,
     input: &mut I,
     out: &mut W,
@@ -37,18 +48,27 @@ fn serve_from<D: Device + Drop, R: Files + AllocGlobal, I: Read, W: Write>(
     ensures words { IfErr result (λ why. why ≢ fault.Usage) }
 {
     let checker = checker_of(asked, maps_all(rt));
-    let mut senders = Senders::new(rt);
+    let mut host = ThisHost::new(rt);
+    let times = take_times(rt, &mut device, image, host.now());
     let mut requests = Requests::of(&mut *input);
-    let Served { outcome, .. } = serve_image(
+    let Served {
+        outcome,
+        mut device,
+        times,
+    } = serve_image(
         rt.alloc(),
         device,
-        &mut senders,
+        &mut host,
         checker,
+        times,
         &mut requests,
         out,
     );
     match outcome {
-        Ok(()) => Ok(()),
+        Ok(()) => {
+            leave_times(rt, &mut device, image, &times);
+            Ok(())
+        }
         Err(fault) => Err(ProgramFault::from(fault)),
     }
 }
@@ -56,7 +76,7 @@ fn serve_from<D: Device + Drop, R: Files + AllocGlobal, I: Read, W: Write>(
 /// Answers the messages of an input over the image at a path, which is locked until there are no more.
 pub(crate) fn serve_on<
     F: FileExt + OpenFile + LockFile + Read + Drop,
-    R: Files<File = F> + AllocGlobal,
+    R: Files<File = F> + AllocGlobal + Clock,
     I: Read,
     W: Write,
 >(rt: &R, image: &str, asked: Asked, input: &mut I, out: &mut W) -> Result<(), ProgramFault>
@@ -65,5 +85,5 @@ pub(crate) fn serve_on<
     ensures words { IfErr result (λ why. why ≢ fault.Usage) }
 {
     let opened = FileDevice::open(rt.alloc(), rt, image);
-    serve_from(rt, on_file(Which::Image, opened)?, asked, input, out)
+    serve_from(rt, image, on_file(Which::Image, opened)?, asked, input, out)
 }

@@ -14,8 +14,10 @@ use Rattle.sn_fuse_replies.specs.declared.errno.Errno.TheVariants.{EINVAL, EIO, 
 use Rattle.sn_listings.specs.Told.{directory_at}
 use Rattle.sn_plan.specs.Acts.{Act}
 use Rattle.sn_plan.specs.Checking.{caller_of}
+use Rattle.sn_plan.specs.Follows.{kept_of}
 use Rattle.sn_plan.specs.declared.checker.Checker.{Checker}
 use Rattle.sn_serve.specs.Answers.{holds_for, reply_of}
+use Rattle.sn_serve.specs.Dating.{AreMarked, dated_in, marks_of, subjects_of}
 use Rattle.sn_serve.specs.Messages.{Answers, acts_in, way_of}
 use Rattle.sn_serve.specs.declared.service.Service.{Service}
 use Rattle.sn_serve.specs.declared.told.Told.{Told}
@@ -83,18 +85,24 @@ pub record Performs {F P : Type 0} (did : F → F → List Act → Type 0) (tell
   pub answers : Answers did (way_of old.checker (sender_of head) text) head.node old.server new.server (directory_at old.listings) (directory_at new.listings) op told
   pub checker : new.checker ≡ old.checker
 
+-- What is told has the times that are kept once the message has marked those of what it was about, at any time that a clock may show.
+pub record IsDated {F : Type 0} (head : Head) (op : Op) (old new : Service F) (told : Result Told Errno) : Type 0 where
+  pub now : Time
+  pub marked : AreMarked (marks_of (subjects_of (kept_of old.server) head.node op) now op told) now old.times new.times
+
 -- and answered by what was told
 pub record IsAnswered {F P : Type 0} (did : F → F → List Act → Type 0) (tells : P → ℕ → Option (List ℕ) → P → Type 0) (head : Head) (op : Op) (old : Service F) (before : P) (new : Service F) (after : P)
     (reply : Option Answer) : Type 0 where
   pub told : Result Told Errno
   pub performs : Performs did tells head op old before new after told
-  pub told_reply : IsReply (holds_for old.checker) op told reply
+  pub dates : IsDated head op old new told
+  pub told_reply : IsReply (holds_for old.checker) op (dated_in new.times told) reply
 
 abbrev pub spelled : ℕ → Option Answer → List ℕ
 spelled unique None = []
 spelled unique (Some answer) = reply_bytes unique answer
 
--- A message, what became of what is served and of what tells of processes, and the bytes of the reply, which repeats the message's own number. Bytes
+-- A message, what became of what is served and of the host, and the bytes of the reply, which repeats the message's own number. Bytes
 -- that have no head are passed over.
 pub data IsExchange {F P : Type 0} (did : F → F → List Act → Type 0) (tells : P → ℕ → Option (List ℕ) → P → Type 0) (message : List ℕ) (old : Service F) (before : P) : Service F → P → List ℕ → Type 0 where
   short : IsShort message → IsExchange did tells message old before old before []

@@ -1,4 +1,5 @@
 pub mod Answers
 pub mod Groups
 pub mod Messages
+pub mod Dating
 pub mod Exchanges

@@ -17,7 +17,7 @@ use Rattle.sn_listings.specs.Held.{Changes, Directory, entries_of, node_of, unre
 use Rattle.sn_listings.specs.declared.entry.HeldEntry.{HeldEntry}
 use Rattle.sn_model.specs.declared.call.Call.{Call}
 use Rattle.sn_plan.specs.Acts.{Act}
-use Rattle.sn_plan.specs.Checking.{login_from, maker_of}
+use Rattle.sn_plan.specs.Checking.{caller_of, login_from, maker_of}
 use Rattle.sn_plan.specs.Follows.{Does}
 use Rattle.sn_plan.specs.Plans.{Gives, Plan, Refuses, given, ◌>>=◌}
 use Rattle.sn_plan.specs.declared.asking.Asker.{Asker}
@@ -34,22 +34,26 @@ use Rattle.sn_serve_looks.specs.Room.{init}
 use Rattle.sn_serve_looks.specs.Xattrs.{IsRead}
 use Rattle.sn_serve_names.specs.Messages as names
 
--- how a message is done: who checks, the login of who asks, and to whom is given what is made
+-- how a message is done: who checks, the login of who asks, as which user they ask, and to whom is given what is made
 pub record Way : Type 0 where
   pub checker : Checker
   pub login : Result Call Errno
+  pub user : ℕ
   pub maker : Option Caller
 
 -- for a sender, with what was told of its process
 abbrev pub way_of : Checker → Caller → Option (List ℕ) → Way
-way_of checker sender text = record { checker = checker; login = login_from checker sender text; maker = maker_of checker sender }
+way_of checker sender text = record { checker = checker; login = login_from checker sender text; user = (caller_of checker sender).user; maker = maker_of checker sender }
 
 abbrev pub way_by : Asker → Way
 way_by asker = way_of asker.checker asker.sender (option_copied asker.status)
 
--- what a SETATTR sets, and what the node is like then
-unfoldable pub setattr : Result Call Errno → ℕ → NewAttributes → Plan Attributes
-setattr login node new = files.set_attributes login node new >>= (λ _. looks.getattr login node)
+-- what a SETATTR sets of a node that isn't so already, and what the node is like then
+unfoldable pub setattr : Way → ℕ → NewAttributes → Plan Attributes
+setattr way node new = do
+  there ← looks.getattr way.login node
+  _ ← files.set_attributes way.login way.user node there new
+  looks.getattr way.login node
 
 -- The plan of a message on a node. What is done is durable when it is answered, so nothing is left for a FLUSH or an FSYNC to do. Symbolic
 -- links aren't made.
@@ -58,7 +62,7 @@ plan_of way node (op.Lookup name) = told_as told.Found (names.lookup way.login n
 plan_of way node (op.Forget lookups) = told_as done (looks.forget node lookups)
 plan_of way node (op.BatchForget forgets) = told_as done (looks.batch_forget forgets)
 plan_of way node (op.GetAttr flags handle) = told_as told.Known (looks.getattr way.login node)
-plan_of way node (op.SetAttr new) = told_as told.Known (setattr way.login node new)
+plan_of way node (op.SetAttr new) = told_as told.Known (setattr way node new)
 plan_of way node (op.Symlink name target) = Refuses EPERM
 plan_of way node (op.Mknod mode device umask name) = told_as told.Found (files.mknod way.login way.maker node name mode umask)
 plan_of way node (op.Mkdir mode umask name) = told_as told.Found (names.mkdir way.login way.maker node name mode umask)

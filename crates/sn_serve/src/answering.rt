@@ -1,14 +1,20 @@
 //! A message and its reply.
-ghost use Rattle.std.specs.Prelude.{◌≡◌, ◌++◌, ◌∷◌, [], ℕ, List, Option, Some, OnErr, OnOk, option_map, true, vec_items};
+ghost use Rattle.std.specs.Prelude.{◌≡◌, ◌++◌, ◌∷◌, [], ℕ, List, Option, Result, Some, OnErr, OnOk, option_map, true, vec_items};
 ghost use Rattle.sn_fuse_replies.specs.Answer.{reply_bytes};
 ghost use Rattle.sn_fuse_replies.specs.declared.answer.Answer.{Answer as TheAnswer};
 ghost use Rattle.sn_fuse_replies.specs.declared.answer.Answer.TheVariants.{Error};
+ghost use Rattle.sn_fuse_replies.specs.declared.errno.Errno.{Errno as TheErrno};
+ghost use Rattle.sn_serve.specs.Dating.{dated_in};
+ghost use Rattle.sn_serve.specs.declared.told.Told.{Told as TheTold};
 ghost use Rattle.sn_serve.specs.Exchanges as exchanges;
-ghost use Rattle.sn_serve.specs.Exchanges.{IsExchange, IsRefusal, IsReply, IsTextOf, IsToldBy, Performs, spelled};
+ghost use Rattle.sn_serve.specs.Exchanges.{IsDated, IsExchange, IsRefusal, IsReply, IsTextOf, IsToldBy, Performs, spelled};
 
+use crate::dating::date;
+use crate::host::Host;
+use crate::marks::mark;
 use crate::performing::perform;
-use crate::processes::Processes;
 use crate::service::Service;
+use crate::subjects::subjects_of;
 use crate::told::{Told, encode_reply, holds_for};
 use sn_callers::Caller;
 use sn_fuse::{Decoded, Head, Op, Time, decode};
@@ -65,16 +71,11 @@ fn needs_groups(checker: Checker, head: &Head, op: &Op<'_>) -> bool
 }
 
 // The text that tells the groups of who asks, where they are needed.
-fn status_of<P: Processes>(
-    processes: &mut P,
-    checker: Checker,
-    head: &Head,
-    op: &Op<'_>,
-) -> Option<Vec<u8>>
-    ensures { IsTextOf P.tells checker head.now op.now processes.old (option_map vec_items result) processes.new }
+fn status_of<H: Host>(host: &mut H, checker: Checker, head: &Head, op: &Op<'_>) -> Option<Vec<u8>>
+    ensures { IsTextOf H.tells checker head.now op.now host.old (option_map vec_items result) host.new }
 {
     if needs_groups(checker, head, op) {
-        processes.status(head.process)
+        host.status(head.process)
     } else {
         None
     }
@@ -89,15 +90,16 @@ fn refuse(out: &mut Vec<u8>, unique: u64, errno: Errno) -> Result<(), AllocError
 }
 
 // Does what a request asks for, as who sent it, or where the system checks as user 0.
-fn perform_as<F: FileSystem, P: Processes>(
+fn perform_as<F: FileSystem, H: Host>(
     service: &mut Service<F>,
-    processes: &mut P,
+    host: &mut H,
     head: &Head,
     op: &Op<'_>,
 ) -> Result<Told, Errno>
-    ensures { Performs F.did P.tells head.now op.now service.old processes.old service.new processes.new result }
+    ensures performs { Performs F.did H.tells head.now op.now service.old host.old service.new host.new result }
+    ensures times { service.new.times ≡ service.old.times }
 {
-    let status = status_of(processes, service.checker, head, op);
+    let status = status_of(host, service.checker, head, op);
     let asker = Asker {
         checker: service.checker,
         sender: sender_of(head),
@@ -110,6 +112,23 @@ fn perform_as<F: FileSystem, P: Processes>(
         head.node,
         op,
     )
+}
+
+// Does what a request asks for, marks the times of what it was about, and tells it with these.
+fn perform_dated<F: FileSystem, H: Host>(
+    service: &mut Service<F>,
+    host: &mut H,
+    head: &Head,
+    op: &Op<'_>,
+) -> Result<Told, Errno>
+    ensures { (told : Result TheTold TheErrno) × Performs F.did H.tells head.now op.now service.old host.old service.new host.new told
+        × IsDated head.now op.now service.old service.new told × (result ≡ dated_in service.new.times told) }
+{
+    let subjects = subjects_of(&service.server, head.node, op);
+    let told = perform_as(service, host, head, op);
+    let now = host.now();
+    mark(&mut service.times, &subjects, now, op, &told);
+    date(&service.times, told)
 }
 
 // Appends the reply of what is told, or that there was no memory for it.
@@ -173,13 +192,16 @@ pub fn refuse_message(message: &[u8], out: &mut Vec<u8>) -> Result<(), AllocErro
 ///
 /// Proved: Where the system checks, each call is user 0's, what is made is given to the user and group in the head, nothing is asked of a process, and
 /// attributes may be held for a year; where the server does, they may not be held.
-pub fn answer<F: FileSystem, P: Processes>(
+///
+/// Proved: A message that was done marks times of what it was about, as POSIX says for its kind, and one that was refused marks none; an answer has
+/// the times that are kept then.
+pub fn answer<F: FileSystem, H: Host>(
     service: &mut Service<F>,
-    processes: &mut P,
+    host: &mut H,
     message: &[u8],
     out: &mut Vec<u8>,
 ) -> Result<(), AllocError>
-    ensures { (reply : List ℕ) × IsExchange F.did P.tells message.now service.old processes.old service.new processes.new reply × OnOk result (out.new.items ≡ out.old.items ++ reply) }
+    ensures { (reply : List ℕ) × IsExchange F.did H.tells message.now service.old host.old service.new host.new reply × OnOk result (out.new.items ≡ out.old.items ++ reply) }
 {
     let (head, op) = match decode(message) {
         Decoded::Short => return Ok(()),
@@ -188,6 +210,6 @@ pub fn answer<F: FileSystem, P: Processes>(
         Decoded::Request { head, op } => (head, op),
     };
     let last = holds_for(service.checker);
-    let told = perform_as(service, processes, &head, &op);
+    let told = perform_dated(service, host, &head, &op);
     reply(out, &head, &op, last, &told)
 }

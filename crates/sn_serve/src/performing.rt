@@ -168,16 +168,18 @@ fn on_files<F: FileSystem>(
     }
 }
 
-/// SETATTR: sets what is to be set, and tells what the node is like then.
+/// SETATTR: sets what is to be set and isn't so already, and tells what the node is like then.
 fn setattr<F: FileSystem>(
     server: &mut Server<F>,
     asker: &Asker<'_>,
     node: u64,
     new: &NewAttributes,
 ) -> Result<Attributes, Errno>
-    ensures { Does F.did server.old server.new (messages.setattr (login_by asker.now) node new.now) result }
+    ensures { Does F.did server.old server.new (messages.setattr (way_by asker.now) node new.now) result }
 {
-    set_attributes(server, asker, node, new)?;
+    let there = getattr(server, asker, node)?;
+    let user = asker.checker.caller(asker.sender).user;
+    set_attributes(server, asker, user, node, &there, new)?;
     getattr(server, asker, node)
 }
 

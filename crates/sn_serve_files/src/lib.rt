@@ -10,7 +10,7 @@
 //! No descriptor is left open that no handle has: the logout of who asks closes theirs, and user 0 opens nothing before a handle is vacant.
 //!
 //! The way through: `flags` and `replies` have the small words, `opening` OPEN, `creating` CREATE and MKNOD, `content` READ, WRITE and
-//! RELEASE, `sizing` the size of a file, and `setting` SETATTR.
+//! RELEASE, `sizing` the size of a file, `dating` who may set times, `already` what a node is like before a SETATTR, and `setting` SETATTR.
 //!
 //! What the sources leave open is decided in `docs/DECISIONS.md`, under "Messages on files".
 //!
@@ -21,8 +21,10 @@
 //! ```
 #![tactic(auto)]
 
+mod already;
 mod content;
 mod creating;
+mod dating;
 mod flags;
 mod opening;
 mod replies;
@@ -31,5 +33,6 @@ mod sizing;
 
 pub use content::{read, release, write};
 pub use creating::{Created, create, mknod};
+pub use dating::{names_accessed, names_modified, sets_accessed, sets_modified, sets_times};
 pub use opening::open;
 pub use setting::set_attributes;

@@ -1,5 +1,5 @@
 //! What a SETATTR sets.
-ghost use Rattle.std.specs.Prelude.{◌≡◌, ◌<◌, ◌%◌, ◌||◌, OnSome};
+ghost use Rattle.std.specs.Prelude.{◌≡◌, ◌<◌, ◌%◌, ◌&&◌, not, OnSome};
 ghost use Rattle.sn_model.specs.declared.call.Call.TheVariants.{Chmod};
 ghost use Rattle.sn_plan.specs.Asking.{login_by};
 ghost use Rattle.sn_plan.specs.Follows.{Does, kept_of};
@@ -7,12 +7,14 @@ ghost use Rattle.sn_serve_files.specs.Flags as flags;
 ghost use Rattle.sn_serve_files.specs.Messages as messages;
 ghost use Rattle.sn_serve_names.specs.Messages.{takes};
 
+use crate::already::{has_mode, has_owner};
+use crate::dating::{may_date, sets_times};
 use crate::sizing::{size_at, size_of_open};
 use bitflags::Flags;
 use sn_callers::OpenFile;
 use sn_fuse::NewAttributes;
 use sn_fuse_flags::AttributeFlags;
-use sn_fuse_replies::Errno;
+use sn_fuse_replies::{Attributes, Errno};
 use sn_model::{Call, Word};
 use sn_plan::{Asker, FileSystem, Server, word};
 use sn_serve_names::does;
@@ -123,20 +125,29 @@ fn new_owner<F: FileSystem>(
 }
 
 fn sets_owner(new: &NewAttributes) -> bool
-    ensures { result ≡ (flags.sets_user new.now || flags.sets_group new.now) }
+    ensures { result ≡ flags.sets_owner new.now }
 {
     new.flags.contains(AttributeFlags::USER) || new.flags.contains(AttributeFlags::GROUP)
+}
+
+/// Whether owner or group are to be others than they are.
+fn changes_owner(user: u32, there: &Attributes, new: &NewAttributes) -> bool
+    ensures { result ≡ (flags.sets_owner new.now && not (flags.has_owner user there.now new.now)) }
+{
+    sets_owner(new) && !has_owner(user, there, new)
 }
 
 fn set_owner<F: FileSystem>(
     server: &mut Server<F>,
     asker: &Asker<'_>,
+    user: u32,
     node: u64,
+    there: &Attributes,
     new: &NewAttributes,
 ) -> Result<(), Errno>
-    ensures { Does F.did server.old server.new (messages.where_set (flags.sets_user new.now || flags.sets_group new.now) (messages.new_owner (login_by asker.now) node new.now)) result }
+    ensures { Does F.did server.old server.new (messages.where_set (flags.sets_owner new.now && not (flags.has_owner user there.now new.now)) (messages.new_owner (login_by asker.now) node new.now)) result }
 {
-    if sets_owner(new) {
+    if changes_owner(user, there, new) {
         new_owner(server, asker, node, new)
     } else {
         Ok(())
@@ -168,40 +179,66 @@ fn new_mode<F: FileSystem>(
     chmod_at(server, asker, path.as_slice(), new.mode)
 }
 
-fn sets_mode(new: &NewAttributes) -> bool
-    ensures { result ≡ flags.sets_mode new.now }
+/// Whether the mode is to be another than it is.
+fn changes_mode(user: u32, there: &Attributes, new: &NewAttributes) -> bool
+    ensures { result ≡ (flags.sets_mode new.now && not (flags.has_mode user there.now new.now)) }
 {
-    new.flags.contains(AttributeFlags::MODE)
+    new.flags.contains(AttributeFlags::MODE) && !has_mode(user, there, new)
 }
 
 fn set_mode<F: FileSystem>(
     server: &mut Server<F>,
     asker: &Asker<'_>,
+    user: u32,
     node: u64,
+    there: &Attributes,
     new: &NewAttributes,
 ) -> Result<(), Errno>
-    ensures { Does F.did server.old server.new (messages.where_set (flags.sets_mode new.now) (messages.new_mode (login_by asker.now) node new.now)) result }
+    ensures { Does F.did server.old server.new (messages.where_set (flags.sets_mode new.now && not (flags.has_mode user there.now new.now)) (messages.new_mode (login_by asker.now) node new.now)) result }
 {
-    if sets_mode(new) {
+    if changes_mode(user, there, new) {
         new_mode(server, asker, node, new)
     } else {
         Ok(())
     }
 }
 
-/// What SETATTR sets: size, owner and mode, in this order. Of the mode the permission bits, S_ISGID and S_ISVTX count; times aren't kept yet.
+/// Whether the times may be set, where they are to be.
+fn permit_times<F: FileSystem>(
+    server: &mut Server<F>,
+    asker: &Asker<'_>,
+    user: u32,
+    node: u64,
+    there: &Attributes,
+    new: &NewAttributes,
+) -> Result<(), Errno>
+    ensures { Does F.did server.old server.new (messages.where_set (flags.sets_times new.now) (messages.may_date (login_by asker.now) user node there.now new.now)) result }
+{
+    if sets_times(new) {
+        may_date(server, asker, user, node, there, new)
+    } else {
+        Ok(())
+    }
+}
+
+/// What SETATTR sets for a user, who asks: size, owner and mode, in this order, of a node that was as `there` says. Of the mode the permission bits, S_ISGID and S_ISVTX count. Owner
+/// and mode that the node has already aren't set again. Of times only the right to set them is asked for: whoever keeps them sets them then.
 ///
 /// Proved: What SETATTR sets is set by calls as who asks, each by a path that was looked at; the size through the descriptor of an open file
-/// that the message names, where it names one.
+/// that the message names, where it names one. Times of a message are for the owner and user 0 alone, and both of now for who may write, too. What a node has already isn't
+/// set again.
 pub fn set_attributes<F: FileSystem>(
     server: &mut Server<F>,
     asker: &Asker<'_>,
+    user: u32,
     node: u64,
+    there: &Attributes,
     new: &NewAttributes,
 ) -> Result<(), Errno>
-    ensures { Does F.did server.old server.new (messages.set_attributes (login_by asker.now) node new.now) result }
+    ensures { Does F.did server.old server.new (messages.set_attributes (login_by asker.now) user node there.now new.now) result }
 {
+    permit_times(server, asker, user, node, there, new)?;
     set_size(server, asker, node, new)?;
-    set_owner(server, asker, node, new)?;
-    set_mode(server, asker, node, new)
+    set_owner(server, asker, user, node, there, new)?;
+    set_mode(server, asker, user, node, there, new)
 }

@@ -12,13 +12,14 @@ use Rattle.sn_plan.specs.declared.checker.Checker.{Checker}
 use Rattle.sn_serve_loop.proofs.ActsLemmas.{conversation_grows}
 use Rattle.sn_serving.specs.Served.{IsMountOf}
 use Rattle.sn_serving.proofs.RunLemmas.{served_is_run}
+use Rattle.sn_times.specs.Dates.{Dates}
 use Rattle.sn_serve_image.specs.Serves.{IsServed, IsServedFrom, stopped}
 use Rattle.sn_serve_image.specs.declared.fault.ServeFault.{ServeFault}
 
-pub served : {P : Type 0} (told : Bool) (tells : P → ℕ → Option (List ℕ) → P → Type 0) (checker : Checker) (mounted : Shown) (before after : P) (input rest output written : Option (List ℕ))
-    (outcome : Result (Unit {0}) ServeFault) (disk last : Disk) → mounted.places ≡ [] → IsServedFrom told tells checker mounted before after input rest output written outcome last
-    → (IsTrue told → (world : World) → IsImage (reads disk) world → IsMountOf world disk mounted.served) → IsServed told tells checker before after input rest output written outcome disk last
-served told tells checker mounted before after input rest output written outcome disk last none s mounts =
+pub served : {P : Type 0} (told : Bool) (tells : P → ℕ → Option (List ℕ) → P → Type 0) (checker : Checker) (dates left : Dates) (mounted : Shown) (before after : P) (input rest output written : Option (List ℕ))
+    (outcome : Result (Unit {0}) ServeFault) (disk last : Disk) → mounted.places ≡ [] → IsServedFrom told tells checker dates left mounted before after input rest output written outcome last
+    → (IsTrue told → (world : World) → IsImage (reads disk) world → IsMountOf world disk mounted.served) → IsServed told tells checker dates left before after input rest output written outcome disk last
+served told tells checker dates left mounted before after input rest output written outcome disk last none s mounts =
     let none_done : Did told mounted s.first.server.file_system [] = subst (λ (now : Shown). Did told mounted now []) (sym s.new.served) begins in
     let logged : Did told mounted s.conversation.first.server.file_system s.conversation.logins = s.conversation.grows.grows mounted [] none_done in
     let did : Did told mounted s.ended.server.file_system (s.conversation.logins ++ s.conversation.conversation.acts) = (conversation_grows (DidFrom told) tells stopped s.conversation.conversation.converses).grows mounted s.conversation.logins logged in

@@ -21,6 +21,7 @@ use Rattle.sn_serve_loop.specs.Conversations.{LogsInAndConverses}
 use Rattle.sn_serve_loop.specs.declared.stop.Stop.{Stop}
 use Rattle.sn_serve_loop.specs.declared.stop.Stop.TheVariants as stop
 use Rattle.sn_serving.specs.Served.{Unmounts}
+use Rattle.sn_times.specs.Dates.{Dates}
 use Rattle.sn_serve_image.specs.declared.fault.ServeFault.{ServeFault}
 use Rattle.sn_serve_image.specs.declared.fault.ServeFault.TheVariants as fault
 
@@ -42,25 +43,26 @@ outcome_of (ending.Mount cause) why = Err (fault.Mount cause)
 abbrev pub stopped : Shown → Bool
 stopped shown = shown.served.has_stopped
 
--- Over a mount user 0 is logged in for all open files, and the messages of the input are answered one after the other; then it is unmounted.
-pub record IsServedFrom {P : Type 0} (told : Bool) (tells : P → ℕ → Option (List ℕ) → P → Type 0) (checker : Checker) (mounted : Shown) (before after : P) (input rest output written : Option (List ℕ))
+-- Over a mount user 0 is logged in for all open files, and the messages of the input are answered one after the other, with the times of objects that were given; then it is unmounted, and the times are those that messages left.
+pub record IsServedFrom {P : Type 0} (told : Bool) (tells : P → ℕ → Option (List ℕ) → P → Type 0) (checker : Checker) (dates left : Dates) (mounted : Shown) (before after : P) (input rest output written : Option (List ℕ))
     (outcome : Result (Unit {0}) ServeFault) (last : Disk) : Type 0 where
   pub first : Service Shown
-  pub new : IsNew first mounted checker
+  pub new : IsNew first mounted checker dates
   pub ended : Service Shown
   pub why : Stop
   pub conversation : LogsInAndConverses (DidFrom told) tells stopped first before ended after why [] input rest output written
+  pub left_is : left ≡ ended.times
   pub end : End
   pub told_end : IsLastEnd end
   pub outcome_is : outcome ≡ outcome_of end why
   pub unmounts : IsTrue told → Unmounts end ended.server.file_system.served last
 
 -- All that was called is a part of a run: where the device tells its bytes, from the world that the disk was an image of, with all that a crash leaves of it.
-pub record IsServed {P : Type 0} (told : Bool) (tells : P → ℕ → Option (List ℕ) → P → Type 0) (checker : Checker) (before after : P) (input rest output written : Option (List ℕ))
+pub record IsServed {P : Type 0} (told : Bool) (tells : P → ℕ → Option (List ℕ) → P → Type 0) (checker : Checker) (dates left : Dates) (before after : P) (input rest output written : Option (List ℕ))
     (outcome : Result (Unit {0}) ServeFault) (disk last : Disk) : Type 0 where
   pub mounted : Shown
   pub places : mounted.places ≡ []
-  pub served : IsServedFrom told tells checker mounted before after input rest output written outcome last
+  pub served : IsServedFrom told tells checker dates left mounted before after input rest output written outcome last
   pub events : List Event
   pub replies : List Reply
   pub are : AreEventsOf (served.conversation.logins ++ served.conversation.conversation.acts) events replies

@@ -9,65 +9,73 @@ use crate::fault::{ServeFault, outcome_of};
 use sn_core::{Device, Unmounted};
 use sn_mounted::Mounted;
 use sn_plan::Checker;
-use sn_serve::Processes;
+use sn_serve::Host;
 use sn_serve_loop::{NewConnection, converse};
+use sn_times::Times;
 use std::alloc::Global;
 use std::io::{Read, Write};
 
-/// What came of a serve, and the device.
+/// What came of a serve, the device, and the times that objects have then.
 #[derive(Drop)]
 pub struct Served<D: Device + Drop> {
     pub outcome: Result<(), ServeFault>,
     pub device: D,
+    pub times: Times,
 }
 
 // Answers messages over a mount, and ends it.
-fn serve_mounted<D: Device + Drop, P: Processes, R: Read, W: Write>(
+fn serve_mounted<D: Device + Drop, H: Host, R: Read, W: Write>(
     alloc: Global,
     mounted: Mounted<D>,
     new_connection: NewConnection,
     checker: Checker,
-    processes: &mut P,
+    times: Times,
+    host: &mut H,
     input: &mut R,
     output: &mut W,
 ) -> Served<D>
     requires nodes { table_of new_connection.nodes ≡ root_alone }
     requires files { new_connection.files ≡ replicate 4032 None }
     requires frames { new_connection.frames ≡ [] }
-    ensures { IsServedFrom D.tells_bytes P.tells checker mounted processes.old processes.new (R.remaining input.old) (R.remaining input.new) (W.contents output.old) (W.contents output.new) result.outcome (D.disk result.device) }
+    ensures { IsServedFrom D.tells_bytes H.tells checker times result.times mounted host.old host.new (R.remaining input.old) (R.remaining input.new) (W.contents output.old) (W.contents output.new) result.outcome (D.disk result.device) }
 {
-    let mut connection = new_connection.of(alloc, mounted, checker);
-    let stop = converse(&mut connection, processes, input, output);
-    let (end, device) = connection.into_file_system().finish();
+    let mut connection = new_connection.of(alloc, mounted, checker, times);
+    let stop = converse(&mut connection, host, input, output);
+    let (file_system, times) = connection.into_parts();
+    let (end, device) = file_system.finish();
     Served {
         outcome: outcome_of(end, stop),
         device,
+        times,
     }
 }
 
-/// Mounts a device, answers the messages of an input until it ends, and unmounts. `checker` checks what messages may do.
+/// Mounts a device, answers the messages of an input until it ends, and unmounts. `checker` checks what messages may do, and `times` are those of the objects
+/// until messages mark others.
 /// `Mount` where the device can't be mounted, and `Memory` where what is kept has no memory, before any message is read. A fault of the unmount
 /// replaces what ended the messages.
 ///
 /// Proved: The messages of the input are answered one after the other, each by its plan and by one reply, as who sent it with the groups that are told of
 /// its process, or where the system checks as user 0; what is called is a run of the machine from the world that the disk is an image of, with steps of consistency points between messages; a
 /// crash leaves what that leaves.
-pub fn serve_image<D: Device + Drop, P: Processes, R: Read, W: Write>(
+pub fn serve_image<D: Device + Drop, H: Host, R: Read, W: Write>(
     alloc: Global,
     device: D,
-    processes: &mut P,
+    host: &mut H,
     checker: Checker,
+    times: Times,
     input: &mut R,
     output: &mut W,
 ) -> Served<D>
     ensures { IsRefused result.outcome (D.disk device) (D.disk result.device) × (output.new ≡ output.old)
         ⊎ ((why : Why) × IsUnmounted D.tells_bytes why (D.status device).sectors result.outcome (D.disk device) (D.disk result.device) × (output.new ≡ output.old))
-        ⊎ IsServed D.tells_bytes P.tells checker processes.old processes.new (R.remaining input.old) (R.remaining input.new) (W.contents output.old) (W.contents output.new) result.outcome (D.disk device) (D.disk result.device) }
+        ⊎ IsServed D.tells_bytes H.tells checker times result.times host.old host.new (R.remaining input.old) (R.remaining input.new) (W.contents output.old) (W.contents output.new) result.outcome (D.disk device) (D.disk result.device) }
 {
     let Ok(new_connection) = NewConnection::new(alloc) else {
         return Served {
             outcome: Err(ServeFault::Memory),
             device,
+            times,
         };
     };
     match Mounted::new(alloc, device) {
@@ -76,13 +84,15 @@ pub fn serve_image<D: Device + Drop, P: Processes, R: Read, W: Write>(
             mounted,
             new_connection,
             checker,
-            processes,
+            times,
+            host,
             input,
             output,
         ),
         Err(Unmounted { fault, device }) => Served {
             outcome: Err(ServeFault::Mount(fault)),
             device,
+            times,
         },
     }
 }

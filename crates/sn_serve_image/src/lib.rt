@@ -9,7 +9,7 @@
 //! What the sources leave open is decided in `docs/DECISIONS.md`, under "Serving an image".
 //!
 //! ```text
-//! let served = serve_image(alloc, device, &mut processes, checker, &mut input, &mut output);
+//! let served = serve_image(alloc, device, &mut host, checker, times, &mut input, &mut output);
 //! ```
 #![tactic(auto)]
 

@@ -10,6 +10,7 @@ use sn_listings::Listings;
 use sn_node_table::NodeTable;
 use sn_plan::{Checker, Server};
 use sn_serve::Service;
+use sn_times::Times;
 use std::alloc::{AllocError, Global};
 
 /// What answers messages: the service, the bytes that came and weren't answered yet, and the last reply.
@@ -41,11 +42,17 @@ impl NewConnection {
         })
     }
 
-    /// The connection of a file system. `checker` checks what messages may do.
-    pub fn of<F>(self, alloc: Global, file_system: F, checker: Checker) -> Connection<F>
+    /// The connection of a file system, whose objects have these times until messages mark others. `checker` checks what messages may do.
+    pub fn of<F>(
+        self,
+        alloc: Global,
+        file_system: F,
+        checker: Checker,
+        times: Times,
+    ) -> Connection<F>
         requires nodes { table_of self.nodes ≡ root_alone }
         requires files { self.files ≡ replicate 4032 None }
-        ensures new { IsNew result.service file_system checker }
+        ensures new { IsNew result.service file_system checker times }
         ensures frames { result.frames ≡ self.frames }
     {
         let NewConnection {
@@ -63,6 +70,7 @@ impl NewConnection {
                 },
                 listings: Listings::new(alloc),
                 checker,
+                times,
             },
             frames,
             out: Vec::new(alloc),
@@ -71,9 +79,10 @@ impl NewConnection {
 }
 
 impl<F> Connection<F> {
-    /// The file system, once no more messages are answered.
-    pub fn into_file_system(self) -> F
-        ensures { result ≡ self.service.server.file_system }
+    /// The file system and the times of its objects, once no more messages are answered.
+    pub fn into_parts(self) -> (F, Times)
+        ensures file_system { result.0 ≡ self.service.server.file_system }
+        ensures times { result.1 ≡ self.service.times }
     {
         let Connection {
             service,
@@ -84,6 +93,7 @@ impl<F> Connection<F> {
             server,
             listings: _,
             checker: _,
+            times,
         } = service;
         let Server {
             file_system,
@@ -91,6 +101,6 @@ impl<F> Connection<F> {
             files: _,
             alloc: _,
         } = server;
-        file_system
+        (file_system, times)
     }
 }

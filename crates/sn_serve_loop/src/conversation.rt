@@ -13,25 +13,25 @@ use crate::sessions::log_in;
 use crate::stop::Stop;
 use sn_output::write_front;
 use sn_plan::FileSystem;
-use sn_serve::{Processes, Service, answer, refuse_message};
+use sn_serve::{Host, Service, answer, refuse_message};
 use std::alloc::AllocError;
 use std::io;
 use std::io::{ErrorKind, Read, Write};
 
 // Answers a message. One that has stopped answers with `EIO`.
-fn reply_to<F: FileSystem, P: Processes>(
+fn reply_to<F: FileSystem, H: Host>(
     service: &mut Service<F>,
-    processes: &mut P,
+    host: &mut H,
     message: &[u8],
     out: &mut Vec<u8>,
 ) -> Result<(), AllocError>
-    ensures { (reply : List ℕ) × (acts : List Act) × Replies F.did P.tells F.stopped message.now service.old processes.old service.new processes.new reply acts
+    ensures { (reply : List ℕ) × (acts : List Act) × Replies F.did H.tells F.stopped message.now service.old host.old service.new host.new reply acts
         × OnOk result (out.new.items ≡ out.old.items ++ reply) }
 {
     if service.server.file_system.has_stopped() {
         return refuse_message(message, out);
     }
-    answer(service, processes, message, out)
+    answer(service, host, message, out)
 }
 
 // Writes a reply, if there is one.
@@ -47,23 +47,23 @@ fn send<W: Write>(output: &mut W, reply: &[u8]) -> Result<(), Stop>
 }
 
 // Answers the first message of the bytes that came. The work that is due comes after its reply.
-fn exchange<F: FileSystem, P: Processes, W: Write>(
+fn exchange<F: FileSystem, H: Host, W: Write>(
     connection: &mut Connection<F>,
-    processes: &mut P,
+    host: &mut H,
     size: usize,
     output: &mut W,
 ) -> Result<(), Stop>
     requires within { size ≤ length connection.old.frames }
     requires message { IsMessage (take size connection.old.frames) }
     ensures conversation { (input : Option (List ℕ)) → (left : List ℕ) × (whole : Bool)
-        × Conversation F.did P.tells F.stopped whole connection.old.service processes.old connection.new.service processes.new connection.old.frames left input input (W.contents output.old) (W.contents output.new)
+        × Conversation F.did H.tells F.stopped whole connection.old.service host.old connection.new.service host.new connection.old.frames left input input (W.contents output.old) (W.contents output.new)
         × OnOk result ((connection.new.frames ≡ left) × (whole ≡ true)) }
     ensures why { IfErr result (λ why. why ≢ stop.Ended) }
 {
     connection.out.clear();
     reply_to(
         &mut connection.service,
-        processes,
+        host,
         &connection.frames.bytes()[..size],
         &mut connection.out,
     )?;
@@ -74,19 +74,19 @@ fn exchange<F: FileSystem, P: Processes, W: Write>(
 }
 
 // Answers one message, or reads more bytes.
-fn turn<F: FileSystem, P: Processes, R: Read, W: Write>(
+fn turn<F: FileSystem, H: Host, R: Read, W: Write>(
     connection: &mut Connection<F>,
-    processes: &mut P,
+    host: &mut H,
     input: &mut R,
     output: &mut W,
 ) -> Result<(), Stop>
     ensures { (left : List ℕ) × (whole : Bool)
-        × Conversation F.did P.tells F.stopped whole connection.old.service processes.old connection.new.service processes.new connection.old.frames left (R.remaining input.old) (R.remaining input.new) (W.contents output.old) (W.contents output.new)
+        × Conversation F.did H.tells F.stopped whole connection.old.service host.old connection.new.service host.new connection.old.frames left (R.remaining input.old) (R.remaining input.new) (W.contents output.old) (W.contents output.new)
         × OnOk result ((connection.new.frames ≡ left) × (whole ≡ true))
         × IfErr result (λ why. why ≡ stop.Ended → HasEnded whole left (R.remaining input.new)) }
 {
     match connection.frames.front() {
-        Front::Whole(size) => exchange(connection, processes, size, output),
+        Front::Whole(size) => exchange(connection, host, size, output),
         Front::Broken => Err(Stop::Broken),
         Front::Part => {
             if connection.frames.receive(input)? {
@@ -99,18 +99,18 @@ fn turn<F: FileSystem, P: Processes, R: Read, W: Write>(
 }
 
 // Answers messages until the input ends, or one can't be read or answered.
-fn answer_all<F: FileSystem, P: Processes, R: Read, W: Write>(
+fn answer_all<F: FileSystem, H: Host, R: Read, W: Write>(
     connection: &mut Connection<F>,
-    processes: &mut P,
+    host: &mut H,
     input: &mut R,
     output: &mut W,
 ) -> Stop
     ensures { (left : List ℕ) × (whole : Bool)
-        × Conversation F.did P.tells F.stopped whole connection.old.service processes.old connection.new.service processes.new connection.old.frames left (R.remaining input.old) (R.remaining input.new) (W.contents output.old) (W.contents output.new)
+        × Conversation F.did H.tells F.stopped whole connection.old.service host.old connection.new.service host.new connection.old.frames left (R.remaining input.old) (R.remaining input.new) (W.contents output.old) (W.contents output.new)
         × (result ≡ stop.Ended → HasEnded whole left (R.remaining input.new)) }
 {
     for _turn in 0..u64::MAX {
-        if let Err(stop) = turn(connection, processes, input, output) {
+        if let Err(stop) = turn(connection, host, input, output) {
             return stop;
         }
     }
@@ -123,17 +123,17 @@ fn answer_all<F: FileSystem, P: Processes, R: Read, W: Write>(
 /// Proved: The messages of the input are answered one after the other, each by its plan and by one reply, with work of the file system for which nobody
 /// waits between them; once a failure has stopped it, each is answered with `EIO`, and does nothing. Where the input has ended, no whole message is
 /// left, and each reply was written whole.
-pub fn converse<F: FileSystem, P: Processes, R: Read, W: Write>(
+pub fn converse<F: FileSystem, H: Host, R: Read, W: Write>(
     connection: &mut Connection<F>,
-    processes: &mut P,
+    host: &mut H,
     input: &mut R,
     output: &mut W,
 ) -> Stop
-    ensures { LogsInAndConverses F.did P.tells F.stopped connection.old.service processes.old connection.new.service processes.new result connection.old.frames (R.remaining input.old) (R.remaining input.new) (W.contents output.old) (W.contents output.new) }
+    ensures { LogsInAndConverses F.did H.tells F.stopped connection.old.service host.old connection.new.service host.new result connection.old.frames (R.remaining input.old) (R.remaining input.new) (W.contents output.old) (W.contents output.new) }
 {
     let alloc = connection.service.server.alloc;
     match log_in(&mut connection.service.server.file_system, alloc) {
-        Ok(()) => answer_all(connection, processes, input, output),
+        Ok(()) => answer_all(connection, host, input, output),
         Err(_) => Stop::Memory,
     }
 }

@@ -10,9 +10,9 @@
 //! What the sources leave open is decided in `docs/DECISIONS.md`, under "Messages, one after the other".
 //!
 //! ```text
-//! let mut connection = NewConnection::new(alloc)?.of(alloc, file_system, checker);
-//! let stop = converse(&mut connection, &mut processes, &mut input, &mut output);
-//! let file_system = connection.into_file_system();
+//! let mut connection = NewConnection::new(alloc)?.of(alloc, file_system, checker, times);
+//! let stop = converse(&mut connection, &mut host, &mut input, &mut output);
+//! let (file_system, times) = connection.into_parts();
 //! ```
 #![tactic(auto)]
 

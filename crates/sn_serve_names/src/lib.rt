@@ -39,5 +39,5 @@ pub use looking::{access, lookup};
 pub use making::mkdir;
 pub use meeting::{made_at, met_at, number_at, number_of, seen_at, status_at};
 pub use moving::{link, rename};
-pub use names::{Child, child_of, is_snapshots};
+pub use names::{Child, child_of, image_of, is_snapshots};
 pub use removing::{rmdir, unlink};

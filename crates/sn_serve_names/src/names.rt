@@ -47,7 +47,7 @@ impl Child {
 
 /// The name of the image that denotes a name of the mount. `EINVAL` where no directory can have that name, and `ENAMETOOLONG` where the
 /// image's has over 255 bytes.
-fn image_of(name: &[u8]) -> Result<ArrayVec<u8, NAME_MAX>, Errno>
+pub fn image_of(name: &[u8]) -> Result<ArrayVec<u8, NAME_MAX>, Errno>
     ensures { MatchResult result (λ image. names.image_of name.now ≡ Ok image.items) (λ e. names.image_of name.now ≡ Err e) }
 {
     if !is_host_name(name) {

@@ -14,13 +14,16 @@ use sn_testing_tables::Report;
 use std::env;
 
 /// The parts, in the order in which they run.
-const PARTS: [&str; 7] = ["manual", "names", "nodes", "fuse", "tar", "untar", "import"];
+const PARTS: [&str; 8] = [
+    "manual", "names", "nodes", "times", "fuse", "tar", "untar", "import",
+];
 
 fn run(report: &mut Report<'_>, part: &str) -> Result<()> {
     match part {
         "manual" => sn_tests_manual::run(report),
         "names" => sn_tests_names::run(report),
         "nodes" => sn_tests_nodes::run(report),
+        "times" => sn_tests_times::run(report),
         "fuse" => sn_tests_fuse::run(report),
         "tar" => sn_tests_tar::run(report),
         "untar" => sn_tests_untar::run(report),

@@ -13,11 +13,13 @@ pub(crate) struct Status<'a> {
     pub text: &'a str,
 }
 
-/// What the system tells of all processes, and who checks what they may do.
+/// What the system tells of all processes and of the time, and who checks what they may do.
 #[derive(Drop)]
 pub(crate) struct Senders<'a> {
     pub statuses: Vec<Status<'a>>,
     pub checker: Checker,
+    /// The seconds that the clock shows at a mount, and one more at each reading. `None` where it always shows 0.
+    pub clock: Option<u64>,
 }
 
 /// A message and its reply, each as a line.
@@ -57,18 +59,23 @@ fn take_sender<'a>(senders: &mut Senders<'a>, line: &'a str) -> Result<()> {
         senders.checker = Checker::System;
         return Ok(());
     }
-    let (process, text) = words.split_once(' ').context("no status")?;
-    let process = number_of(process)?;
+    let (word, text) = words.split_once(' ').context("no status")?;
+    if word == "clock" {
+        senders.clock = Some(text.parse().context("no time")?);
+        return Ok(());
+    }
+    let process = number_of(word)?;
     senders.statuses.push(Status { process, text })?;
     Ok(())
 }
 
-/// What is told of processes in a conversation.
+/// What is told of processes and of the time in a conversation.
 pub(crate) fn senders_of<'a>(alloc: Global, text: &'a str) -> Result<Senders<'a>> {
     let (front, _serves) = parts_of(text)?;
     let mut senders = Senders {
         statuses: Vec::new(alloc),
         checker: Checker::Server { maps_all: false },
+        clock: None,
     };
     for line in front.lines() {
         if !is_comment(line) {

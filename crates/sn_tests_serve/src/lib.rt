@@ -8,13 +8,14 @@
 //! | `? PID TEXT` | the status of a process, in which `%0A` is a line end; `-` can't be read, nor that of one that no line names |
 //! | `? map whole` | the groups of the server's namespace are all mapped |
 //! | `? kernel` | the system checks what messages may do |
+//! | `? clock SECONDS` | what the clock shows at each mount, and one second more at each reading after that; else it always shows 0 |
 //! | `= END` | a serve begins, which has to end so: `clean`, `message` where what comes is no message |
 //! | `> LINE` | a message. Its number is its place in the serve, from 1 up |
 //! | `< LINE` | its reply; `-` where it has none |
 //!
 //! The lines `?` stand before the first serve. After each serve the image has to be sound.
 //!
-//! The way through: `conversation` reads a text, `processes` tells of senders, `serving` has a serve and its replies, and `talking` compares
+//! The way through: `conversation` reads a text, `host` tells of senders and of the time, `serving` has a serve and its replies, and `talking` compares
 //! them. `failing` serves a conversation on devices of which each write fails in turn, and looks at what a crash leaves then.
 //!
 //! No clause promises what comes out, since it is compared: `sn_tests_serving` runs it.
@@ -22,7 +23,7 @@
 
 mod conversation;
 mod failing;
-mod processes;
+mod host;
 mod serving;
 mod talking;
 
@@ -30,7 +31,7 @@ use anyhow::{Context, Result};
 use sn_testing_tables::Report;
 use std::{env, fs};
 
-const CONVERSATIONS: [&str; 13] = [
+const CONVERSATIONS: [&str; 15] = [
     "conversations/names.txt",
     "conversations/files.txt",
     "conversations/directories.txt",
@@ -41,7 +42,9 @@ const CONVERSATIONS: [&str; 13] = [
     "conversations/forgets.txt",
     "conversations/broken.txt",
     "conversations/kernel.txt",
+    "conversations/times.txt",
     "conversations/drawn.txt",
+    "conversations/drawn_times.txt",
     "conversations/drawn_kernel.txt",
     "conversations/tar.txt",
 ];

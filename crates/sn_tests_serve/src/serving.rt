@@ -1,13 +1,15 @@
 //! A serve of an image in memory.
 
 use crate::conversation::{Exchange, Senders};
-use crate::processes::Told;
+use crate::host::Told;
 use anyhow::{Context, Result, bail};
 use byteorder::{ByteOrder, LittleEndian};
 use sn_device::{Fill, MemDevice};
 use sn_mkfs::mkfs;
+use sn_serve::Host;
 use sn_serve_image::{ServeFault, Served, serve_image};
 use sn_testing_fuse::{answered, message};
+use sn_times::Times;
 use std::alloc::Global;
 
 /// What came of a serve: the replies one after the other, how it ended, and the device.
@@ -48,21 +50,27 @@ fn end_of(outcome: Result<(), ServeFault>) -> &'static str {
     }
 }
 
-/// Serves a device with messages one after the other.
+/// Serves a device with messages one after the other, whose objects have the time of the mount.
 pub(crate) fn serve(
     alloc: Global,
     device: MemDevice,
     senders: &Senders<'_>,
     messages: &[u8],
 ) -> Ended {
-    let mut processes = Told { alloc, senders };
+    let mut host = Told::new(alloc, senders);
+    let times = Times::new(alloc, host.now());
     let mut input = messages;
     let mut replies = Vec::new(alloc);
-    let Served { outcome, device } = serve_image(
+    let Served {
+        outcome,
+        device,
+        times: _,
+    } = serve_image(
         alloc,
         device,
-        &mut processes,
+        &mut host,
         senders.checker,
+        times,
         &mut input,
         &mut replies,
     );

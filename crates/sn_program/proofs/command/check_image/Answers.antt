@@ -1,5 +1,5 @@
-use Rattle.sn_program.proofs.AnswerLemmas.{verdict_begins}
+use Rattle.sn_program.proofs.AnswerLemmas.{on_err, verdict_begins}
 use Rattle.sn_program.proofs.command.check_image.Goals as goal
 
-pub returns-in-Err-clause-front : goal.returns-in-Err-clause-front
-returns-in-Err-clause-front g c = verdict_begins (g.W.Write.contents c.args.out.now)
+pub returns-in_err-device-clause-front : goal.returns-in_err-device-clause-front
+returns-in_err-device-clause-front g c = on_err c.from_residual.result (verdict_begins (g.W.Write.contents c.args.out.now))

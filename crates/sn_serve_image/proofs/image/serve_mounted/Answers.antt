@@ -14,11 +14,12 @@ returns g c =
       new = c.of-connection.ensures.new;
       ended = c.converse-stop.new.connection.service;
       why = c.converse-stop.result;
-      conversation = subst (λ (pending : List ℕ). LogsInAndConverses (DidFrom told) g.P.Processes.tells stopped c.of-connection.result.service c.args.processes.now c.converse-stop.new.connection.service
-          c.converse-stop.new.processes c.converse-stop.result pending (g.R.Read.remaining c.args.input.now) (g.R.Read.remaining c.converse-stop.new.input) (g.W.Write.contents c.args.output.now)
+      conversation = subst (λ (pending : List ℕ). LogsInAndConverses (DidFrom told) g.H.Host.tells stopped c.of-connection.result.service c.args.host.now c.converse-stop.new.connection.service
+          c.converse-stop.new.host c.converse-stop.result pending (g.R.Read.remaining c.args.input.now) (g.R.Read.remaining c.converse-stop.new.input) (g.W.Write.contents c.args.output.now)
           (g.W.Write.contents c.converse-stop.new.output)) (c.of-connection.ensures.frames ∙ c.requires.frames) c.converse-stop.ensures;
+      left_is = c.into_parts-file_system.ensures.times;
       end = c.finish-end.result.0;
       told_end = c.finish-end.ensures.told;
       outcome_is = c.outcome_of.ensures;
-      unmounts = λ is. subst (λ (s : Shown). Unmounts c.finish-end.result.0 s.served (g.D.Device.disk c.finish-end.result.1)) c.into_file_system.ensures (c.finish-end.ensures.ended is);
+      unmounts = λ is. subst (λ (s : Shown). Unmounts c.finish-end.result.0 s.served (g.D.Device.disk c.finish-end.result.1)) c.into_parts-file_system.ensures.file_system (c.finish-end.ensures.ended is);
     }

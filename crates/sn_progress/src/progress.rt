@@ -9,7 +9,7 @@ use std::time::{Clock, Instant};
 /// a script have been answered, or how much of an image has been read. What takes less than a second shows nothing, and
 /// neither does anything where the clock fails.
 #[derive(Drop)]
-pub(crate) struct Progress<'a, C: Clock, P: Write> {
+pub struct Progress<'a, C: Clock, P: Write> {
     clock: &'a C,
     begun: Option<Instant>,
     /// The second that was shown last.
@@ -18,7 +18,7 @@ pub(crate) struct Progress<'a, C: Clock, P: Write> {
 }
 
 impl<'a, C: Clock, P: Write> Progress<'a, C, P> {
-    pub(crate) fn new(clock: &'a C, person: &'a mut P) -> Progress<'a, C, P> {
+    pub fn new(clock: &'a C, person: &'a mut P) -> Progress<'a, C, P> {
         Progress {
             clock,
             begun: Instant::now(clock).ok(),
@@ -44,7 +44,7 @@ impl<'a, C: Clock, P: Write> Progress<'a, C, P> {
     }
 
     /// Takes the line away, if there is one.
-    pub(crate) fn end(self) {
+    pub fn end(self) {
         if self.told > 0 {
             let _ = write!(self.person, "\r\x1b[K");
             let _ = self.person.flush();

@@ -4,14 +4,14 @@ use sn_core::{Device, Fault};
 use sn_device::Status;
 
 /// Who looks on while a device is read. It has no say in it, and nothing is promised of what it is shown.
-pub(crate) trait WatchReads {
+pub trait WatchReads {
     /// So many sectors have been read.
     fn has_read(&mut self, sectors: u64);
 }
 
 /// A device whose reads are counted, for somebody who learns from time to time how many there were.
 #[derive(Drop)]
-pub(crate) struct WatchedDevice<'w, D: Device + Drop, L: WatchReads> {
+pub struct WatchedDevice<'w, D: Device + Drop, L: WatchReads> {
     device: D,
     read: u64,
     watch: &'w mut L,
@@ -24,7 +24,7 @@ impl<'w, D: Device + Drop, L: WatchReads> WatchedDevice<'w, D, L> {
     ghost use Rattle.std.specs.Prelude.{◌≡◌};
 
     /// What is read from here on is reported to somebody.
-    pub(crate) fn new(device: D, watch: &'w mut L) -> Self
+    pub fn new(device: D, watch: &'w mut L) -> Self
         ensures { result.device ≡ device }
     {
         WatchedDevice {

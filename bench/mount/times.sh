@@ -1,0 +1,152 @@
+#!/bin/bash
+# Tries what times files have after an unmount and a mount: those that they had, or the mount's.
+#
+#     bench/mount/times.sh [PROGRAM]
+#
+# Run by hand as root where there is /dev/fuse; takes under a minute.
+# (its functions are called by the words of a case)
+# shellcheck disable=SC2317
+# shellcheck source-path=SCRIPTDIR source=shared.sh
+. "$(dirname "$0")/shared.sh"
+
+times=$image.times
+OLD=2001-02-03T04:05:06.123456789Z
+
+# The modification time of a file, in seconds.
+modified() {
+    stat -c %Y "$1"
+}
+
+is_old() {
+    [ "$(TZ=UTC stat -c '%.9Y %.9X' "$1")" = "981173106.123456789 981173106.123456789" ]
+}
+
+# Whether a file has the time of a mount that began at a moment.
+is_of_mount() {
+    [ "$(modified "$1")" -ge "$2" ]
+}
+
+mounts() {
+    "$snapfs" mount "$image" "$dir"
+}
+
+unmounts() {
+    "$snapfs" unmount "$dir"
+}
+
+sets() {
+    touch -d "$OLD" "$dir/f"
+}
+
+is_sound() {
+    "$snapfs" check "$image" | grep -q '^clean '
+}
+
+# Leaves a file with an old time beside another, at a clean end.
+leaves_old() {
+    mounts && sets && unmounts
+}
+
+kill_server() {
+    kill -9 "$(server_of "$image")"
+    while [ -n "$(server_of "$image")" ]; do sleep 0.05; done
+}
+
+flip_a_byte() {
+    printf '\377' | dd of="$times" bs=1 seek=60 conv=notrunc status=none
+}
+
+case_of "an image is formatted" 0 ok "$snapfs" mkfs "$image" 512
+begun=$(date +%s)
+case_of "it is mounted" 0 "" mounts
+holds "what was never changed has the time of the mount" is_of_mount "$dir" "$begun"
+holds "a file has that of its writing" sh -c "echo hello >'$dir/f'; [ \$((\$(date +%s) - \$(stat -c %Y '$dir/f'))) -lt 5 ]"
+holds "a time is set" sets
+holds "and is there, to the nanosecond" is_old "$dir/f"
+holds "others may not set it" sh -c "! setpriv --reuid 1001 --regid 1001 --clear-groups touch -d 2002-01-01 '$dir/f' 2>/dev/null"
+holds "nor now, unless they may write" sh -c "! setpriv --reuid 1001 --regid 1001 --clear-groups touch -c '$dir/f' 2>/dev/null"
+holds "it stays" is_old "$dir/f"
+holds "a snapshot is made" mkdir "$dir/.snapshot/one"
+holds "the file changes" sh -c "echo more >>'$dir/f'"
+holds "the snapshot keeps its time" is_old "$dir/.snapshot/one/f"
+holds "the file doesn't" sh -c "[ \$(stat -c %Y '$dir/f') -gt 1000000000 ]"
+holds "a time is set again" sets
+case_of "it is unmounted" 0 "" unmounts
+holds "times are beside it, for its owner alone" [ "$(stat -c '%a %F' "$times")" = "600 regular file" ]
+holds "it is checked" is_sound
+sleep 1
+begun=$(date +%s)
+case_of "it is mounted again" 0 "" mounts
+holds "the file has its time" is_old "$dir/f"
+holds "the snapshot has that of the mount" is_of_mount "$dir/.snapshot/one/f" "$begun"
+holds "the times beside it are gone" [ ! -e "$times" ]
+case_of "and unmounted" 0 "" unmounts
+case_of "once more" 0 "" mounts
+holds "the file has its time still" is_old "$dir/f"
+
+# ---- What makes them count no longer
+begun=$(date +%s)
+holds "the program is killed" kill_server
+case_of "its mount goes" 0 "" unmounts
+holds "and leaves no times" [ ! -e "$times" ]
+case_of "it is mounted after that" 0 "" mounts
+holds "the file has the time of the mount" is_of_mount "$dir/f" "$begun"
+case_of "unmounted" 0 "" unmounts
+
+holds "an old time is left" leaves_old
+printf '0 login 0 0 -\n0 mkdir /made 0755\n' >"$work/script"
+begun=$(date +%s)
+case_of "a script changes the image" 0 "ok
+ok" "$snapfs" run "$image" "$work/script"
+case_of "it is mounted after the script" 0 "" mounts
+holds "the file has the time of that mount" is_of_mount "$dir/f" "$begun"
+case_of "unmounted" 0 "" unmounts
+
+holds "an old time is left" leaves_old
+holds "a copy of the image is kept with its times" sh -c "cp '$image' '$work/copy' && cp '$times' '$work/copy.times'"
+case_of "it is mounted" 0 "" mounts
+holds "a file is written" sh -c "echo other >'$dir/g'"
+case_of "unmounted" 0 "" unmounts
+holds "the times of the copy are laid beside it" cp "$work/copy.times" "$times"
+begun=$(date +%s)
+case_of "it is mounted with times of another moment" 0 "" mounts
+holds "the file has the time of the mount" is_of_mount "$dir/f" "$begun"
+case_of "unmounted" 0 "" unmounts
+holds "the copy comes back with its times" sh -c "cp '$work/copy' '$image' && cp '$work/copy.times' '$times'"
+case_of "it is mounted" 0 "" mounts
+holds "the file has its time" is_old "$dir/f"
+case_of "unmounted" 0 "" unmounts
+
+holds "a byte of the times is another" flip_a_byte
+begun=$(date +%s)
+case_of "it is mounted with spoilt times" 0 "" mounts
+holds "the file has the time of the mount" is_of_mount "$dir/f" "$begun"
+case_of "unmounted" 0 "" unmounts
+
+# ---- Links, and folders that take no file
+echo victim >"$work/victim"
+holds "an old time is left" leaves_old
+holds "the times are behind a link" sh -c "mv '$times' '$work/kept' && ln -s '$work/kept' '$times'"
+begun=$(date +%s)
+case_of "it is mounted" 0 "" mounts
+holds "a link isn't followed" is_of_mount "$dir/f" "$begun"
+holds "a link leads to something else" ln -sfn "$work/victim" "$times"
+holds "and so does that of a new file" ln -sfn "$work/victim" "$times.new"
+case_of "unmounted" 0 "" unmounts
+holds "times are a file of their own" [ "$(stat -c %F "$times")" = "regular file" ]
+case_of "what the link led to is as it was" 0 victim cat "$work/victim"
+holds "a folder has their name" sh -c "rm '$times' && mkdir '$times'"
+case_of "it is mounted" 0 "" mounts
+case_of "and unmounted" 0 "" unmounts
+holds "it is sound" is_sound
+rmdir "$times"
+
+mkdir "$work/closed"
+cp "$image" "$work/closed/disk.img"
+chown nobody "$work/closed/disk.img"
+chmod 755 "$work/closed"
+image=$work/closed/disk.img
+case_of "another user serves where they make no file" 0 "" env SNAPFS_USER=nobody "$snapfs" mount "$image" "$dir"
+case_of "and it ends well" 0 "" unmounts
+holds "without times beside it" [ ! -e "$image.times" ]
+finish

@@ -1,0 +1,271 @@
+#!/usr/bin/env python3
+"""Writes the tables of the times of objects, by a plain reading of POSIX.1-2017, 4.9, and of the bytes that keep them.
+
+    bench/times_tables.py
+
+It writes hand.txt, drawn.txt and files.txt in crates/sn_tests_messages/data/times. The answers of hand.txt were worked out by hand, and the
+reading here has to give them too. A case is a list of steps with a space between two, and has an answer for each. All is of the second 1 first:
+
+    made:NOW:NUMBER, modified:NOW:NUMBER, changed:NOW:NUMBER    -
+    dated:NOW:NUMBER:ACCESSED:MODIFIED    -, where a time that isn't set is -
+    frozen:NOW:HOME, thawed:NOW:HOME      -
+    times:NUMBER      access, modification and change time
+    file:ROOT         the bytes that keep the times, in hexadecimal, or unwritable. A home's name is its number, and the live tree's is empty
+
+A time is SECONDS or SECONDS/NANOSECONDS. A case of files.txt is bytes in hexadecimal, and its answer what they say, or misspelt.
+"""
+
+import hashlib
+import random
+import struct
+from pathlib import Path
+
+TABLES = Path(__file__).resolve().parent.parent / "crates/sn_tests_messages/data/times"
+NUMBERS = 65536
+
+
+def time_of(word):
+    seconds, _, nanoseconds = word.partition("/")
+    return int(seconds), int(nanoseconds or 0)
+
+
+def shown(stamps):
+    return ",".join(f"{s}/{n}" for s, n in stamps)
+
+
+def is_time(time):
+    return time[1] < 10**9
+
+
+# THE BYTES
+
+
+def time_bytes(time):
+    return struct.pack("<QI", *time)
+
+
+def section_bytes(name, tree):
+    entries = b"".join(struct.pack("<H", number) + b"".join(map(time_bytes, tree[number])) for number in tree)
+    return bytes([len(name)]) + name + struct.pack("<Q", len(tree)) + entries
+
+
+def front_bytes(root, base, magic=b"snaptime", version=1, size=None):
+    return magic + struct.pack("<II", version, len(root) if size is None else size) + root + time_bytes(base)
+
+
+def sealed(body):
+    return body + hashlib.sha256(body).digest()
+
+
+class Times:
+    """Times by number, each of which is looked up or copied as it stands."""
+
+    def __init__(self):
+        self.base, self.own = (1, 0), {}
+
+    def of(self, number):
+        return self.own.get(number, (self.base,) * 3)
+
+    def tree(self, home):
+        return {n % NUMBERS: self.own[n] for n in sorted(self.own) if n // NUMBERS == home}
+
+    def thaw(self, home):
+        self.own = {n: stamps for n, stamps in self.own.items() if n // NUMBERS != home}
+
+    def file(self, root):
+        if not all(is_time(time) for stamps in self.own.values() for time in stamps):
+            return "unwritable"
+        homes = sorted({n // NUMBERS for n in self.own})
+        sections = (section_bytes(str(home).encode() if home else b"", self.tree(home)) for home in homes)
+        return sealed(front_bytes(root.encode(), self.base) + b"".join(sections)).hex()
+
+    def step(self, text):
+        verb, *words = text.split(":")
+        if verb == "times":
+            return shown(self.of(int(words[0])))
+        if verb == "file":
+            return self.file(words[0])
+        now, number = time_of(words[0]), int(words[1])
+        accessed, modified, _ = self.of(number)
+        if verb == "made":
+            self.own[number] = (now, now, now)
+        elif verb == "modified":
+            self.own[number] = (accessed, now, now)
+        elif verb == "changed":
+            self.own[number] = (accessed, modified, now)
+        elif verb == "dated":
+            given = [time if word == "-" else time_of(word) for word, time in zip(words[2:], (accessed, modified))]
+            self.own[number] = (*given, now)
+        elif verb == "frozen":
+            live = self.tree(0)
+            self.thaw(number)
+            self.own.update({number * NUMBERS + n: stamps for n, stamps in live.items()})
+        elif number:
+            self.thaw(number)
+        return "-"
+
+
+def told(case):
+    times = Times()
+    return " ".join(times.step(step) for step in case.split())
+
+
+HAND = """
+# What wasn't marked has the time of the mount.
+times:5 times:131077 => 1/0,1/0,1/0 1/0,1/0,1/0
+
+# What is made has one time, and keeps its access time where it changes.
+made:2:5 times:5 modified:3:5 times:5 changed:4/7:5 times:5 times:6 => - 2/0,2/0,2/0 - 2/0,3/0,3/0 - 2/0,3/0,4/7 1/0,1/0,1/0
+modified:3:5 times:5 changed:4:6 times:6 => - 1/0,3/0,3/0 - 1/0,1/0,4/0
+
+# Times that are set leave the others, and mark a change.
+dated:5:7:1/500:- times:7 dated:6:7:-:0 times:7 dated:8:7:9:9/999999999 times:7 => - 1/500,1/0,5/0 - 1/500,0/0,6/0 - 9/0,9/999999999,8/0
+dated:5:7:-:- times:7 => - 1/0,1/0,5/0
+
+# A number that is used again has no times of what was there before.
+made:2:5 dated:3:5:0:0 made:4:5 times:5 => - - - 4/0,4/0,4/0
+
+# A snapshot has the times of its moment, and its own from then on.
+made:2:5 modified:3:9 frozen:4:2 modified:5:5 times:131077 times:131081 times:131078 times:5 => - - - - 2/0,2/0,2/0 1/0,3/0,3/0 1/0,1/0,1/0 2/0,5/0,5/0
+made:2:5 frozen:3:2 changed:4:131077 times:131077 times:5 => - - - 2/0,2/0,4/0 2/0,2/0,2/0
+frozen:2:2 made:3:5 times:131077 frozen:4:2 times:131077 => - - 1/0,1/0,1/0 - 3/0,3/0,3/0
+made:2:5 frozen:3:3 frozen:4:2 thawed:5:3 times:196613 times:131077 times:5 => - - - - 1/0,1/0,1/0 2/0,2/0,2/0 2/0,2/0,2/0
+
+# The live tree stays.
+made:2:5 thawed:3:0 times:5 frozen:4:0 times:5 => - - 2/0,2/0,2/0 - 2/0,2/0,2/0
+made:2:65535 frozen:3:1 times:131071 => - - 2/0,2/0,2/0
+
+# A home that is too large for any number, and the largest numbers.
+made:2:5 frozen:3:18446744073709551615 times:5 thawed:4:18446744073709551615 times:5 => - - 2/0,2/0,2/0 - 2/0,2/0,2/0
+made:2:18446744073709551615 times:18446744073709551615 frozen:3:281474976710655 times:18446744073709551615 => - 2/0,2/0,2/0 - 1/0,1/0,1/0
+
+# A time that no system sets can't be kept.
+dated:2:5:1/1000000000:- times:5 file:r made:3:5 times:5 => - 1/1000000000,1/0,2/0 unwritable - 3/0,3/0,3/0
+"""
+
+
+def drawn(r):
+    clock, steps = 1, []
+    homes = [0, 0, 0, 0, 1, 2, 3]
+    for _ in range(r.randint(5, 40)):
+        clock += r.randint(0, 3)
+        now = f"{clock}/{r.choice((0, 1, 999999999))}"
+        home = r.choice(homes)
+        number = home * NUMBERS + r.choice((1, 2, 3, 4, 65535))
+        verb = r.choice(("made", "modified", "modified", "changed", "dated", "frozen", "thawed", "times", "times", "times", "file"))
+        if verb == "times":
+            steps.append(f"times:{number}")
+        elif verb == "file":
+            steps.append(f"file:{r.choice(('', 'r', 'root'))}")
+        elif verb == "dated":
+            given = (r.choice(("-", str(r.randint(0, 90)), f"{2**64 - 1}/5")) for _ in range(2))
+            steps.append(f"dated:{now}:{number}:{':'.join(given)}")
+        elif verb in ("frozen", "thawed"):
+            steps.append(f"{verb}:{now}:{home}")
+        else:
+            steps.append(f"{verb}:{now}:{number}")
+    return " ".join(steps)
+
+
+# THE FILES
+
+
+def read(data):
+    """What bytes say, by the layout of the head of the crate."""
+    body, sum_of = data[:-32], data[-32:]
+    if len(data) < 32 or hashlib.sha256(body).digest() != sum_of or body[:12] != b"snaptime\x01\x00\x00\x00" or len(body) < 16:
+        return "misspelt"
+    size = struct.unpack("<I", body[12:16])[0]
+    root, rest = body[16 : 16 + size], body[16 + size :]
+    if size > 4096 or len(root) < size or len(rest) < 12:
+        return "misspelt"
+    base, rest = struct.unpack("<QI", rest[:12]), rest[12:]
+    words = [f"root={root.hex()}", f"{base[0]}/{base[1]}"]
+    good = is_time(base)
+    while rest:
+        name, rest = rest[1 : 1 + rest[0]], rest[1 + rest[0] :] if len(rest) > rest[0] else None
+        if rest is None or len(rest) < 8:
+            return "misspelt"
+        count, rest = struct.unpack("<Q", rest[:8])[0], rest[8:]
+        if len(rest) < 38 * count:
+            return "misspelt"
+        words.append(f"name={name.hex()}")
+        last = -1
+        for at in range(0, 38 * count, 38):
+            number, *parts = struct.unpack("<HQIQIQI", rest[at : at + 38])
+            stamps = tuple(zip(parts[::2], parts[1::2]))
+            good = good and last < number and all(map(is_time, stamps))
+            last = number
+            words += [str(number), shown(stamps)]
+        rest = rest[38 * count :]
+    return " ".join(words) if good else "misspelt"
+
+
+def files():
+    one = {5: ((2, 0), (3, 999999999), (4, 1))}
+    two = {0: ((1, 0),) * 3, 65535: ((2**64 - 1, 5),) * 3}
+    front = front_bytes(b"root", (1, 7))
+    yield "What is kept: nothing, a section, several, and two of one name.", [
+        sealed(front_bytes(b"", (0, 0))),
+        sealed(front),
+        sealed(front + section_bytes(b"", one)),
+        sealed(front + section_bytes(b"", one) + section_bytes(b"first", two) + section_bytes(b"s" * 255, {})),
+        sealed(front + section_bytes(b"a", one) + section_bytes(b"a", two)),
+        sealed(front_bytes(b"r" * 4096, (1, 0))),
+    ]
+    whole = sealed(front + section_bytes(b"a", two))
+    yield "Bytes that were cut, and each byte changed.", [
+        *(whole[:n] for n in range(0, len(whole), 7)),
+        *(whole[:n] + bytes([whole[n] ^ 1]) + whole[n + 1 :] for n in range(0, len(whole), 5)),
+        whole + b"\x00",
+    ]
+    yield "Another magic, version or size of the root, under a right checksum.", [
+        sealed(front_bytes(b"root", (1, 7), magic=b"snaptimf")),
+        sealed(front_bytes(b"root", (1, 7), version=0)),
+        sealed(front_bytes(b"root", (1, 7), version=2)),
+        sealed(front_bytes(b"root", (1, 7), size=3)),
+        sealed(front_bytes(b"root", (1, 7), size=5)),
+        sealed(front_bytes(b"root", (1, 7), size=2**32 - 1)),
+        sealed(front_bytes(b"r" * 4097, (1, 0))),
+        sealed(front[:-1]),
+        sealed(b""),
+        sealed(b"snaptime"),
+    ]
+    late = ((1, 10**9), (1, 0), (1, 0))
+    yield "Times with as many nanoseconds as a second.", [
+        sealed(front_bytes(b"root", (1, 10**9))),
+        *(sealed(front + section_bytes(b"", {5: late[k:] + late[:k]})) for k in range(3)),
+    ]
+    swapped = {9: one[5], 5: one[5]}
+    entry = section_bytes(b"", one)
+    yield "Numbers that fall or stand twice, and counts that aren't those of the entries.", [
+        sealed(front + section_bytes(b"", swapped)),
+        sealed(front + entry[:1] + struct.pack("<Q", 2) + entry[9:] * 2),
+        sealed(front + entry[:1] + struct.pack("<Q", 2) + entry[9:]),
+        sealed(front + entry[:1] + struct.pack("<Q", 0) + entry[9:]),
+        sealed(front + entry[:1] + struct.pack("<Q", 2**64 - 1) + entry[9:]),
+        sealed(front + entry + b"\x00"),
+        sealed(front + entry + b"\x05name"),
+        sealed(front + entry[:-1]),
+    ]
+
+
+def main():
+    TABLES.mkdir(parents=True, exist_ok=True)
+    for line in HAND.strip().splitlines():
+        if line and not line.startswith("#"):
+            case, answer = line.split(" => ")
+            assert told(case) == answer, (case, told(case))
+    head = "# Steps of the times of objects and their answers, {}: bench/times_tables.py says what the steps are.\n"
+    (TABLES / "hand.txt").write_text(head.format("worked out by hand") + HAND.lstrip())
+    r = random.Random(4)
+    lines = [f"{case} => {told(case)}\n" for case in (drawn(r) for _ in range(200))]
+    (TABLES / "drawn.txt").write_text(head.format("drawn") + "".join(lines))
+    text = "# Bytes that keep times, and what they say: bench/times_tables.py makes them.\n"
+    for said, cases in files():
+        text += f"# {said}\n" + "".join(f"{case.hex()} => {read(case)}\n" for case in cases) + "\n"
+    (TABLES / "files.txt").write_text(text)
+
+
+if __name__ == "__main__":
+    main()

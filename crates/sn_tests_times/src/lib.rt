@@ -1,0 +1,41 @@
+//! Cases of the times of objects: what a table of times says after lists of marks, and which bytes keep it for the next mount.
+//!
+//! The tables are in the data of `sn_tests_messages`: `bench/times_tables.py` makes them, with Python's `struct` and `hashlib`, and says what the
+//! steps are.
+//!
+//! No clause promises what comes out, since it is compared: `sn_tests_messages` runs it.
+#![tactic(auto)]
+
+mod files;
+mod steps;
+mod words;
+
+use anyhow::Result;
+use sn_fuse::Time;
+use sn_testing_tables::{Case, Report, push_word};
+use sn_times::Times;
+use std::alloc::Global;
+use steps::Step;
+
+/// Compares the answers of all cases with their tables, with a line for each table. An error is a case, or a table, that can't
+/// be read, or a want of memory.
+pub fn run(report: &mut Report<'_>) -> Result<()> {
+    report.table("times/hand.txt", answers)?;
+    report.table("times/drawn.txt", answers)?;
+    report.table("times/files.txt", files::read)
+}
+
+/// The answer to each step of a case, over a table in which all is of the second 1.
+fn answers(alloc: Global, case: Case<'_>) -> Result<String> {
+    let base = Time {
+        seconds: 1,
+        nanoseconds: 0,
+    };
+    let mut times = Times::new(alloc, base);
+    let mut text = String::new(alloc);
+    for word in case.text().split_ascii_whitespace() {
+        let answer = Step::new(alloc, word).answer(&mut times)?;
+        push_word(&mut text, answer.as_str())?;
+    }
+    Ok(text)
+}

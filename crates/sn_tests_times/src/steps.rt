@@ -1,0 +1,112 @@
+//! One step of a case.
+
+use crate::words::{stamps_text, time_of};
+use anyhow::{Context, Result, bail, ensure};
+use hex::encode as digits_of;
+use sn_fuse::Time;
+use sn_times::{Mark, Times};
+use sn_times_file::Writer;
+use std::alloc::Global;
+
+/// Bytes of a root, at most.
+const ROOT_MAX: usize = 4_096;
+
+/// Bytes of a name, at most.
+const NAME_MAX: usize = 255;
+
+/// A verb and its words, with a colon between two.
+#[derive(Clone, Copy)]
+pub struct Step<'a> {
+    alloc: Global,
+    text: &'a str,
+}
+
+impl<'a> Step<'a> {
+    /// The step of this text.
+    pub fn new(alloc: Global, text: &'a str) -> Self {
+        Step { alloc, text }
+    }
+
+    /// Makes the step. An error is a step that can't be read, or a want of memory.
+    pub fn answer(self, times: &mut Times) -> Result<String> {
+        match self.word(0)? {
+            "times" => stamps_text(self.alloc, times.stamps(self.number(1)?)),
+            "file" => self.file(times),
+            _ => {
+                times.mark(self.time(1)?, self.mark()?);
+                self.told("-")
+            }
+        }
+    }
+
+    fn word(self, at: usize) -> Result<&'a str> {
+        self.text
+            .split(':')
+            .nth(at)
+            .context(format_args!("no word {at}"))
+    }
+
+    fn number(self, at: usize) -> Result<u64> {
+        let word = self.word(at)?;
+        word.parse().context(format_args!("no number: {word}"))
+    }
+
+    fn time(self, at: usize) -> Result<Time> {
+        time_of(self.word(at)?)
+    }
+
+    /// A time, or `-` for none.
+    fn given(self, at: usize) -> Result<Option<Time>> {
+        match self.word(at)? {
+            "-" => Ok(None),
+            word => Ok(Some(time_of(word)?)),
+        }
+    }
+
+    fn told(self, word: &str) -> Result<String> {
+        Ok(String::from_str(self.alloc, word)?)
+    }
+
+    fn mark(self) -> Result<Mark> {
+        let number = self.number(2)?;
+        Ok(match self.word(0)? {
+            "made" => Mark::Made { number },
+            "modified" => Mark::Modified { number },
+            "changed" => Mark::Changed { number },
+            "dated" => Mark::Dated {
+                number,
+                accessed: self.given(3)?,
+                modified: self.given(4)?,
+            },
+            "frozen" => Mark::Frozen { home: number },
+            "thawed" => Mark::Thawed { home: number },
+            verb => bail!("no such verb: {verb}"),
+        })
+    }
+
+    /// The bytes that keep the times, in hexadecimal. A home is a name in decimal, and the live tree's has none.
+    fn file(self, times: &Times) -> Result<String> {
+        let root = self.word(1)?.as_bytes();
+        ensure!(root.len() <= ROOT_MAX, "the root is too long");
+        let Ok(mut writer) = Writer::new(self.alloc, root, times.base()) else {
+            return self.told("unwritable");
+        };
+        for (home, tree) in times.trees() {
+            let name = self.name(*home)?;
+            ensure!(name.len() <= NAME_MAX, "the name is too long");
+            writer = match writer.section(name.as_bytes(), tree) {
+                Ok(writer) => writer,
+                Err(_) => return self.told("unwritable"),
+            };
+        }
+        let bytes = writer.finish()?;
+        Ok(digits_of(self.alloc, bytes.as_slice())?)
+    }
+
+    fn name(self, home: u64) -> Result<String> {
+        if home == 0 {
+            return Ok(String::new(self.alloc));
+        }
+        Ok(format!(in self.alloc; "{home}")?)
+    }
+}

@@ -1,0 +1,2 @@
+pub mod DatesLemmas
+pub mod EntryLemmas

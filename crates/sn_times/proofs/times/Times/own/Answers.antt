@@ -1,0 +1,21 @@
+use Rattle.std.proofs.Common.{◌/◌, ◌%◌, Option, sym, ap, ◌∙◌}
+use Rattle.std.specs.FinMap as map
+use Rattle.std.specs.Option.{unwrap_or}
+use Rattle.std.specs.Ordering.{nat_cmp}
+use Rattle.sn_times.specs.Dates.{Dates, Tree}
+use Rattle.sn_times.proofs.DatesLemmas.{found}
+use Rattle.sn_times.proofs.times.Times.own.Goals as goal
+
+pub returns-in-Some : goal.returns-in-Some
+returns-in-Some c =
+    let inside = c.self.inside in
+    let home = c.args.number / 65536 in
+    c.get-in-Some.ensures
+    ∙ ap (λ (o : Option Tree). map.get (unwrap_or o map.empty) (c.args.number % 65536)) (c.in-Some.ensures.value ∙ found inside.base inside.trees.entries home ∙ ap (λ (d : Dates). map.get d.trees home) c.self.view_is)
+
+pub returns-in-None : goal.returns-in-None
+returns-in-None c =
+    let inside = c.self.inside in
+    let home = c.args.number / 65536 in
+    sym (map.get-empty nat_cmp (c.args.number % 65536))
+    ∙ ap (λ (o : Option Tree). map.get (unwrap_or o map.empty) (c.args.number % 65536)) (c.in-None.ensures.value ∙ found inside.base inside.trees.entries home ∙ ap (λ (d : Dates). map.get d.trees home) c.self.view_is)

@@ -1,0 +1,4 @@
+pub mod Checksums
+pub mod Entries
+pub mod Left
+pub mod Spelled

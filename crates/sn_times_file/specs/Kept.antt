@@ -1,0 +1,71 @@
+-- What a file of times says, and its one spelling.
+use Rattle.std.specs.Prelude.{ℕ, ◌^◌, ◌<◌, ◌≤◌, List, ◌∷◌, ◌++◌, length, codes}
+use Rattle.std.specs.List.{AllByRecursion, flat_map}
+use Rattle.std.specs.FinMap as map
+use Rattle.sha2.specs.Sha256.{sha256}
+use Rattle.sn_bytes.specs.Bytes.{number_bytes}
+use Rattle.sn_fuse.specs.declared.operation.Time.{Time}
+use Rattle.sn_times.specs.declared.stamps.Stamps.{Stamps}
+use Rattle.sn_times.specs.Dates.{Tree}
+
+-- the times of a tree's objects, under the name of the tree
+pub record Named : Type 0 where
+  pub name : List ℕ
+  pub tree : Tree
+
+-- the root with which the times count, the time of each object that has none of its own, and the trees with those that have
+pub record Kept : Type 0 where
+  pub root : List ℕ
+  pub base : Time
+  pub sections : List Named
+
+-- ---- what can be kept
+
+abbrev pub IsTime : Time → Type 0
+IsTime time = (time.seconds < 2 ^ 64) × (time.nanoseconds < 1000000000)
+
+-- a number in a tree, and the times of its object
+abbrev pub IsEntry : ℕ × Stamps → Type 0
+IsEntry entry = (entry.0 < 65536) × IsTime entry.1.accessed × IsTime entry.1.modified × IsTime entry.1.changed
+
+abbrev pub IsTree : Tree → Type 0
+IsTree tree = AllByRecursion IsEntry (map.entries tree)
+
+abbrev pub IsNamed : Named → Type 0
+IsNamed named = (length named.name ≤ 255) × (map.len named.tree < 2 ^ 64) × IsTree named.tree
+
+abbrev pub IsKept : Kept → Type 0
+IsKept kept = (length kept.root ≤ 4096) × IsTime kept.base × AllByRecursion IsNamed kept.sections
+
+-- ---- spellings
+
+abbrev pub time_bytes : Time → List ℕ
+time_bytes time = number_bytes 8 time.seconds ++ number_bytes 4 time.nanoseconds
+
+abbrev pub entry_bytes : ℕ × Stamps → List ℕ
+entry_bytes entry = number_bytes 2 entry.0 ++ time_bytes entry.1.accessed ++ time_bytes entry.1.modified ++ time_bytes entry.1.changed
+
+abbrev pub tree_bytes : Tree → List ℕ
+tree_bytes tree = number_bytes 8 (map.len tree) ++ flat_map entry_bytes (map.entries tree)
+
+abbrev pub named_bytes : Named → List ℕ
+named_bytes named = (length named.name ∷ named.name) ++ tree_bytes named.tree
+
+-- the magic, version 1, and the root
+abbrev pub head_bytes : List ℕ → List ℕ
+head_bytes root = codes "snaptime" ++ number_bytes 4 1 ++ number_bytes 4 (length root)
+
+abbrev pub front_bytes : List ℕ → Time → List ℕ
+front_bytes root base = head_bytes root ++ root ++ time_bytes base
+
+abbrev pub body_bytes : Kept → List ℕ
+body_bytes kept = front_bytes kept.root kept.base ++ flat_map named_bytes kept.sections
+
+unfoldable pub checksum : List ℕ → List ℕ
+checksum bytes = sha256 bytes
+
+abbrev pub sealed : List ℕ → List ℕ
+sealed bytes = bytes ++ checksum bytes
+
+abbrev pub spelling : Kept → List ℕ
+spelling kept = sealed (body_bytes kept)
