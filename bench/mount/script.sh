@@ -136,7 +136,7 @@ fi
 # ---- The manual page has each line that the script tells of mounts
 lines_are_told() {
     mandoc -Tascii -Owidth=1000 "$top/docs/snapfs.8" 2>/dev/null | col -b | tr -s ' \t' '  ' >"$work/manual"
-    sed -n '/^# ---- Mounts/,/^if \[/s/.*fail "\([^"]*\)".*/\1/p' "$top/snapfs" | grep -v '[$](' |
+    sed -n '/^# ---- Mounts/,/^is_of_mount/s/.*fail "\([^"]*\)".*/\1/p' "$top/snapfs" | grep -v '[$](' |
         awk '{ n = split($0, piece, /\$[A-Za-z0-9_]+|: .*/); best = ""; for (i = 1; i <= n; i++) if (length(piece[i]) > length(best)) best = piece[i]; print best }' |
         while IFS= read -r line; do
             grep -qF -- "$line" "$work/manual" || { echo "not in the manual: $line" && exit 1; }
@@ -191,6 +191,29 @@ holds "its program told why" [ "$(cat "$work/told")" = "snapfs: stopped" ]
 holds "all that was made is there" has_all_that_was_made
 case_of "it is unmounted" 0 "" "$snapfs" unmount "$odd"
 case_of "and sound" 0 "clean" sh -c "'$snapfs' check '$work/full/disk.img' | sed 's/ .*//'"
+
+# ---- By a line of fstab(5), for which mount(8) calls the script as mount.snapfs
+line=$work/mount.snapfs
+ln -s "$snapfs" "$line"
+case_of "it is mounted by a line" 0 "" "$line" "$disk" "$odd" -v -o rw,nofail,runas=root
+holds "as by the command" has_options "$odd" rw nosuid nodev relatime allow_other
+case_of "and written" 0 "" sh -c "echo line >'$odd/line'"
+case_of "it is mounted twice" 1 "snapfs: $disk is mounted at $odd" "$line" "$disk" "$odd" -o rw
+case_of "it is unmounted" 0 "" "$snapfs" unmount "$odd"
+case_of "for reading alone, Linux checks" 0 "" "$line" "$disk" "$odd" -o "ro,kernel" -o "noatime,noexec"
+holds "by these options" has_options "$odd" ro noatime noexec nosuid nodev default_permissions
+case_of "a change is refused" 2 "sh: 1: cannot create $odd/line: Read-only file system" sh -c "echo more >'$odd/line'"
+case_of "what was written is read" 0 line cat "$odd/line"
+case_of "it is unmounted again" 0 "" "$snapfs" unmount "$odd"
+case_of "nothing is mounted where only the words are tried" 0 "" "$line" "$disk" "$odd" -f -o rw
+holds "and nothing is" is_not_mounted "$odd"
+case_of "an option that isn't known" 1 "snapfs: umask=022 is no option of a mount" "$line" "$disk" "$odd" -o rw,umask=022
+holds "leaves no mount" is_not_mounted "$odd"
+case_of "it is passed over where who asks says so" 0 "" "$line" "$disk" "$odd" -s -o rw,umask=022
+case_of "it is unmounted" 0 "" "$snapfs" unmount "$odd"
+case_of "a user who isn't there" 1 "snapfs: there is no user nobody-of-this-name" "$line" "$disk" "$odd" -o runas=nobody-of-this-name
+case_of "a word too few" 2 "$USAGE" "$line" "$disk"
+case_of "a word is a path, whatever it is called" 1 "snapfs: unmount is no regular file" "$line" unmount "$odd"
 
 # ---- As long as a command runs
 case_of "a command's status" 7 hello "$snapfs" mount "$disk" "$odd" -- sh -c "cat '$odd/f'; exit 7"

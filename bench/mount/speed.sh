@@ -4,14 +4,16 @@
 #     bench/mount/speed.sh [PROGRAM]
 #
 # Run by hand on a quiet machine, as root where there is /dev/fuse; it wants git, rsync and fio, and for what is beside it mkfs.ext4, fuse2fs and a
-# loop device. A line for each: seconds on the mount, and how many times those of the others, where they are there. Names on fuse2fs and ext4 aren't
-# durable when a call returns, and here each is.
+# loop device. Each is done ROUNDS (7) times on each side in turn, since syncs take three times as long in one second as in the next. A line for each:
+# seconds on the mount, and how many times those of the others, where they are there, by the middle of the rounds; the least and the most of
+# these ratios, round by round, stand in brackets. Names on fuse2fs and ext4 aren't durable when a call returns, and here each is.
 # (its functions are called by the words of a measurement)
 # shellcheck disable=SC2317
 # shellcheck source-path=SCRIPTDIR source=shared.sh
 . "$(dirname "$0")/shared.sh"
 export HOME=$work GIT_CONFIG_GLOBAL=/dev/null GIT_CONFIG_NOSYSTEM=1
-BLOCKS=32768
+BLOCKS=65536
+ROUNDS=${ROUNDS:-7}
 files=$work/files
 
 make_files() {
@@ -25,9 +27,9 @@ make_files() {
     mkdir "$work/half" && cp -r "$files"/d? "$work/half/"
 }
 
-# Each leaves what it makes below its first word.
+# Each leaves what it makes below its first word, which is removed after all five of a round.
 tar_in() { mkdir "$1/tar" && tar -C "$1/tar" -xf "$work/files.tar"; }
-tar_out() { tar -C "$1/tar" -cf /dev/null .; }
+tar_out() { tar -C "$1/tar" -cf - . | cat >/dev/null; }
 git_in() { cp -r "$work/half" "$1/git" && cd "$1/git" && git init -q . && git config user.email a@b && git config user.name a && git add . && git commit -qm one; }
 rsync_in() { rsync -r "$work/half/" "$1/rsync/"; }
 fio_in() { fio --name=one --filename="$1/fio" --size=4m --bs=16k --rw=randrw --verify=crc32c --do_verify=1 --verify_state_save=0 --randseed=1 --minimal; }
@@ -51,13 +53,15 @@ if command -v mkfs.ext4 >/dev/null; then
     truncate -s $((BLOCKS * 4096)) "$work/ext4.img" && mkfs.ext4 -q "$work/ext4.img" && mkdir "$work/ext4"
     mount -o loop "$work/ext4.img" "$work/ext4" && sides="$sides $work/ext4"
 fi
-for it in tar_in tar_out git_in rsync_in fio_in; do
+for round in $(seq "$ROUNDS"); do
+    for it in tar_in tar_out git_in rsync_in fio_in; do
+        for side in $sides; do
+            echo "$round ${it/_/ } ${side##*/} $(times "$it" "$side")"
+        done
+    done
     for side in $sides; do
-        echo "${side##*/} $(times "$it" "$side")"
-    done | awk -v "name=${it%_*} ${it#*_}" '
-        NR == 1 { own = $2; line = sprintf("%s: %.2f s", name, own / 1000) }
-        NR > 1 && $2 { line = line sprintf(", %.1f times %s", own / $2, $1) }
-        END { print line }'
-done
+        rm -rf "${side:?}"/{tar,git,rsync,fio}
+    done
+done | python3 "$here/speed.py"
 "$snapfs" unmount "$dir"
 "$snapfs" check "$image"
