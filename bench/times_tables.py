@@ -10,7 +10,9 @@ reading here has to give them too. A case is a list of steps with a space betwee
     dated:NOW:NUMBER:ACCESSED:MODIFIED    -, where a time that isn't set is -
     frozen:NOW:HOME, thawed:NOW:HOME      -
     times:NUMBER      access, modification and change time
-    file:ROOT         the bytes that keep the times, in hexadecimal, or unwritable. A home's name is its number, and the live tree's is empty
+    file:ROOT         the bytes that keep all trees, in hexadecimal, or unwritable. A home's name is its number, and the live tree's is empty
+    left:ROOT         - or unwritable: the mount ends well, and leaves its times with this root
+    mount:NOW:ROOT    - : the next mount, of this root, takes what was left. After a left it comes at once; else the mount before it was killed
 
 A time is SECONDS or SECONDS/NANOSECONDS. A case of files.txt is bytes in hexadecimal, and its answer what they say, or misspelt.
 """
@@ -44,13 +46,13 @@ def time_bytes(time):
     return struct.pack("<QI", *time)
 
 
-def section_bytes(name, tree):
-    entries = b"".join(struct.pack("<H", number) + b"".join(map(time_bytes, tree[number])) for number in tree)
-    return bytes([len(name)]) + name + struct.pack("<Q", len(tree)) + entries
+def section_bytes(name, base, own):
+    entries = b"".join(struct.pack("<H", number) + b"".join(map(time_bytes, own[number])) for number in own)
+    return bytes([len(name)]) + name + time_bytes(base) + struct.pack("<Q", len(own)) + entries
 
 
-def front_bytes(root, base, magic=b"snaptime", version=1, size=None):
-    return magic + struct.pack("<II", version, len(root) if size is None else size) + root + time_bytes(base)
+def front_bytes(root, magic=b"snaptime", version=2, size=None):
+    return magic + struct.pack("<II", version, len(root) if size is None else size) + root
 
 
 def sealed(body):
@@ -58,26 +60,46 @@ def sealed(body):
 
 
 class Times:
-    """Times by number, each of which is looked up or copied as it stands."""
+    """The times of each tree of which some are kept, by its home: that of all objects without times of their own, and these by number."""
 
     def __init__(self):
-        self.base, self.own = (1, 0), {}
-
-    def of(self, number):
-        return self.own.get(number, (self.base,) * 3)
+        self.mounted, self.trees, self.left = (1, 0), {}, None
 
     def tree(self, home):
-        return {n % NUMBERS: self.own[n] for n in sorted(self.own) if n // NUMBERS == home}
+        return self.trees.get(home, (self.mounted, {}))
 
-    def thaw(self, home):
-        self.own = {n: stamps for n, stamps in self.own.items() if n // NUMBERS != home}
+    def of(self, number):
+        base, own = self.tree(number // NUMBERS)
+        return own.get(number % NUMBERS, (base,) * 3)
+
+    def set(self, number, *stamps):
+        base, own = self.tree(number // NUMBERS)
+        self.trees[number // NUMBERS] = base, dict(sorted({**own, number % NUMBERS: stamps}.items()))
+
+    def freeze(self, home):
+        if 0 in self.trees:
+            self.trees[home] = self.trees[0]
+        else:
+            self.trees.pop(home, None)
 
     def file(self, root):
-        if not all(is_time(time) for stamps in self.own.values() for time in stamps):
+        if not all(map(is_writable, self.trees.values())):
             return "unwritable"
-        homes = sorted({n // NUMBERS for n in self.own})
-        sections = (section_bytes(str(home).encode() if home else b"", self.tree(home)) for home in homes)
-        return sealed(front_bytes(root.encode(), self.base) + b"".join(sections)).hex()
+        sections = (section_bytes(str(home).encode() if home else b"", *self.trees[home]) for home in sorted(self.trees))
+        return sealed(front_bytes(root.encode()) + b"".join(sections)).hex()
+
+    def leave(self, root):
+        if not is_writable(self.tree(0)):
+            return "unwritable"
+        self.left = root, self.tree(0)
+        return "-"
+
+    def mount(self, now, root):
+        self.mounted, self.trees = now, {}
+        if self.left and self.left[0] == root:
+            self.trees[0] = self.left[1]
+        self.left = None
+        return "-"
 
     def step(self, text):
         verb, *words = text.split(":")
@@ -85,24 +107,31 @@ class Times:
             return shown(self.of(int(words[0])))
         if verb == "file":
             return self.file(words[0])
+        if verb == "left":
+            return self.leave(words[0])
+        if verb == "mount":
+            return self.mount(time_of(words[0]), words[1])
         now, number = time_of(words[0]), int(words[1])
         accessed, modified, _ = self.of(number)
         if verb == "made":
-            self.own[number] = (now, now, now)
+            self.set(number, now, now, now)
         elif verb == "modified":
-            self.own[number] = (accessed, now, now)
+            self.set(number, accessed, now, now)
         elif verb == "changed":
-            self.own[number] = (accessed, modified, now)
+            self.set(number, accessed, modified, now)
         elif verb == "dated":
             given = [time if word == "-" else time_of(word) for word, time in zip(words[2:], (accessed, modified))]
-            self.own[number] = (*given, now)
+            self.set(number, *given, now)
         elif verb == "frozen":
-            live = self.tree(0)
-            self.thaw(number)
-            self.own.update({number * NUMBERS + n: stamps for n, stamps in live.items()})
+            self.freeze(number)
         elif number:
-            self.thaw(number)
+            self.trees.pop(number, None)
         return "-"
+
+
+def is_writable(tree):
+    base, own = tree
+    return all(map(is_time, (base, *(time for stamps in own.values() for time in stamps))))
 
 
 def told(case):
@@ -139,6 +168,31 @@ made:2:65535 frozen:3:1 times:131071 => - - 2/0,2/0,2/0
 made:2:5 frozen:3:18446744073709551615 times:5 thawed:4:18446744073709551615 times:5 => - - 2/0,2/0,2/0 - 2/0,2/0,2/0
 made:2:18446744073709551615 times:18446744073709551615 frozen:3:281474976710655 times:18446744073709551615 => - 2/0,2/0,2/0 - 1/0,1/0,1/0
 
+# What was never changed keeps its time from one mount to the next.
+left:r mount:9:r times:5 left:r mount:20:r times:5 => - - 1/0,1/0,1/0 - - 1/0,1/0,1/0
+made:2:5 left:r mount:9:r modified:10:5 times:5 times:6 left:r mount:20:r times:5 times:6 => - - - - 2/0,10/0,10/0 1/0,1/0,1/0 - - 2/0,10/0,10/0 1/0,1/0,1/0
+changed:2:6 left:r mount:9:r changed:10:7 times:6 times:7 times:8 => - - - - 1/0,1/0,2/0 1/0,1/0,10/0 1/0,1/0,1/0
+
+# After a mount that was killed all is of the next one, once: it stays so at each mount behind a clean end.
+made:2:5 mount:9:r times:5 times:6 left:r mount:20:r times:5 times:6 left:r mount:30:r times:5 times:6 => - - 9/0,9/0,9/0 9/0,9/0,9/0 - - 9/0,9/0,9/0 9/0,9/0,9/0 - - 9/0,9/0,9/0 9/0,9/0,9/0
+made:2:5 left:r mount:9:r mount:20:r times:5 left:r mount:30:r times:5 => - - - - 20/0,20/0,20/0 - - 20/0,20/0,20/0
+
+# What was left with another root counts for nothing, then and later.
+made:2:5 left:r mount:9:s times:5 times:6 => - - - 9/0,9/0,9/0 9/0,9/0,9/0
+made:2:5 left:r mount:9:rr mount:20:r times:5 => - - - - 20/0,20/0,20/0
+made:2:5 left: mount:9:r times:5 left: mount:20: times:5 => - - - 9/0,9/0,9/0 - - 9/0,9/0,9/0
+
+# A snapshot has the base of the live tree where it is made in the mount, else that of the mount.
+made:2:5 left:r mount:9:r frozen:10:2 modified:11:5 times:131077 times:131078 times:196613 => - - - - - 2/0,2/0,2/0 1/0,1/0,1/0 9/0,9/0,9/0
+made:2:5 frozen:3:2 left:r mount:9:r times:131077 times:5 => - - - - 9/0,9/0,9/0 2/0,2/0,2/0
+left:r mount:9:r frozen:10:2 thawed:11:2 times:131077 changed:12:131078 times:131078 => - - - - 9/0,9/0,9/0 - 9/0,9/0,12/0
+made:2:5 left:r mount:9:s frozen:10:2 times:131077 times:5 => - - - - 9/0,9/0,9/0 9/0,9/0,9/0
+
+# Nothing is left where a time can't be kept, and then all is of the next mount.
+dated:2:5:1/1000000000:- left:r mount:9:r times:5 => - unwritable - 9/0,9/0,9/0
+mount:9/1000000000:r left:r made:10:5 times:6 left:r => - unwritable - 9/1000000000,9/1000000000,9/1000000000 unwritable
+dated:2:131077:1/1000000000:- left:r mount:9:r times:6 => - - - 1/0,1/0,1/0
+
 # A time that no system sets can't be kept.
 dated:2:5:1/1000000000:- times:5 file:r made:3:5 times:5 => - 1/1000000000,1/0,2/0 unwritable - 3/0,3/0,3/0
 """
@@ -152,11 +206,14 @@ def drawn(r):
         now = f"{clock}/{r.choice((0, 1, 999999999))}"
         home = r.choice(homes)
         number = home * NUMBERS + r.choice((1, 2, 3, 4, 65535))
-        verb = r.choice(("made", "modified", "modified", "changed", "dated", "frozen", "thawed", "times", "times", "times", "file"))
+        verb = r.choice(("made", "modified", "modified", "changed", "dated", "frozen", "thawed", "times", "times", "times", "file", "left", "mount"))
         if verb == "times":
             steps.append(f"times:{number}")
         elif verb == "file":
             steps.append(f"file:{r.choice(('', 'r', 'root'))}")
+        elif verb in ("left", "mount"):
+            root = r.choice("rrrs")
+            steps += ([f"left:{root}"] if verb == "left" else []) + [f"mount:{now}:{r.choice((root, root, 's'))}"]
         elif verb == "dated":
             given = (r.choice(("-", str(r.randint(0, 90)), f"{2**64 - 1}/5")) for _ in range(2))
             steps.append(f"dated:{now}:{number}:{':'.join(given)}")
@@ -173,23 +230,24 @@ def drawn(r):
 def read(data):
     """What bytes say, by the layout of the head of the crate."""
     body, sum_of = data[:-32], data[-32:]
-    if len(data) < 32 or hashlib.sha256(body).digest() != sum_of or body[:12] != b"snaptime\x01\x00\x00\x00" or len(body) < 16:
+    if len(data) < 32 or hashlib.sha256(body).digest() != sum_of or body[:12] != b"snaptime\x02\x00\x00\x00" or len(body) < 16:
         return "misspelt"
     size = struct.unpack("<I", body[12:16])[0]
     root, rest = body[16 : 16 + size], body[16 + size :]
-    if size > 4096 or len(root) < size or len(rest) < 12:
+    if size > 4096 or len(root) < size:
         return "misspelt"
-    base, rest = struct.unpack("<QI", rest[:12]), rest[12:]
-    words = [f"root={root.hex()}", f"{base[0]}/{base[1]}"]
-    good = is_time(base)
+    words = [f"root={root.hex()}"]
+    good = True
     while rest:
         name, rest = rest[1 : 1 + rest[0]], rest[1 + rest[0] :] if len(rest) > rest[0] else None
-        if rest is None or len(rest) < 8:
+        if rest is None or len(rest) < 20:
             return "misspelt"
+        base, rest = struct.unpack("<QI", rest[:12]), rest[12:]
+        good = good and is_time(base)
         count, rest = struct.unpack("<Q", rest[:8])[0], rest[8:]
         if len(rest) < 38 * count:
             return "misspelt"
-        words.append(f"name={name.hex()}")
+        words += [f"name={name.hex()}", f"{base[0]}/{base[1]}"]
         last = -1
         for at in range(0, 38 * count, 38):
             number, *parts = struct.unpack("<HQIQIQI", rest[at : at + 38])
@@ -204,49 +262,52 @@ def read(data):
 def files():
     one = {5: ((2, 0), (3, 999999999), (4, 1))}
     two = {0: ((1, 0),) * 3, 65535: ((2**64 - 1, 5),) * 3}
-    front = front_bytes(b"root", (1, 7))
+    base = (1, 7)
+    front = front_bytes(b"root")
     yield "What is kept: nothing, a section, several, and two of one name.", [
-        sealed(front_bytes(b"", (0, 0))),
+        sealed(front_bytes(b"")),
         sealed(front),
-        sealed(front + section_bytes(b"", one)),
-        sealed(front + section_bytes(b"", one) + section_bytes(b"first", two) + section_bytes(b"s" * 255, {})),
-        sealed(front + section_bytes(b"a", one) + section_bytes(b"a", two)),
-        sealed(front_bytes(b"r" * 4096, (1, 0))),
+        sealed(front + section_bytes(b"", base, one)),
+        sealed(front + section_bytes(b"", base, one) + section_bytes(b"first", (2**64 - 1, 0), two) + section_bytes(b"s" * 255, (0, 0), {})),
+        sealed(front + section_bytes(b"a", base, one) + section_bytes(b"a", base, two)),
+        sealed(front_bytes(b"r" * 4096)),
     ]
-    whole = sealed(front + section_bytes(b"a", two))
+    whole = sealed(front + section_bytes(b"a", base, two))
     yield "Bytes that were cut, and each byte changed.", [
         *(whole[:n] for n in range(0, len(whole), 7)),
         *(whole[:n] + bytes([whole[n] ^ 1]) + whole[n + 1 :] for n in range(0, len(whole), 5)),
         whole + b"\x00",
     ]
     yield "Another magic, version or size of the root, under a right checksum.", [
-        sealed(front_bytes(b"root", (1, 7), magic=b"snaptimf")),
-        sealed(front_bytes(b"root", (1, 7), version=0)),
-        sealed(front_bytes(b"root", (1, 7), version=2)),
-        sealed(front_bytes(b"root", (1, 7), size=3)),
-        sealed(front_bytes(b"root", (1, 7), size=5)),
-        sealed(front_bytes(b"root", (1, 7), size=2**32 - 1)),
-        sealed(front_bytes(b"r" * 4097, (1, 0))),
+        sealed(front_bytes(b"root", magic=b"snaptimf")),
+        sealed(front_bytes(b"root", version=0)),
+        sealed(front_bytes(b"root", version=1) + time_bytes(base)),
+        sealed(front_bytes(b"root", version=3)),
+        sealed(front_bytes(b"root", size=3)),
+        sealed(front_bytes(b"root", size=5)),
+        sealed(front_bytes(b"root", size=2**32 - 1)),
+        sealed(front_bytes(b"r" * 4097)),
         sealed(front[:-1]),
         sealed(b""),
         sealed(b"snaptime"),
     ]
     late = ((1, 10**9), (1, 0), (1, 0))
     yield "Times with as many nanoseconds as a second.", [
-        sealed(front_bytes(b"root", (1, 10**9))),
-        *(sealed(front + section_bytes(b"", {5: late[k:] + late[:k]})) for k in range(3)),
+        sealed(front + section_bytes(b"", (1, 10**9), {})),
+        *(sealed(front + section_bytes(b"", base, {5: late[k:] + late[:k]})) for k in range(3)),
     ]
     swapped = {9: one[5], 5: one[5]}
-    entry = section_bytes(b"", one)
+    entry = section_bytes(b"", base, one)
     yield "Numbers that fall or stand twice, and counts that aren't those of the entries.", [
-        sealed(front + section_bytes(b"", swapped)),
-        sealed(front + entry[:1] + struct.pack("<Q", 2) + entry[9:] * 2),
-        sealed(front + entry[:1] + struct.pack("<Q", 2) + entry[9:]),
-        sealed(front + entry[:1] + struct.pack("<Q", 0) + entry[9:]),
-        sealed(front + entry[:1] + struct.pack("<Q", 2**64 - 1) + entry[9:]),
+        sealed(front + section_bytes(b"", base, swapped)),
+        sealed(front + entry[:13] + struct.pack("<Q", 2) + entry[21:] * 2),
+        sealed(front + entry[:13] + struct.pack("<Q", 2) + entry[21:]),
+        sealed(front + entry[:13] + struct.pack("<Q", 0) + entry[21:]),
+        sealed(front + entry[:13] + struct.pack("<Q", 2**64 - 1) + entry[21:]),
         sealed(front + entry + b"\x00"),
         sealed(front + entry + b"\x05name"),
         sealed(front + entry[:-1]),
+        sealed(front + entry[:12]),
     ]
 
 

@@ -1,5 +1,5 @@
 #!/bin/bash
-# Tries what times files have after an unmount and a mount: those that they had, or the mount's.
+# Tries what times files have after an unmount and a mount: those that they had, or, where a mount finds none, the mount's, which they keep.
 #
 #     bench/mount/times.sh [PROGRAM]
 #
@@ -91,7 +91,17 @@ case_of "its mount goes" 0 "" unmounts
 holds "and leaves no times" [ ! -e "$times" ]
 case_of "it is mounted after that" 0 "" mounts
 holds "the file has the time of the mount" is_of_mount "$dir/f" "$begun"
+after_kill=$(stat -c '%.9X %.9Y %.9Z' "$dir/f")
+holds "another file changes" sh -c "echo other >'$dir/other'"
 case_of "unmounted" 0 "" unmounts
+sleep 1
+case_of "mounted" 0 "" mounts
+case_of "the file keeps the time of the mount before" 0 "$after_kill" stat -c '%.9X %.9Y %.9Z' "$dir/f"
+case_of "unmounted again" 0 "" unmounts
+sleep 1
+case_of "mounted again" 0 "" mounts
+case_of "it keeps it once more" 0 "$after_kill" stat -c '%.9X %.9Y %.9Z' "$dir/f"
+case_of "and unmounted once more" 0 "" unmounts
 
 holds "an old time is left" leaves_old
 printf '0 login 0 0 -\n0 mkdir /made 0755\n' >"$work/script"

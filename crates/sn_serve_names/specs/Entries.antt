@@ -20,7 +20,7 @@ use Rattle.sn_plan.specs.Replies.{status}
 use Rattle.sn_serve_names.specs.Names.{NamedPath}
 use Rattle.sn_walk.specs.declared.view.Attributes.{Attributes as Seen}
 
--- no time is kept yet
+-- the file system has no times: those that are kept are put in when it is answered
 abbrev pub no_time : Time
 no_time = record { seconds = 0; nanoseconds = 0 }
 

@@ -16,7 +16,7 @@ const SET_GID: u32 = 1024;
 
 const STICKY: u32 = 512;
 
-/// No time is kept.
+/// The time 0, of what may not be held, and of an object until the answer puts in those that are kept (`sn_serve`).
 pub const NO_TIME: Time = Time {
     seconds: 0,
     nanoseconds: 0,
@@ -47,7 +47,8 @@ fn mode_bits(status: &FileStatus) -> u32
     kind_bits(status.kind) + set_gid + sticky + u32::from(status.mode.bits())
 }
 
-/// The attributes of an object with this number, as the mount shows it. Times are not kept, and are 0.
+/// The attributes of an object with this number, as the mount shows it. Times are 0: the file system has none, and who answers
+/// puts in those that are kept (`sn_serve`).
 pub fn attributes_of(number: u64, status: &FileStatus) -> Attributes
     ensures { result ≡ entries.attributes_of number status.now }
 {

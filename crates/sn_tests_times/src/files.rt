@@ -17,19 +17,21 @@ pub fn read(alloc: Global, case: Case<'_>) -> Result<String> {
     }
 }
 
-/// The root, the base, and of each section its name and its objects. Names and the root are in hexadecimal.
+/// The root, and of each section its name, its base and its objects. Names and the root are in hexadecimal.
 fn told(alloc: Global, saved: Saved) -> Result<String> {
-    let (root, base) = (
-        digits_of(alloc, saved.root())?,
-        time_text(alloc, saved.base())?,
-    );
-    let mut text = format!(in alloc; "root={root} {base}")?;
+    let root = digits_of(alloc, saved.root())?;
+    let mut text = format!(in alloc; "root={root}")?;
     for section in saved.into_sections() {
         let name = digits_of(alloc, section.name())?;
         write!(text, " name={name}")?;
-        push_objects(alloc, &mut text, &section.into_tree())?;
+        push_tree(alloc, &mut text, &section.into_tree())?;
     }
     Ok(text)
+}
+
+fn push_tree(alloc: Global, text: &mut String, tree: &TreeTimes) -> Result<()> {
+    push_word(text, time_text(alloc, tree.base())?.as_str())?;
+    push_objects(alloc, text, tree)
 }
 
 fn push_objects(alloc: Global, text: &mut String, tree: &TreeTimes) -> Result<()> {

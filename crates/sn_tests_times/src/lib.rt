@@ -1,4 +1,4 @@
-//! Cases of the times of objects: what a table of times says after lists of marks, and which bytes keep it for the next mount.
+//! Cases of the times of objects: what a table of times says after lists of marks, which bytes keep it for the next mount, and what that one makes of them.
 //!
 //! The tables are in the data of `sn_tests_messages`: `bench/times_tables.py` makes them, with Python's `struct` and `hashlib`, and says what the
 //! steps are.
@@ -13,9 +13,8 @@ mod words;
 use anyhow::Result;
 use sn_fuse::Time;
 use sn_testing_tables::{Case, Report, push_word};
-use sn_times::Times;
 use std::alloc::Global;
-use steps::Step;
+use steps::{Session, Step};
 
 /// Compares the answers of all cases with their tables, with a line for each table. An error is a case, or a table, that can't
 /// be read, or a want of memory.
@@ -25,16 +24,16 @@ pub fn run(report: &mut Report<'_>) -> Result<()> {
     report.table("times/files.txt", files::read)
 }
 
-/// The answer to each step of a case, over a table in which all is of the second 1.
+/// The answer to each step of a case, from a mount on in which all is of the second 1.
 fn answers(alloc: Global, case: Case<'_>) -> Result<String> {
     let base = Time {
         seconds: 1,
         nanoseconds: 0,
     };
-    let mut times = Times::new(alloc, base);
+    let mut session = Session::new(alloc, base);
     let mut text = String::new(alloc);
     for word in case.text().split_ascii_whitespace() {
-        let answer = Step::new(alloc, word).answer(&mut times)?;
+        let answer = Step::new(alloc, word).answer(&mut session)?;
         push_word(&mut text, answer.as_str())?;
     }
     Ok(text)

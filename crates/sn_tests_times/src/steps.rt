@@ -1,11 +1,12 @@
 //! One step of a case.
+ghost use Rattle.std.specs.Prelude.{◌≤◌, length, IfOk};
 
 use crate::words::{stamps_text, time_of};
 use anyhow::{Context, Result, bail, ensure};
 use hex::encode as digits_of;
 use sn_fuse::Time;
 use sn_times::{Mark, Times};
-use sn_times_file::Writer;
+use sn_times_file::{Unwritable, Writer, keep, restore};
 use std::alloc::Global;
 
 /// Bytes of a root, at most.
@@ -13,6 +14,23 @@ const ROOT_MAX: usize = 4_096;
 
 /// Bytes of a name, at most.
 const NAME_MAX: usize = 255;
+
+/// The times of a mount, and the file that an earlier one left.
+#[derive(Drop)]
+pub struct Session {
+    times: Times,
+    file: Vec<u8>,
+}
+
+impl Session {
+    /// A mount at a moment, before which none left a file.
+    pub fn new(alloc: Global, now: Time) -> Session {
+        Session {
+            times: Times::new(alloc, now),
+            file: Vec::new(alloc),
+        }
+    }
+}
 
 /// A verb and its words, with a colon between two.
 #[derive(Clone, Copy)]
@@ -28,12 +46,14 @@ impl<'a> Step<'a> {
     }
 
     /// Makes the step. An error is a step that can't be read, or a want of memory.
-    pub fn answer(self, times: &mut Times) -> Result<String> {
+    pub fn answer(self, session: &mut Session) -> Result<String> {
         match self.word(0)? {
-            "times" => stamps_text(self.alloc, times.stamps(self.number(1)?)),
-            "file" => self.file(times),
+            "times" => stamps_text(self.alloc, session.times.stamps(self.number(1)?)),
+            "file" => self.file(&session.times),
+            "left" => self.leave(session),
+            "mount" => self.mount(session),
             _ => {
-                times.mark(self.time(1)?, self.mark()?);
+                session.times.mark(self.time(1)?, self.mark()?);
                 self.told("-")
             }
         }
@@ -84,13 +104,35 @@ impl<'a> Step<'a> {
         })
     }
 
-    /// The bytes that keep the times, in hexadecimal. A home is a name in decimal, and the live tree's has none.
-    fn file(self, times: &Times) -> Result<String> {
-        let root = self.word(1)?.as_bytes();
+    fn root(self, at: usize) -> Result<&'a [u8]>
+        ensures { IfOk result (λ root. length root.now ≤ 4096) }
+    {
+        let root = self.word(at)?.as_bytes();
         ensure!(root.len() <= ROOT_MAX, "the root is too long");
-        let Ok(mut writer) = Writer::new(self.alloc, root, times.base()) else {
-            return self.told("unwritable");
-        };
+        Ok(root)
+    }
+
+    /// The mount ends well.
+    fn leave(self, session: &mut Session) -> Result<String> {
+        match keep(self.alloc, self.root(1)?, &session.times) {
+            Ok(bytes) => session.file = bytes,
+            Err(Unwritable::Time) => return self.told("unwritable"),
+            Err(Unwritable::Memory) => bail!("no memory for the file"),
+        }
+        self.told("-")
+    }
+
+    /// The next mount.
+    fn mount(self, session: &mut Session) -> Result<String> {
+        let (now, root) = (self.time(1)?, self.root(2)?);
+        session.times = restore(self.alloc, root, session.file.as_slice(), now)?;
+        session.file = Vec::new(self.alloc);
+        self.told("-")
+    }
+
+    /// The bytes that keep the times of all trees, in hexadecimal. A home is a name in decimal, and the live tree's has none.
+    fn file(self, times: &Times) -> Result<String> {
+        let mut writer = Writer::new(self.alloc, self.root(1)?)?;
         for (home, tree) in times.trees() {
             let name = self.name(*home)?;
             ensure!(name.len() <= NAME_MAX, "the name is too long");

@@ -2,6 +2,7 @@
 use Rattle.std.proofs.Common.{◌≡◌, ◌≢◌, ℕ, ◌==◌, ◌/◌, ◌%◌, Bool, true, false, cond, List, Option, None, Some, refl, sym, ap, ◌∙◌, arith}
 use Rattle.std.specs.Cmp.{nat_cmp_total, eq_by_cmp_equiv, unsigned_ties}
 use Rattle.std.specs.FinMap as map
+use Rattle.std.specs.Prelude.{Result, Ok, Err, OnErr}
 use Rattle.std.specs.Option.{unwrap_or}
 use Rattle.std.specs.BTreeMap.{is_at}
 use Rattle.std.specs.Map.{lookup}
@@ -14,7 +15,12 @@ use Rattle.sn_fuse.specs.declared.operation.Time.{Time}
 use Rattle.sn_times.specs.declared.stamps.Mark.{Mark}
 use Rattle.sn_times.specs.declared.stamps.Mark.TheVariants.{Frozen, Thawed}
 use Rattle.sn_times.specs.declared.stamps.Stamps.{Stamps}
-use Rattle.sn_times.specs.Dates.{Dates, IsExact, KeepsNone, Tree, all_at, frozen, marked, put, stamps_at, thawed, tree_of, with_tree}
+use Rattle.sn_times.specs.Dates.{Dates, IsExact, KeepsNone, Tree, all_at, bare, frozen, marked, put, put_in, stamps_at, stamps_in, thawed, tree_of, with_tree}
+
+-- what holds in any case holds after an error
+pub on_err : {T E P : Type 0} (r : Result T E) → P → OnErr r P
+on_err (Ok x) p = tt
+on_err (Err e) p = p
 
 unwrap_cond : {X : Type 0} (b : Bool) (x : X) (o : Option X) (d : X) → unwrap_or (cond b (Some x) o) d ≡ cond b x (unwrap_or o d)
 unwrap_cond true x o d = refl
@@ -47,40 +53,40 @@ get-put m k v d q = ap (λ o. unwrap_or o d) (map.get-insert nat_cmp_total m k v
 get-gone : {X : Type 0} (m : map.FinMap nat_cmp X) (k : ℕ) (d : X) (q : ℕ) → unwrap_or (map.get (map.remove m k) q) d ≡ cond (q == k) d (unwrap_or (map.get m q) d)
 get-gone m k d q = ap (λ o. unwrap_or o d) (map.get-remove nat_cmp_total m k q ∙ ap (λ b. cond b None (map.get m q)) (sym (unsigned_ties q k))) ∙ unwrap_gone (q == k) (map.get m q) d
 
--- an object's times in a tree
-stamps_in : Dates → Tree → ℕ → Stamps
-stamps_in d t m = unwrap_or (map.get t (m % 65536)) (all_at d.base)
+-- the times of an object of a tree
+seen_in : Tree → ℕ → Stamps
+seen_in t m = stamps_in t (m % 65536)
 
 -- an object that got times has them, and all others have theirs
 pub stamps-put : (d : Dates) (n : ℕ) (s : Stamps) (m : ℕ) → stamps_at (put d n s) m ≡ cond (m == n) s (stamps_at d m)
-unfolding stamps_in
-stamps-put d n s m = ap (λ t. stamps_in d t m) (get-put d.trees (n / 65536) tree map.empty (m / 65536)) ∙ told (m / 65536 == n / 65536) refl
+unfolding seen_in
+stamps-put d n s m = ap (λ t. seen_in t m) (get-put d.trees (n / 65536) tree (bare d.base) (m / 65536)) ∙ told (m / 65536 == n / 65536) refl
   where
     tree : Tree
-    tree = map.insert (tree_of d (n / 65536)) (n % 65536) s
+    tree = put_in (tree_of d (n / 65536)) (n % 65536) s
 
     there : (b : Bool) → m / 65536 ≡ n / 65536 → (m % 65536 == n % 65536) ≡ b → cond b s (stamps_at d m) ≡ cond (m == n) s (stamps_at d m)
     there true e f = let is : m % 65536 ≡ n % 65536 = equal _ _ f in ap (λ b. cond b s (stamps_at d m)) (sym (same m n (omega arith)))
     there false e f = ap (λ b. cond b s (stamps_at d m)) (sym (other m n (λ is. unequal _ _ f (ap (λ k. k % 65536) is))))
 
-    told : (b : Bool) → (m / 65536 == n / 65536) ≡ b → stamps_in d (cond b tree (tree_of d (m / 65536))) m ≡ cond (m == n) s (stamps_at d m)
+    told : (b : Bool) → (m / 65536 == n / 65536) ≡ b → seen_in (cond b tree (tree_of d (m / 65536))) m ≡ cond (m == n) s (stamps_at d m)
     told true e =
-        get-put (tree_of d (n / 65536)) (n % 65536) s (all_at d.base) (m % 65536)
-        ∙ ap (λ h. cond (m % 65536 == n % 65536) s (stamps_in d (tree_of d h) m)) (sym (equal _ _ e))
+        get-put (tree_of d (n / 65536)).own (n % 65536) s (all_at (tree_of d (n / 65536)).base) (m % 65536)
+        ∙ ap (λ h. cond (m % 65536 == n % 65536) s (seen_in (tree_of d h) m)) (sym (equal _ _ e))
         ∙ there (m % 65536 == n % 65536) (equal _ _ e) refl
     told false e = ap (λ b. cond b s (stamps_at d m)) (sym (other m n (λ is. unequal _ _ e (ap (λ k. k / 65536) is))))
 
 -- the objects of a home that got a tree have the times that it tells
-pub stamps-with_tree : (d : Dates) (home : ℕ) (tree : Option Tree) (m : ℕ) → stamps_at (with_tree d home tree) m ≡ cond (m / 65536 == home) (unwrap_or (map.get (unwrap_or tree map.empty) (m % 65536)) (all_at d.base)) (stamps_at d m)
-unfolding stamps_in
-stamps-with_tree d home None m = ap (λ t. stamps_in d t m) (get-gone d.trees home map.empty (m / 65536)) ∙ told (m / 65536 == home)
+pub stamps-with_tree : (d : Dates) (home : ℕ) (tree : Option Tree) (m : ℕ) → stamps_at (with_tree d home tree) m ≡ cond (m / 65536 == home) (stamps_in (unwrap_or tree (bare d.base)) (m % 65536)) (stamps_at d m)
+unfolding seen_in
+stamps-with_tree d home None m = ap (λ t. seen_in t m) (get-gone d.trees home (bare d.base) (m / 65536)) ∙ told (m / 65536 == home)
   where
-    told : (b : Bool) → stamps_in d (cond b map.empty (tree_of d (m / 65536))) m ≡ cond b (stamps_in d map.empty m) (stamps_at d m)
+    told : (b : Bool) → seen_in (cond b (bare d.base) (tree_of d (m / 65536))) m ≡ cond b (seen_in (bare d.base) m) (stamps_at d m)
     told true = refl
     told false = refl
-stamps-with_tree d home (Some tree) m = ap (λ t. stamps_in d t m) (get-put d.trees home tree map.empty (m / 65536)) ∙ told (m / 65536 == home)
+stamps-with_tree d home (Some tree) m = ap (λ t. seen_in t m) (get-put d.trees home tree (bare d.base) (m / 65536)) ∙ told (m / 65536 == home)
   where
-    told : (b : Bool) → stamps_in d (cond b tree (tree_of d (m / 65536))) m ≡ cond b (stamps_in d tree m) (stamps_at d m)
+    told : (b : Bool) → seen_in (cond b tree (tree_of d (m / 65536))) m ≡ cond b (seen_in tree m) (stamps_at d m)
     told true = refl
     told false = refl
 
@@ -132,12 +138,12 @@ exact-frozen now d new home e = record {
   base = ap (λ (x : Dates). x.base) e ∙ same_base d home (map.get d.trees 0);
 }
   where
-    live : (m : ℕ) → unwrap_or (map.get (tree_of d 0) (m % 65536)) (all_at d.base) ≡ stamps_at d (m % 65536)
+    live : (m : ℕ) → stamps_in (tree_of d 0) (m % 65536) ≡ stamps_at d (m % 65536)
     live m =
         let first : (m % 65536) / 65536 ≡ 0 = omega arith in
         let second : (m % 65536) % 65536 ≡ m % 65536 = omega arith in
-        ap (λ h. unwrap_or (map.get (tree_of d h) (m % 65536)) (all_at d.base)) (sym first)
-        ∙ ap (λ k. unwrap_or (map.get (tree_of d ((m % 65536) / 65536)) k) (all_at d.base)) (sym second)
+        ap (λ h. stamps_in (tree_of d h) (m % 65536)) (sym first)
+        ∙ ap (λ k. stamps_in (tree_of d ((m % 65536) / 65536)) k) (sym second)
 
 pub exact-thawed : (now : Time) (d new : Dates) (home : ℕ) → new ≡ thawed d home → IsExact (Thawed home) now d new
 exact-thawed now d new home e = record {

@@ -1,6 +1,7 @@
 //! The times of all objects of a mount.
-ghost use Rattle.std.specs.Prelude.{◌≡◌, Some, OnOk, OnErr};
+ghost use Rattle.std.specs.Prelude.{◌≡◌, ◌≢◌, None, Some, OnOk, OnErr};
 ghost use Rattle.std.specs.FinMap as map;
+ghost use Rattle.std.specs.Option.{option_copied};
 ghost use Rattle.sn_times.specs.Dates.{IsExact, IsMarked, KeepsNone, TakesMemory, all_forgotten, frozen, own_at, put, stamps_at, thawed, with_tree};
 
 use crate::stamps::{Mark, Stamps};
@@ -51,18 +52,25 @@ impl Times {
         }
     }
 
-    /// The time of each object that has none of its own.
+    /// The time of the objects of each tree of which nothing is kept.
     pub fn base(&self) -> Time
         ensures { result ≡ self.now.base }
     {
         self.base
     }
 
-    /// The homes in order, each with its objects' times: of those that have times of their own.
+    /// The homes of which times are kept in order, each with these.
     pub fn trees(&self) -> Iter<'_, u64, TreeTimes>
         ensures { result ≡ map.entries self.now.trees }
     {
         self.trees.iter()
+    }
+
+    /// What is kept of a home.
+    pub fn tree(&self, home: u64) -> Option<&TreeTimes>
+        ensures { option_copied result ≡ map.get self.now.trees home }
+    {
+        self.trees.get(&home)
     }
 
     /// Gives a home these times, in place of those that it has. Where memory for that is refused, nothing changes.
@@ -74,22 +82,12 @@ impl Times {
         Ok(())
     }
 
-    // The times that an object has of its own.
-    fn own(&self, number: u64) -> Option<Stamps>
-        ensures { result ≡ own_at self.now number }
-    {
-        match self.trees.get(&(number / NUMBERS)) {
-            Some(tree) => tree.get((number % NUMBERS) as u16),
-            None => None,
-        }
-    }
-
     /// The times of the object with this number.
     pub fn stamps(&self, number: u64) -> Stamps
         ensures { result ≡ stamps_at self.now number }
     {
-        match self.own(number) {
-            Some(stamps) => stamps,
+        match self.trees.get(&(number / NUMBERS)) {
+            Some(tree) => tree.stamps((number % NUMBERS) as u16),
             None => Stamps::at(self.base),
         }
     }
@@ -98,13 +96,14 @@ impl Times {
     fn put(&mut self, number: u64, stamps: Stamps) -> Result<(), AllocError>
         ensures ok { OnOk result (self.new ≡ put self.old number stamps) }
         ensures err { OnErr result (self.new ≡ self.old) }
+        ensures absent { OnErr result (own_at self.old number ≡ None) }
     {
         let home = number / NUMBERS;
         let place = (number % NUMBERS) as u16;
         match self.trees.get_mut(&home) {
             Some(tree) => tree.insert(place, stamps),
             None => {
-                let mut tree = TreeTimes::new(self.alloc);
+                let mut tree = TreeTimes::new(self.alloc, self.base);
                 tree.insert(place, stamps)?;
                 self.trees.insert(home, tree)?;
                 Ok(())
@@ -116,6 +115,7 @@ impl Times {
     fn freeze(&mut self, home: u64) -> Result<(), AllocError>
         ensures ok { OnOk result (self.new ≡ frozen self.old home) }
         ensures err { OnErr result (self.new ≡ self.old) }
+        ensures kept { OnErr result (map.get self.old.trees 0 ≢ None) }
     {
         match self.trees.get(&LIVE) {
             Some(live) => {
@@ -129,7 +129,7 @@ impl Times {
         Ok(())
     }
 
-    // The objects of a home have no times of their own any longer.
+    // Nothing is kept of a home any longer.
     fn thaw(&mut self, home: u64)
         ensures { self.new ≡ thawed self.old home }
     {
@@ -150,7 +150,7 @@ impl Times {
     fn try_mark(&mut self, now: Time, mark: Mark) -> Result<(), AllocError>
         ensures exact { OnOk result (IsExact mark now self.old self.new) }
         ensures gone { KeepsNone mark self.new }
-        ensures err { OnErr result (TakesMemory mark) }
+        ensures err { OnErr result (TakesMemory mark self.old) }
     {
         match mark {
             Mark::Made { number } => self.put(number, Stamps::at(now)),
@@ -179,10 +179,10 @@ impl Times {
     }
 
     /// Marks times for update (POSIX.1-2017, 4.9 "File Times Update"). It can't fail: where memory is refused, every object has the time `now` from then
-    /// on, so that no time is older than its content.
+    /// on, so that no time is older than its content. An object that has times of its own needs no memory for more marks.
     ///
-    /// Proved, also of `Times::stamps`: A mark changes the times that POSIX says and no others, also in snapshots, which keep those of their moment; or
-    /// every object has the time of the mark.
+    /// Proved, also of `Times::stamps`: A mark changes the times that POSIX says and no others, also in snapshots, which keep those of their moment; or,
+    /// where it needed memory that was refused, every object has the time of the mark.
     pub fn mark(&mut self, now: Time, mark: Mark)
         ensures marked { IsMarked mark now self.old self.new }
         ensures gone { KeepsNone mark self.new }

@@ -9,7 +9,7 @@ use Rattle.std.specs.FinMap.Entries.{below_all, put}
 use Rattle.std.specs.List.{AllByRecursion}
 use Rattle.std.specs.Ordering.{is_lt, nat_cmp}
 use Rattle.sn_times.specs.declared.stamps.Stamps.{Stamps}
-use Rattle.sn_times.specs.Dates.{Tree}
+use Rattle.sn_times_file.specs.Kept.{Own}
 
 -- all numbers are below this one
 abbrev pub AreBelow : ℕ → List (ℕ × Stamps) → Type 0
@@ -51,8 +51,8 @@ raised low high [] le h = tt
 raised low high (e ∷ entries) le h = let first : e.0 < low = h.0 in (omega arith, raised low high entries le h.1)
 
 -- an entry whose number may come next is put last
-pub entries-insert_last : (tree : Tree) (least number : ℕ) (stamps : Stamps) → IsLeast least (map.entries tree) → least ≤ number → map.entries (map.insert tree number stamps) ≡ map.entries tree ++ (number, stamps) ∷ []
-entries-insert_last tree least number stamps is le = map.entries-insert nat_cmp_total tree number stamps ∙ put_last number stamps (map.entries tree) (raised least number (map.entries tree) le is.above)
+pub entries-insert_last : (own : Own) (least number : ℕ) (stamps : Stamps) → IsLeast least (map.entries own) → least ≤ number → map.entries (map.insert own number stamps) ≡ map.entries own ++ (number, stamps) ∷ []
+entries-insert_last own least number stamps is le = map.entries-insert nat_cmp_total own number stamps ∙ put_last number stamps (map.entries own) (raised least number (map.entries own) le is.above)
 
 below_more : (number : ℕ) (entries : List (ℕ × Stamps)) (entry : ℕ × Stamps) → AreBelow number entries → entry.0 < number → AreBelow number (entries ++ entry ∷ [])
 below_more number [] entry h lt = (lt, tt)
@@ -72,13 +72,13 @@ least-more least entries entry is le = record {
 }
 
 -- in a map, the number after these entries may come next
-pub next_above : (tree others : Tree) (least : ℕ) (entry : ℕ × Stamps) (more : List (ℕ × Stamps)) → IsLeast least (map.entries tree) → map.entries others ≡ (map.entries tree ++ entry ∷ []) ++ more → least ≤ entry.0
-next_above tree others least entry more is e =
-    is.lowest entry.0 (sorted_below (map.entries tree) more entry (subst (λ (es : List (ℕ × Stamps)). T (map.is_sorted nat_cmp es)) (e ∙ append_assoc (map.entries tree) (entry ∷ []) more) (map.entries_sorted others)))
+pub next_above : (own others : Own) (least : ℕ) (entry : ℕ × Stamps) (more : List (ℕ × Stamps)) → IsLeast least (map.entries own) → map.entries others ≡ (map.entries own ++ entry ∷ []) ++ more → least ≤ entry.0
+next_above own others least entry more is e =
+    is.lowest entry.0 (sorted_below (map.entries own) more entry (subst (λ (es : List (ℕ × Stamps)). T (map.is_sorted nat_cmp es)) (e ∙ append_assoc (map.entries own) (entry ∷ []) more) (map.entries_sorted others)))
 
 no_entries : (es : List (ℕ × Stamps)) → length es ≡ 0 → es ≡ []
 no_entries [] e = refl
 no_entries (x ∷ es) e = absurd (omega arith)
 
-pub entries-none : (tree : Tree) → tree ≡ map.empty → map.entries tree ≡ []
-entries-none tree e = no_entries (map.entries tree) (sym (map.len-entries tree) ∙ ap (λ (t : Tree). map.len t) e ∙ map.len-empty nat_cmp Stamps)
+pub entries-none : (own : Own) → own ≡ map.empty → map.entries own ≡ []
+entries-none own e = no_entries (map.entries own) (sym (map.len-entries own) ∙ ap (λ (t : Own). map.len t) e ∙ map.len-empty nat_cmp Stamps)

@@ -24,6 +24,6 @@ length-entry_bytes e =
 
 pub length-head_bytes : (root : List ℕ) → length (head_bytes root) ≡ 16
 length-head_bytes root =
-    let version = length-number_bytes 4 1 in
+    let version = length-number_bytes 4 2 in
     let size = length-number_bytes 4 (length root) in
-    omega (arith, version, size, length-append (number_bytes 4 1) (number_bytes 4 (length root)))
+    omega (arith, version, size, length-append (number_bytes 4 2) (number_bytes 4 (length root)))

@@ -15,7 +15,8 @@ pub(crate) fn checksum(bytes: &[u8]) -> [u8; CHECKSUM_SIZE]
     Sha256::digest(bytes)
 }
 
-fn are_equal(bytes: &[u8], wanted: &[u8]) -> bool
+/// Whether these are the same bytes.
+pub(crate) fn are_equal(bytes: &[u8], wanted: &[u8]) -> bool
     ensures { IsTrue result ↔ (bytes.now ≡ wanted.now) }
 {
     bytes == wanted

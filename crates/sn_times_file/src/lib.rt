@@ -3,10 +3,9 @@
 //! | field | bytes |
 //! |---|---|
 //! | `snaptime` | 8 |
-//! | version, 1 | u32 |
+//! | version, 2 | u32 |
 //! | size of the root's identity, at most 4,096 | u32 |
 //! | the root's identity: times count only where it is the mounted one's | so many |
-//! | time of each object that has none of its own | 12 |
 //! | sections, to the checksum | |
 //! | SHA-256 of all before | 32 |
 //!
@@ -14,16 +13,19 @@
 //! |---|---|
 //! | size of the name of a tree | u8 |
 //! | name | so many |
-//! | how many objects have times | u64 |
+//! | time of each object that has none of its own | 12 |
+//! | how many objects have times of their own | u64 |
 //! | their numbers and times, by rising numbers (`entry`) | 38 each |
 //!
 //! All numbers have their lowest byte first. The names of trees are the caller's, as are the root's identity and the order of the sections.
 //!
-//! The model is [`Kept`](../specs/Kept.antt): the root's identity, the base, and sections, each a name and a finite map of times by numbers.
+//! The model is [`Kept`](../specs/Kept.antt): the root's identity, and sections, each a name, a base and a finite map of times by numbers.
 //! `spelling` is its one spelling. [`decode`] takes any bytes, and reads exactly what is the spelling of something: [`Writer`] writes such bytes, and
-//! nothing else decodes.
+//! nothing else decodes. `specs/Keeping` says what a mount leaves of its times (`left_by`), and with which the next one begins (`begun`): [`keep`] and
+//! [`restore`] are these, over bytes.
 //!
 //! The way through: `writer` and `reading` are the two ways, over `entry` and `checksum`; `saved` is what was read, and `fault` why something wasn't.
+//! `keeping` decides which times are kept, and which of them count.
 //!
 //! Memory: a [`Writer`] has the bytes, and for a moment twice where a section is added, and lends the times. [`decode`] has beside the bytes only
 //! the times, in the form in which [`Times`](sn_times::Times) takes them.
@@ -31,19 +33,21 @@
 //! What the sources leave open is decided in `docs/DECISIONS.md`, under "The file of times".
 //!
 //! ```text
-//! let bytes = Writer::new(alloc, root, times.base())?.section(b"", live)?.finish()?;
-//! let saved = decode(alloc, &bytes)?;
+//! let bytes = keep(alloc, root, &times)?;
+//! let times = restore(alloc, root, &bytes, now)?;
 //! ```
 #![tactic(auto)]
 
 mod checksum;
 mod entry;
 mod fault;
+mod keeping;
 mod reading;
 mod saved;
 mod writer;
 
 pub use fault::{Unreadable, Unwritable};
+pub use keeping::{keep, restore};
 pub use reading::decode;
 pub use saved::{Saved, Section};
 pub use writer::Writer;

@@ -5,7 +5,7 @@ ghost use Rattle.std.specs.FinMap as map;
 ghost use Rattle.sn_fuse.specs.declared.operation.Time.{Time as TheTime};
 ghost use Rattle.sn_times.specs.Dates.{Tree};
 ghost use Rattle.sn_times_file.specs.Faults.{Reads};
-ghost use Rattle.sn_times_file.specs.Kept.{IsKept, IsNamed, IsTime, IsTree, Kept, Named, entry_bytes, head_bytes, named_bytes, spelling, time_bytes, tree_bytes};
+ghost use Rattle.sn_times_file.specs.Kept.{IsKept, IsNamed, IsOwn, IsTime, IsTree, Kept, Named, Own, entry_bytes, head_bytes, named_bytes, own_bytes, spelling, time_bytes, tree_bytes};
 ghost use Rattle.sn_times_file.specs.declared.fault.Unreadable.TheVariants.{Memory};
 
 use crate::checksum::unsealed;
@@ -44,7 +44,7 @@ fn read_root(alloc: Global, reader: &mut Reader<'_>) -> Result<Vec<u8>, Unreadab
     Ok(Vec::from_slice(alloc, reader.bytes(length))?)
 }
 
-// The time of objects that have none of their own.
+// The time of the objects of a tree that have none of their own.
 fn read_base(reader: &mut Reader<'_>) -> Option<Time>
     ensures found { IfSome result (λ time. IsTime time × (reader.old ≡ time_bytes time ++ reader.new)) }
     ensures only { (time : TheTime) (rest : List ℕ) → IsTime time → reader.old ≡ time_bytes time ++ rest → (result ≡ Some time) × (reader.new ≡ rest) }
@@ -59,14 +59,19 @@ fn read_base(reader: &mut Reader<'_>) -> Option<Time>
     Some(time)
 }
 
-// So many entries.
-fn read_entries(alloc: Global, reader: &mut Reader<'_>, count: u64) -> Result<TreeTimes, Unreadable>
-    ensures found { IfOk result (λ tree. (map.len tree ≡ count) × IsTree tree) }
-    ensures read { IfOk result (λ tree. reader.old ≡ flat_map entry_bytes (map.entries tree) ++ reader.new) }
-    ensures only { (tree : Tree) (rest : List ℕ) → map.len tree ≡ count → IsTree tree → reader.old ≡ flat_map entry_bytes (map.entries tree) ++ rest
-        → Reads result reader.new tree rest }
+// So many entries of a tree with this base.
+fn read_entries(
+    alloc: Global,
+    reader: &mut Reader<'_>,
+    base: Time,
+    count: u64,
+) -> Result<TreeTimes, Unreadable>
+    ensures found { IfOk result (λ tree. (tree.base ≡ base) × (map.len tree.own ≡ count) × IsOwn tree.own) }
+    ensures read { IfOk result (λ tree. reader.old ≡ flat_map entry_bytes (map.entries tree.own) ++ reader.new) }
+    ensures only { (own : Own) (rest : List ℕ) → map.len own ≡ count → IsOwn own → reader.old ≡ flat_map entry_bytes (map.entries own) ++ rest
+        → Reads result reader.new (record { base = base; own = own }) rest }
 {
-    let mut tree = TreeTimes::new(alloc);
+    let mut tree = TreeTimes::new(alloc, base);
     let mut least = 0;
     for _ in 0..count {
         let Some((number, stamps)) = read_entry(reader) else {
@@ -82,16 +87,29 @@ fn read_entries(alloc: Global, reader: &mut Reader<'_>, count: u64) -> Result<Tr
     Ok(tree)
 }
 
-// A tree's count and its entries.
-fn read_tree(alloc: Global, reader: &mut Reader<'_>) -> Result<TreeTimes, Unreadable>
-    ensures found { IfOk result (λ tree. (map.len tree < 2 ^ 64) × IsTree tree) }
-    ensures read { IfOk result (λ tree. reader.old ≡ tree_bytes tree ++ reader.new) }
-    ensures only { (tree : Tree) (rest : List ℕ) → map.len tree < 2 ^ 64 → IsTree tree → reader.old ≡ tree_bytes tree ++ rest → Reads result reader.new tree rest }
+// The count and the entries of a tree with this base.
+fn read_own(alloc: Global, reader: &mut Reader<'_>, base: Time) -> Result<TreeTimes, Unreadable>
+    ensures found { IfOk result (λ tree. (tree.base ≡ base) × (map.len tree.own < 2 ^ 64) × IsOwn tree.own) }
+    ensures read { IfOk result (λ tree. reader.old ≡ own_bytes tree.own ++ reader.new) }
+    ensures only { (own : Own) (rest : List ℕ) → map.len own < 2 ^ 64 → IsOwn own → reader.old ≡ own_bytes own ++ rest
+        → Reads result reader.new (record { base = base; own = own }) rest }
 {
     let Some(count) = reader.try_u64() else {
         return Err(Unreadable::Misspelt);
     };
-    read_entries(alloc, reader, count)
+    read_entries(alloc, reader, base, count)
+}
+
+// A tree's base, its count and its entries.
+fn read_tree(alloc: Global, reader: &mut Reader<'_>) -> Result<TreeTimes, Unreadable>
+    ensures found { IfOk result (λ tree. IsTree tree) }
+    ensures read { IfOk result (λ tree. reader.old ≡ tree_bytes tree ++ reader.new) }
+    ensures only { (tree : Tree) (rest : List ℕ) → IsTree tree → reader.old ≡ tree_bytes tree ++ rest → Reads result reader.new tree rest }
+{
+    let Some(base) = read_base(reader) else {
+        return Err(Unreadable::Misspelt);
+    };
+    read_own(alloc, reader, base)
 }
 
 // A name.
@@ -152,13 +170,6 @@ pub fn decode(alloc: Global, bytes: &[u8]) -> Result<Saved, Unreadable>
     };
     let mut reader = Reader::new(body);
     let root = read_root(alloc, &mut reader)?;
-    let Some(base) = read_base(&mut reader) else {
-        return Err(Unreadable::Misspelt);
-    };
     let sections = read_sections(alloc, &mut reader)?;
-    Ok(Saved {
-        root,
-        base,
-        sections,
-    })
+    Ok(Saved { root, sections })
 }

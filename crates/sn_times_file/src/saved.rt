@@ -1,7 +1,6 @@
 //! Times that were read.
 ghost use Rattle.std.specs.Prelude.{◌≡◌};
 
-use sn_fuse::Time;
 use sn_times::TreeTimes;
 use std::marker::Model;
 
@@ -40,11 +39,10 @@ impl Section {
     }
 }
 
-/// Times that were read: the root with which they count, the time of each object that has none of its own, and the sections.
+/// Times that were read: the root with which they count, and the sections.
 #[derive(Drop)]
 pub struct Saved {
     pub(crate) root: Vec<u8>,
-    pub(crate) base: Time,
     pub(crate) sections: Vec<Section>,
 }
 
@@ -57,7 +55,7 @@ impl Model for Saved {
 
     ghost coded = { Prim.hlevel (codes, map.code) };
 
-    ghost view = { λ s. record { root = s.root.items; base = s.base; sections = s.sections.items } };
+    ghost view = { λ s. record { root = s.root.items; sections = s.sections.items } };
 }
 
 impl Saved {
@@ -66,13 +64,6 @@ impl Saved {
         ensures { result.now ≡ self.now.root }
     {
         self.root.as_slice()
-    }
-
-    /// The time of each object that has none of its own.
-    pub fn base(&self) -> Time
-        ensures { result ≡ self.now.base }
-    {
-        self.base
     }
 
     /// The times of trees, in the order in which they were written.

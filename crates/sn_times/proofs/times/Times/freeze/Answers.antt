@@ -1,7 +1,7 @@
-use Rattle.std.proofs.Common.{None, Some, ap, ◌∙◌}
+use Rattle.std.proofs.Common.{◌≡◌, None, Some, ap, ◌∙◌}
 use Rattle.std.specs.FinMap as map
 use Rattle.sn_times.specs.Dates.{Dates, Tree, with_tree}
-use Rattle.sn_times.proofs.DatesLemmas.{found, kept-inserted, kept-removed}
+use Rattle.sn_times.proofs.DatesLemmas.{found, kept-inserted, kept-removed, on_err}
 use Rattle.sn_times.proofs.times.Times.freeze.Goals as goal
 use Rattle.sn_times.proofs.times.Times.freeze.Goals.{in-Some-1, in-None-1, in-Some-2, in-None-2}
 
@@ -25,3 +25,13 @@ returns-in-None-clause-ok c =
     ∙ ap (λ (d : Dates). with_tree d home None) c.self.view_is
     ∙ ap (with_tree c.args.self.now home) (c.in-None.ensures.value ∙ found inside.base inside.trees.entries 0 ∙ ap (λ (d : Dates). map.get d.trees 0) c.self.view_is) in
     elim c.match-remove.branch [ in-Some-2 w ↦ w.self-is ∙ gone | in-None-2 w ↦ w.self-is ∙ gone ]
+
+pub returns-in_err-copy-in-Some-clause-kept : goal.returns-in_err-copy-in-Some-clause-kept
+returns-in_err-copy-in-Some-clause-kept c =
+    let live = c.in-Some.ensures.value ∙ found c.self.inside.base c.self.inside.trees.entries 0 ∙ ap (λ (d : Dates). map.get d.trees 0) c.self.view_is in
+    on_err c.from_residual.result (λ none. let never : Some c.in-Some.live.now ≡ None = live ∙ none in cc)
+
+pub returns-in_err-insert-in-Some-clause-kept : goal.returns-in_err-insert-in-Some-clause-kept
+returns-in_err-insert-in-Some-clause-kept c =
+    let live = c.in-Some.ensures.value ∙ found c.self.inside.base c.self.inside.trees.entries 0 ∙ ap (λ (d : Dates). map.get d.trees 0) c.self.view_is in
+    on_err c.from_residual-in_err-insert-in-Some.result (λ none. let never : Some c.in-Some.live.now ≡ None = live ∙ none in cc)

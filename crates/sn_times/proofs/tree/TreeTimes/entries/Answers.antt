@@ -5,4 +5,4 @@ use Rattle.sn_times.proofs.EntryLemmas.{entries-seen}
 use Rattle.sn_times.proofs.tree.TreeTimes.entries.Goals as goal
 
 pub returns : goal.returns
-returns c = c.iter.ensures.rest ∙ sym (entries-seen c.self.inside.by_number.entries c.iter.ensures.ordered) ∙ ap (λ (m : Tree). map.entries m) c.self.view_is
+returns c = c.iter.ensures.rest ∙ sym (entries-seen c.self.inside.by_number.entries c.iter.ensures.ordered) ∙ ap (λ (t : Tree). map.entries t.own) c.self.view_is

@@ -4,9 +4,9 @@ use Rattle.std.specs.FinMap as map
 use Rattle.std.specs.Ordering.{nat_cmp}
 use Rattle.sn_maps.proofs.MapLemmas.{get-seen_plain}
 use Rattle.sn_times.specs.Dates.{Tree}
-use Rattle.sn_times.proofs.tree.TreeTimes.get.Goals as goal
+use Rattle.sn_times.proofs.tree.TreeTimes.own.Goals as goal
 
 pub returns : goal.returns
 returns c =
     c.copied.ensures ∙ c.get.ensures.value ∙ sym (get-seen_plain nat_cmp nat_cmp_total c.self.inside.by_number.entries c.args.number)
-    ∙ ap (λ (m : Tree). map.get m c.args.number) c.self.view_is
+    ∙ ap (λ (t : Tree). map.get t.own c.args.number) c.self.view_is
