@@ -8,9 +8,9 @@ use Rattle.sn_model.specs.declared.call.Event.TheVariants as event
 use Rattle.sn_model.specs.declared.reply.Reply.{Reply}
 use Rattle.sn_serving.specs.Served.{Leads}
 use Rattle.sn_serving.proofs.ServedLemmas.{leads_more, leads_none}
-use Rattle.sn_import_run.specs.Acts.{Act, Called, Told}
-use Rattle.sn_import_run.specs.Carried.{Grows}
-use Rattle.sn_import_run.specs.declared.why.Why.{Why}
+use Rattle.sn_import_calls.specs.Acts.{Act, Called, Told}
+use Rattle.sn_import_calls.specs.Carried.{Grows}
+use Rattle.sn_import_calls.specs.declared.why.Why.{Why}
 use Rattle.sn_import_image.specs.Importing.{AreEventsOf, Did, Seen, has_report}
 
 -- ---- events

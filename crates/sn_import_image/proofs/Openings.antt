@@ -4,8 +4,8 @@ use Rattle.std.specs.Prelude.{Result, Ok, Err, IsOk, IsErrAnd}
 use Rattle.std.specs.List.{AllByRecursion}
 use Rattle.sn_model.specs.declared.call.Call.{Call}
 use Rattle.sn_model.specs.declared.reply.Reply.{Reply}
-use Rattle.sn_import_run.specs.Acts.{Act, Called, Told, calls_in}
-use Rattle.sn_import_run.specs.Carried.{Adds, Grows}
+use Rattle.sn_import_calls.specs.Acts.{Act, Called, Told, calls_in}
+use Rattle.sn_import_calls.specs.Carried.{Adds, Grows}
 use Rattle.sn_import_image.specs.Opening.{EndsOpening, IsGood, IsJudged, IsOpened, judged}
 use Rattle.sn_import_image.specs.declared.fault.ImportFault.{ImportFault}
 use Rattle.sn_import_image.specs.declared.fault.ImportFault.TheVariants.{Memory}

@@ -10,7 +10,7 @@ use Rattle.sn_run.specs.Ending.{IsLastEnd}
 use Rattle.sn_serving.specs.Served.{IsMountOf, Unmounts}
 use Rattle.sn_serving.proofs.RunLemmas.{served_is_run}
 use Rattle.sn_import_entry.specs.declared.names.Names.{Names}
-use Rattle.sn_import_run.specs.Acts.{Act}
+use Rattle.sn_import_calls.specs.Acts.{Act}
 use Rattle.sn_import_image.specs.Importing.{Did, Seen, has_report}
 use Rattle.sn_import_image.specs.Imports.{IsCarriedOut, IsWork, outcome_of, refused}
 use Rattle.sn_import_image.specs.Opening.{IsOpened, first_calls}

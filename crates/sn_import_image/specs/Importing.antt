@@ -3,7 +3,7 @@ use Rattle.std.specs.Prelude.{◌≡◌, ℕ, ◌||◌, Bool, true, false, List,
 use Rattle.sn_model.specs.declared.call.Event.{Event}
 use Rattle.sn_model.specs.declared.call.Event.TheVariants as event
 use Rattle.sn_model.specs.declared.reply.Reply.{Reply}
-use Rattle.sn_import_run.specs.Acts.{Act, Called, Told}
+use Rattle.sn_import_calls.specs.Acts.{Act, Called, Told}
 use Rattle.sn_serving.specs.Served.{Leads, Served}
 
 -- These events are the calls of the acts, made in session 0, each with steps of consistency points after it, and these are the replies.

@@ -12,10 +12,10 @@ use Rattle.sn_check.specs.Verdicts.{IsCause}
 use Rattle.sn_run.specs.Ending.{IsLastEnd}
 use Rattle.sn_run.specs.Runs.{IsRunOf}
 use Rattle.sn_import_entry.specs.declared.names.Names.{Names}
-use Rattle.sn_import_run.specs.Acts.{Act}
+use Rattle.sn_import_calls.specs.Acts.{Act}
 use Rattle.sn_import_run.specs.Imports.{IsImport}
-use Rattle.sn_import_run.specs.Streams.{IsReadTo, Part}
-use Rattle.sn_import_run.specs.declared.stop.Stop.{Stop}
+use Rattle.sn_import_files.specs.Streams.{IsReadTo, Part}
+use Rattle.sn_import_calls.specs.declared.stop.Stop.{Stop}
 use Rattle.sn_import_image.specs.Importing.{AreEventsOf, has_report}
 use Rattle.sn_import_image.specs.Opening.{IsOpened, first_calls}
 use Rattle.sn_import_image.specs.declared.fault.ImportFault.{ImportFault}

@@ -9,7 +9,7 @@ use Rattle.sn_model.specs.declared.reply.Errno.{Errno}
 use Rattle.sn_model.specs.declared.reply.Errno.TheVariants.{Eio, Enomem, Estopped}
 use Rattle.sn_model.specs.declared.reply.Reply.{Reply}
 use Rattle.sn_model.specs.declared.reply.Reply.TheVariants as reply
-use Rattle.sn_import_run.specs.Acts.{Act, Called, Told, calls_in}
+use Rattle.sn_import_calls.specs.Acts.{Act, Called, Told, calls_in}
 use Rattle.sn_import_image.specs.declared.fault.ImportFault.{ImportFault}
 use Rattle.sn_import_image.specs.declared.fault.ImportFault.TheVariants.{Memory, Path, Stopped}
 

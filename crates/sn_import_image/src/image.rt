@@ -1,7 +1,7 @@
 ghost use Rattle.std.specs.Prelude.{◌≡◌, ◌⊎◌, IfOk};
 ghost use Rattle.sn_import_image.specs.Imports.{IsCarriedOut, IsUnmounted, IsWork};
 ghost use Rattle.sn_import_image.specs.declared.fault.Made.TheVariants.{Whole as whole};
-ghost use Rattle.sn_import_run.specs.Carried.{Adds};
+ghost use Rattle.sn_import_calls.specs.Carried.{Adds};
 ghost use Rattle.sn_model.specs.declared.fault.MountFault.{MountFault as Why};
 
 use crate::fault::{ImportFault, Made};

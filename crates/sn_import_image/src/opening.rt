@@ -2,8 +2,8 @@
 ghost use Rattle.std.specs.Prelude.{◌≡◌, ◌∷◌, []};
 ghost use Rattle.sn_import_image.specs.Opening as opening;
 ghost use Rattle.sn_import_image.specs.Opening.{IsOpened};
-ghost use Rattle.sn_import_run.specs.Acts.{Called};
-ghost use Rattle.sn_import_run.specs.Carried.{Adds, Grows};
+ghost use Rattle.sn_import_calls.specs.Acts.{Called};
+ghost use Rattle.sn_import_calls.specs.Carried.{Adds, Grows};
 ghost use Rattle.sn_model.specs.declared.reply.Reply.{Reply as Told};
 
 use crate::fault::ImportFault;

@@ -11,8 +11,8 @@ use Rattle.sn_model.specs.Worlds.{IsWorld}
 use Rattle.sn_model.proofs.WorldLemmas.{step_world}
 use Rattle.sn_import.specs.Writes.{pieces, writes_of}
 use Rattle.sn_import.specs.declared.object.What.{What}
-use Rattle.sn_import_run.specs.Acts.{Act}
-use Rattle.sn_import_run.specs.Carried.{AreMade}
+use Rattle.sn_import_calls.specs.Acts.{Act}
+use Rattle.sn_import_calls.specs.Carried.{AreMade}
 use Rattle.sn_import_laws.specs.Contents.{IsFilled, IsFilling}
 use Rattle.sn_import_laws.specs.Runs.{Runs}
 use Rattle.sn_import_laws.proofs.Steps.{done, no_refusal, run_first, run_none}

@@ -26,12 +26,12 @@ use Rattle.sn_import.specs.declared.object.Rights.{Rights}
 use Rattle.sn_import.specs.declared.object.What.{What}
 use Rattle.sn_import.specs.declared.object.What.TheVariants.{File}
 use Rattle.sn_import.specs.declared.opening.Opening.TheVariants.{Make}
-use Rattle.sn_import_run.specs.Acts.{Act, Called}
-use Rattle.sn_import_run.specs.Answers.{answer, descriptor}
-use Rattle.sn_import_run.specs.Carried.{AreMade, last_descriptor, number_in}
-use Rattle.sn_import_run.specs.Entries.{filling}
-use Rattle.sn_import_run.specs.declared.stop.Stop.{Stop}
-use Rattle.sn_import_run.specs.declared.stop.Stop.TheVariants.{Refused}
+use Rattle.sn_import_calls.specs.Acts.{Act, Called}
+use Rattle.sn_import_calls.specs.Answers.{answer, descriptor}
+use Rattle.sn_import_calls.specs.Carried.{AreMade, last_descriptor, number_in}
+use Rattle.sn_import_files.specs.Entries.{filling}
+use Rattle.sn_import_calls.specs.declared.stop.Stop.{Stop}
+use Rattle.sn_import_calls.specs.declared.stop.Stop.TheVariants.{Refused}
 use Rattle.sn_import_laws.specs.Contents.{IsFilled, at_end}
 use Rattle.sn_import_laws.specs.Files.{IsMadeFile, IsNewFile, file_node}
 use Rattle.sn_import_laws.specs.Rights.{AreRights, as_file, has_bits, with_access, with_owner}

@@ -12,11 +12,11 @@ use Rattle.sn_import.specs.declared.object.Object.{Object}
 use Rattle.sn_import.specs.declared.object.Rights.{Rights}
 use Rattle.sn_import.specs.declared.object.What.{What}
 use Rattle.sn_import.specs.declared.object.What.TheVariants.{File}
-use Rattle.sn_import_run.specs.Acts.{Act, Called, Told}
-use Rattle.sn_import_run.specs.Answers.{answer}
-use Rattle.sn_import_run.specs.Carried.{AreMade, last_descriptor, number_from, number_in}
-use Rattle.sn_import_run.specs.Entries.{IsMade, IsOpened, IsUnopened, filling}
-use Rattle.sn_import_run.specs.declared.stop.Stop.{Stop}
+use Rattle.sn_import_calls.specs.Acts.{Act, Called, Told}
+use Rattle.sn_import_calls.specs.Answers.{answer}
+use Rattle.sn_import_calls.specs.Carried.{AreMade, last_descriptor, number_from, number_in}
+use Rattle.sn_import_files.specs.Entries.{IsMade, IsOpened, IsUnopened, filling}
+use Rattle.sn_import_calls.specs.declared.stop.Stop.{Stop}
 use Rattle.sn_import_laws.specs.Files.{IsMadeFile, file_node}
 use Rattle.sn_import_laws.specs.Rights.{AreRights}
 use Rattle.sn_import_laws.specs.Runs.{IsRoots, Runs}

@@ -29,10 +29,10 @@ use Rattle.sn_import.specs.declared.object.Object.{Object}
 use Rattle.sn_import.specs.declared.object.Rights.{Rights}
 use Rattle.sn_import.specs.declared.object.What.{What}
 use Rattle.sn_import.specs.declared.object.What.TheVariants.{Directory, HardLink}
-use Rattle.sn_import_run.specs.Acts.{Act}
-use Rattle.sn_import_run.specs.Carried.{AreMade}
-use Rattle.sn_import_run.specs.Entries.{IsMade, IsOpened, IsUnopened}
-use Rattle.sn_import_run.specs.declared.stop.Stop.{Stop}
+use Rattle.sn_import_calls.specs.Acts.{Act}
+use Rattle.sn_import_calls.specs.Carried.{AreMade}
+use Rattle.sn_import_files.specs.Entries.{IsMade, IsOpened, IsUnopened}
+use Rattle.sn_import_calls.specs.declared.stop.Stop.{Stop}
 use Rattle.sn_import_laws.specs.Names.{IsNewDirectory, IsNewLink}
 use Rattle.sn_import_laws.specs.Rights.{with_owner}
 use Rattle.sn_import_laws.specs.Runs.{IsRoots, Runs}

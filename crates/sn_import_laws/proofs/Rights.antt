@@ -17,8 +17,8 @@ use Rattle.sn_import.specs.declared.object.Object.{Object}
 use Rattle.sn_import.specs.declared.object.Rights.{Rights}
 use Rattle.sn_import.specs.declared.object.What.{What}
 use Rattle.sn_import.specs.declared.object.What.TheVariants.{File, Directory, Top}
-use Rattle.sn_import_run.specs.Acts.{Act}
-use Rattle.sn_import_run.specs.Carried.{AreMade}
+use Rattle.sn_import_calls.specs.Acts.{Act}
+use Rattle.sn_import_calls.specs.Carried.{AreMade}
 use Rattle.sn_import_laws.specs.Rights.{AreRights, as_directory, as_file, has_bits, with_access, with_bits, with_default, with_owner}
 use Rattle.sn_import_laws.specs.Runs.{IsRoots, Runs}
 use Rattle.sn_import_laws.specs.Trees.{IsTurned}

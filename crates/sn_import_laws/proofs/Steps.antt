@@ -27,11 +27,11 @@ use Rattle.sn_model.specs.Tree.{Tree, link_cmp}
 use Rattle.sn_model.specs.World.{World, trees_of, viewed_trees}
 use Rattle.sn_import.specs.Refused.{is_expected}
 use Rattle.sn_import.specs.declared.object.What.{What}
-use Rattle.sn_import_run.specs.Acts.{Act, Called, Told, calls_in}
-use Rattle.sn_import_run.specs.Answers.{answer}
-use Rattle.sn_import_run.specs.Carried.{AreMade, IsFine}
-use Rattle.sn_import_run.specs.declared.stop.Stop.{Stop}
-use Rattle.sn_import_run.specs.declared.stop.Stop.TheVariants as stop
+use Rattle.sn_import_calls.specs.Acts.{Act, Called, Told, calls_in}
+use Rattle.sn_import_calls.specs.Answers.{answer}
+use Rattle.sn_import_calls.specs.Carried.{AreMade, IsFine}
+use Rattle.sn_import_calls.specs.declared.stop.Stop.{Stop}
+use Rattle.sn_import_calls.specs.declared.stop.Stop.TheVariants as stop
 use Rattle.sn_import_laws.specs.Runs.{IsRoots, Runs}
 
 -- ---- a step

@@ -9,9 +9,9 @@ use Rattle.sn_import.specs.declared.object.Rights.{Rights}
 use Rattle.sn_import.specs.declared.object.What.{What}
 use Rattle.sn_import.specs.declared.object.What.TheVariants.{File, Directory, Top, HardLink}
 use Rattle.sn_import.specs.declared.opening.Opening.TheVariants.{Make}
-use Rattle.sn_import_run.specs.Acts.{Act}
-use Rattle.sn_import_run.specs.Carried.{AreMade, last_descriptor}
-use Rattle.sn_import_run.specs.Entries.{IsMade, filling}
+use Rattle.sn_import_calls.specs.Acts.{Act}
+use Rattle.sn_import_calls.specs.Carried.{AreMade, last_descriptor}
+use Rattle.sn_import_files.specs.Entries.{IsMade, filling}
 use Rattle.sn_model.specs.Tree.{Node}
 use Rattle.sn_model.specs.World.{World}
 use Rattle.sn_model.specs.Worlds.{IsWorld}

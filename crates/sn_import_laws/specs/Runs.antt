@@ -5,7 +5,7 @@ use Rattle.sn_model.specs.declared.session.Session.{Session}
 use Rattle.sn_model.specs.Steps.{Step}
 use Rattle.sn_model.specs.Tests.{logged_in}
 use Rattle.sn_model.specs.World.{World}
-use Rattle.sn_import_run.specs.Acts.{Act, Called, Told}
+use Rattle.sn_import_calls.specs.Acts.{Act, Called, Told}
 
 -- Calls of session 0, one after the other, are answered so from a world on, and leave another. A report changes nothing.
 abbrev pub Runs : Limits → World → List Act → World → Type 0

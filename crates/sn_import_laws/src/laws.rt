@@ -44,7 +44,7 @@ pub fn files_are_made()
 
 /// The entry of a file makes it, where its directories are there and nothing has its name.
 ///
-/// Proved: Where all calls of an entry's file let it go on (`IsMade` of sn_import_run), in a live tree that has the directories above its path
+/// Proved: Where all calls of an entry's file let it go on (`IsMade` of sn_import_files), in a live tree that has the directories above its path
 /// and nothing at it, the path leads to a new file with exactly the content, the owner, the group, S_ISGID, S_ISVTX and the access ACL of
 /// the entry. Every other node and every other name stays.
 pub fn files_are_imported()

@@ -1,6 +1,6 @@
 //! What the calls of an import make: laws, and no code that runs.
 //!
-//! An import is a list of calls with their replies (sn_import_run), and a call's meaning is a step from one world to another (`Step` of
+//! An import is a list of calls with their replies (sn_import_calls), and a call's meaning is a step from one world to another (`Step` of
 //! sn_model). Here are the two together, for calls of the user 0 that let their entry go on: what the path of an entry's object leads to has
 //! its rights, and everything else is as it was. Neither the code of an import nor that of a file system is spoken of.
 //!

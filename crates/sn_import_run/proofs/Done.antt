@@ -1,5 +1,5 @@
 -- Entries that are done, one after the other.
-use Rattle.std.proofs.Common.{◌≡◌, ℕ, suc, ◌+◌, ◌≤◌, Bool, true, false, List, [], ◌∷◌, ◌++◌, length, take, inl, inr, refl, sym, ap, subst, ◌∙◌, append_assoc, length-append, arith}
+use Rattle.std.proofs.Common.{◌≡◌, ℕ, suc, ◌+◌, ◌≤◌, Bool, true, false, List, [], ◌∷◌, ◌++◌, length, take, inr, refl, sym, ap, subst, ◌∙◌, append_assoc, length-append, arith}
 use Rattle.std.specs.Prelude.{Option, Some, None, Result, Ok, Err, IfErr, IsErrAnd, OnOk}
 use Rattle.std.proofs.lemmas.List.{append-nil}
 use Rattle.std.specs.Bool.{MatchBool}
@@ -9,17 +9,18 @@ use Rattle.sn_import_entry.specs.declared.names.Names.{Names}
 use Rattle.sn_untar.specs.Steps.{State, Steps, is_ended, start}
 use Rattle.sn_untar.specs.declared.told.Told.{Told}
 use Rattle.sn_untar.specs.declared.told.Told.TheVariants as told
-use Rattle.sn_import_run.specs.Acts.{Act}
-use Rattle.sn_import_run.specs.Carried.{is_outside, stop_of}
-use Rattle.sn_import_run.specs.Entries.{IsDone, IsTaken}
-use Rattle.sn_import_run.specs.Files.{Arrives, Came}
+use Rattle.sn_import_calls.specs.Acts.{Act}
+use Rattle.sn_import_calls.specs.Carried.{is_outside, stop_of}
+use Rattle.sn_import_files.specs.Entries.{IsDone, IsTaken}
+use Rattle.sn_import_files.specs.Files.{Arrives, Came}
 use Rattle.sn_import_run.specs.Imports.{AreDone, AreRead, IsImport, SetsRights, all, broken, end_told, goes_on, is_over, within}
-use Rattle.sn_import_run.specs.Stops.{ends_reading}
-use Rattle.sn_import_run.specs.Streams.{Breaks, BreaksOff, EndsAt, IsReadTo, Part, Takes, begun, longer, parts_after, with_content}
-use Rattle.sn_import_run.specs.declared.stop.Stop.{Stop}
-use Rattle.sn_import_run.specs.declared.stop.Stop.TheVariants.{Refused, Memory, Damaged, Ended, Unread}
-use Rattle.sn_import_run.proofs.Entry.{done_longer}
-use Rattle.sn_import_run.proofs.Parts.{content_last, content_of_none, takes_more, takes_one}
+use Rattle.sn_import_calls.specs.Stops.{ends_reading}
+use Rattle.sn_import_files.specs.Streams.{Breaks, EndsAt, IsReadTo, Part, Takes, begun, longer, parts_after, with_content}
+use Rattle.sn_import_calls.specs.declared.stop.Stop.{Stop}
+use Rattle.sn_import_calls.specs.declared.stop.Stop.TheVariants.{Refused, Memory, Damaged, Ended, Unread}
+use Rattle.sn_import_run.proofs.Longer.{done_longer}
+use Rattle.sn_import_files.proofs.Awaiting.{breaks_off}
+use Rattle.sn_import_files.proofs.Parts.{content_last, content_of_none, takes_more, takes_one}
 
 -- one entry more
 pub done_snoc : (names : Names) (into : List ℕ) (place n : ℕ) (parts : List Part) (part : Part) (acts a : List Act) (directories own : List Object) (stop : Option Stop)
@@ -210,14 +211,6 @@ pub read_whole : (names : Names) (into : List ℕ) (i j : Option (List ℕ)) (s 
     (p : Progress names into i s j count acts ds) → EndsAt p.parts s j None → more ≡ ds → IsRead names into i acts more None
 read_whole names into i j s count acts ds more p ends is =
     subst (λ (os : List Object). IsRead names into i acts os None) (sym is) (p.parts, (s, j, p.takes, ends), all acts ds p.done)
-
--- it isn't ended, and breaks
-pub breaks_off : (s : State) (j : Option (List ℕ)) (stop : Stop) → is_ended s.phase ≡ false → Breaks s j stop → BreaksOff s j stop
-breaks_off s j (Refused errno) goes h = tt
-breaks_off s j Memory goes h = tt
-breaks_off s j Damaged goes h = (goes, h)
-breaks_off s j Ended goes h = (goes, h)
-breaks_off s j (Unread e) goes h = (goes, h)
 
 -- between two entries
 pub read_end : {A : Type 0} (names : Names) (into : List ℕ) (i j : Option (List ℕ)) (s : State) (count : ℕ) (acts : List Act) (ds : List Object) (is_empty : Bool) (stop : Stop) (r : Result A Stop)

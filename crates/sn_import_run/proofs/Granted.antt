@@ -5,9 +5,9 @@ use Rattle.std.specs.Prelude.{Option}
 use Rattle.std.specs.Bool.{MatchBool}
 use Rattle.std.proofs.lemmas.List.{append-nil}
 use Rattle.sn_import.specs.declared.object.Object.{Object}
-use Rattle.sn_import_run.specs.Acts.{Act}
+use Rattle.sn_import_calls.specs.Acts.{Act}
 use Rattle.sn_import_run.specs.Imports.{AreGranted, IsGranted, is_over, stop_told}
-use Rattle.sn_import_run.specs.declared.stop.Stop.{Stop}
+use Rattle.sn_import_calls.specs.declared.stop.Stop.{Stop}
 
 left_at : (objects : List Object) (i : ℕ) (object : Object) → i < length objects → object ≡ get_or objects i object → drop i objects ≡ object ∷ drop (i + 1) objects
 left_at objects i object within is =

@@ -6,14 +6,14 @@ use Rattle.sn_import.specs.Depths.{AreDeepestFirst}
 use Rattle.sn_import.specs.declared.closing.Closing.TheVariants.{Give}
 use Rattle.sn_import.specs.declared.object.Object.{Object}
 use Rattle.sn_import_entry.specs.declared.names.Names.{Names}
-use Rattle.sn_import_run.specs.Acts.{Act, Told}
-use Rattle.sn_import_run.specs.Carried.{AreMade, IsStopped, is_outside}
-use Rattle.sn_import_run.specs.Entries.{IsDone}
-use Rattle.sn_import_run.specs.Stops.{ends_import, ends_reading, is_call}
-use Rattle.sn_import_run.specs.Streams.{Part}
-use Rattle.sn_import_run.specs.declared.stop.Stop.{Stop}
-use Rattle.sn_import_run.specs.declared.stop.Stop.TheVariants.{Memory}
-use Rattle.sn_import_run.specs.declared.why.Why.TheVariants as why
+use Rattle.sn_import_calls.specs.Acts.{Act, Told}
+use Rattle.sn_import_calls.specs.Carried.{AreMade, IsStopped, is_outside}
+use Rattle.sn_import_files.specs.Entries.{IsDone}
+use Rattle.sn_import_calls.specs.Stops.{ends_import, ends_reading, is_call}
+use Rattle.sn_import_files.specs.Streams.{Part}
+use Rattle.sn_import_calls.specs.declared.stop.Stop.{Stop}
+use Rattle.sn_import_calls.specs.declared.stop.Stop.TheVariants.{Memory}
+use Rattle.sn_import_calls.specs.declared.why.Why.TheVariants as why
 
 abbrev pub goes_on : Option Stop → Bool
 goes_on None = true

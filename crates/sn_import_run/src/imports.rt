@@ -2,23 +2,20 @@
 ghost use Rattle.std.specs.Prelude.{◌≡◌, ◌++◌, ◌<◌, ◌-◌, ◌^◌, ℕ, List, [], IfErr, OnOk, Option, true};
 ghost use Rattle.sn_import.specs.declared.object.Object.{Object as Made};
 ghost use Rattle.sn_untar.specs.Steps.{state_of};
-ghost use Rattle.sn_import_run.specs.Carried.{Adds, Grows, stop_of};
-ghost use Rattle.sn_import_run.specs.Entries.{IsTaken};
-ghost use Rattle.sn_import_run.specs.Files.{AwaitsTold, Came};
+ghost use Rattle.sn_import_calls.specs.Carried.{Adds, Grows, stop_of};
+ghost use Rattle.sn_import_files.specs.Entries.{IsTaken};
+ghost use Rattle.sn_import_files.specs.Files.{AwaitsTold, Came};
 ghost use Rattle.sn_import_run.specs.Imports as imports;
 ghost use Rattle.sn_import_run.specs.Imports.{AreRead, IsImport, IsPassed};
-ghost use Rattle.sn_import_run.specs.declared.stop.Stop.{Stop as Ending};
-ghost use Rattle.sn_import_run.specs.declared.stop.Stop.TheVariants.{Ended as no_bytes};
-ghost use Rattle.sn_import_run.specs.Streams.{IsReadTo, Part};
+ghost use Rattle.sn_import_calls.specs.declared.stop.Stop.{Stop as Ending};
+ghost use Rattle.sn_import_calls.specs.declared.stop.Stop.TheVariants.{Ended as no_bytes};
+ghost use Rattle.sn_import_files.specs.Streams.{IsReadTo, Part};
 
-use crate::blocks::next_told;
-use crate::calls::Calls;
-use crate::entries::{make_entry, report};
 use crate::rights::set_rights;
-use crate::stop::Stop;
-use crate::why::Why;
 use sn_import::Object;
+use sn_import_calls::{Calls, Stop, Why};
 use sn_import_entry::Names;
+use sn_import_files::{make_entry, next_told, report};
 use sn_tar::BLOCK_SIZE;
 use sn_untar::{Told, Untar};
 use std::alloc::Global;
@@ -117,7 +114,7 @@ fn if_ends(outcome: Result<(), Stop>) -> Result<(), Stop>
     }
 }
 
-#[tactic(auto, using(crate::proofs::Made::adds_none))]
+#[tactic(auto, using(sn_import_calls::proofs::Made::adds_none))]
 // Ends the reading after so many entries: an input without a byte is an archive of none.
 fn end<C: Calls>(to: &mut C, count: u64, is_empty: bool, stop: Stop) -> Result<(), Stop>
     requires { count < 2 ^ 64 - 1 }

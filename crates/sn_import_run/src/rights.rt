@@ -1,16 +1,13 @@
 //! The rights of directories, after all entries.
 ghost use Rattle.std.specs.Prelude.{◌≡◌, ◌++◌, List, Option};
-ghost use Rattle.sn_import_run.specs.Acts.{Act};
-ghost use Rattle.sn_import_run.specs.Carried.{Adds, stop_of};
+ghost use Rattle.sn_import_calls.specs.Acts.{Act};
+ghost use Rattle.sn_import_calls.specs.Carried.{Adds, stop_of};
 ghost use Rattle.sn_import_run.specs.Imports as imports;
 ghost use Rattle.sn_import_run.specs.Imports.{IsGranted, SetsRights};
-ghost use Rattle.sn_import_run.specs.declared.stop.Stop.{Stop as Ending};
+ghost use Rattle.sn_import_calls.specs.declared.stop.Stop.{Stop as Ending};
 
-use crate::calls::Calls;
-use crate::making::close;
-use crate::stop::Stop;
-use crate::why::Why;
 use sn_import::{Closing, Object, order};
+use sn_import_calls::{Calls, Stop, Why, close};
 use std::alloc::Global;
 
 // Sets the rights of a directory, and reports what stops that. Whether the import ends with it.

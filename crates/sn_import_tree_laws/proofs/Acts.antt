@@ -17,12 +17,12 @@ use Rattle.sn_import.specs.declared.object.What.TheVariants.{Directory, File, Ha
 use Rattle.sn_import_entry.specs.Entries.{object_of}
 use Rattle.sn_import_entry.specs.Forms.{has_set_uid}
 use Rattle.sn_import_entry.specs.declared.names.Names.{Names}
-use Rattle.sn_import_run.specs.Acts.{Act, Called, Told, calls_in}
-use Rattle.sn_import_run.specs.Carried.{AreMade, last_descriptor}
-use Rattle.sn_import_run.specs.Entries.{IsDone, IsMade, IsOpened, IsUnopened, cut, faulty, filling, kept, made, report, set_uid_told, stop_told, unmade}
-use Rattle.sn_import_run.specs.Streams.{Part}
-use Rattle.sn_import_run.specs.declared.stop.Stop.{Stop}
-use Rattle.sn_import_run.specs.declared.why.Why.TheVariants as why
+use Rattle.sn_import_calls.specs.Acts.{Act, Called, Told, calls_in}
+use Rattle.sn_import_calls.specs.Carried.{AreMade, last_descriptor}
+use Rattle.sn_import_files.specs.Entries.{IsDone, IsMade, IsOpened, IsUnopened, cut, faulty, filling, kept, made, report, set_uid_told, stop_told, unmade}
+use Rattle.sn_import_files.specs.Streams.{Part}
+use Rattle.sn_import_calls.specs.declared.stop.Stop.{Stop}
+use Rattle.sn_import_calls.specs.declared.why.Why.TheVariants as why
 use Rattle.sn_import_laws.specs.Rights.{has_bits}
 use Rattle.sn_import_laws.specs.Runs.{Runs}
 use Rattle.sn_import_laws.proofs.Steps.{runs_split}

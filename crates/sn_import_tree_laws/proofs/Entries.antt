@@ -18,11 +18,11 @@ use Rattle.sn_import.specs.declared.object.What.TheVariants as what
 use Rattle.sn_import_entry.specs.Entries.{lead}
 use Rattle.sn_import_entry.specs.declared.fault.EntryFault.{EntryFault}
 use Rattle.sn_import_entry.specs.declared.names.Names.{Names}
-use Rattle.sn_import_run.specs.Acts.{Act}
-use Rattle.sn_import_run.specs.Entries.{IsDone, IsMade, kept}
+use Rattle.sn_import_calls.specs.Acts.{Act}
+use Rattle.sn_import_files.specs.Entries.{IsDone, IsMade, kept}
 use Rattle.sn_import_run.specs.Imports.{AreDone}
-use Rattle.sn_import_run.specs.Streams.{Part}
-use Rattle.sn_import_run.specs.declared.stop.Stop.{Stop}
+use Rattle.sn_import_files.specs.Streams.{Part}
+use Rattle.sn_import_calls.specs.declared.stop.Stop.{Stop}
 use Rattle.sn_archive_laws.specs.Objects.{directory_object, file_object, in_archive, link_object, object_at, path_below, rights_of}
 use Rattle.sn_archive_laws.specs.Trees.{Leads, MakeVisits, Makes, MakesFile, MakesNode, MakesVisit}
 use Rattle.sn_archive_laws.proofs.Links.{are_names, joined_all}

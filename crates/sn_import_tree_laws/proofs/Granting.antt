@@ -27,10 +27,10 @@ use Rattle.sn_import.specs.declared.closing.Closing.TheVariants.{Give}
 use Rattle.sn_import.specs.declared.object.Object.{Object}
 use Rattle.sn_import.specs.declared.object.What.{What}
 use Rattle.sn_import.specs.declared.object.What.TheVariants as what
-use Rattle.sn_import_run.specs.Acts.{Act}
-use Rattle.sn_import_run.specs.Carried.{AreMade}
+use Rattle.sn_import_calls.specs.Acts.{Act}
+use Rattle.sn_import_calls.specs.Carried.{AreMade}
 use Rattle.sn_import_run.specs.Imports.{AreGranted, IsGranted, is_over, stop_told}
-use Rattle.sn_import_run.specs.declared.stop.Stop.{Stop}
+use Rattle.sn_import_calls.specs.declared.stop.Stop.{Stop}
 use Rattle.sn_archive_laws.specs.Objects.{rights_of}
 use Rattle.sn_import_laws.specs.Rights.{as_directory, has_bits}
 use Rattle.sn_import_laws.specs.Runs.{IsRoots, Runs}

@@ -15,11 +15,11 @@ use Rattle.sn_export.specs.Archives.{IsArchive, Visit, Visits, visits_in}
 use Rattle.sn_import.specs.declared.object.Object.{Object}
 use Rattle.sn_import_entry.specs.declared.fault.EntryFault.{EntryFault}
 use Rattle.sn_import_entry.specs.declared.names.Names.{Names}
-use Rattle.sn_import_run.specs.Acts.{Act}
-use Rattle.sn_import_run.specs.Entries.{IsMade, kept}
+use Rattle.sn_import_calls.specs.Acts.{Act}
+use Rattle.sn_import_files.specs.Entries.{IsMade, kept}
 use Rattle.sn_import_run.specs.Imports.{AreDone, AreRead, IsImport, SetsRights, all, broken, end_told, is_over, sorted, unsorted, within}
-use Rattle.sn_import_run.specs.Streams.{IsReadTo, Part}
-use Rattle.sn_import_run.specs.declared.stop.Stop.{Stop}
+use Rattle.sn_import_files.specs.Streams.{IsReadTo, Part}
+use Rattle.sn_import_calls.specs.declared.stop.Stop.{Stop}
 use Rattle.sn_archive_laws.specs.Trees.{FitsBelow, MakeVisits, Makes, MakesNode, MakesVisit}
 use Rattle.sn_archive_laws.proofs.Imports.{import_read}
 use Rattle.sn_archive_laws.proofs.Links.{are_names}

@@ -12,11 +12,11 @@ use Rattle.sn_import.specs.declared.object.Object.{Object}
 use Rattle.sn_import.specs.declared.object.Rights.{Rights}
 use Rattle.sn_import.specs.declared.object.What.TheVariants.{Top}
 use Rattle.sn_import_entry.specs.declared.names.Names.{Names}
-use Rattle.sn_import_run.specs.Acts.{Act}
-use Rattle.sn_import_run.specs.Entries.{IsMade}
+use Rattle.sn_import_calls.specs.Acts.{Act}
+use Rattle.sn_import_files.specs.Entries.{IsMade}
 use Rattle.sn_import_run.specs.Imports.{IsImport}
-use Rattle.sn_import_run.specs.Streams.{IsReadTo, Part}
-use Rattle.sn_import_run.specs.declared.stop.Stop.{Stop}
+use Rattle.sn_import_files.specs.Streams.{IsReadTo, Part}
+use Rattle.sn_import_calls.specs.declared.stop.Stop.{Stop}
 use Rattle.sn_archive_laws.specs.Trees.{FitsBelow}
 use Rattle.sn_import_laws.specs.Rights.{with_owner}
 use Rattle.sn_import_laws.specs.Runs.{IsRoots, Runs}

@@ -1,7 +1,7 @@
 -- An import that reports nothing.
 use Rattle.std.specs.Prelude.{List}
 use Rattle.std.specs.List.{AllByRecursion}
-use Rattle.sn_import_run.specs.Acts.{Act, Called, Told}
+use Rattle.sn_import_calls.specs.Acts.{Act, Called, Told}
 
 abbrev pub IsCalled : Act → Type 0
 IsCalled (Called call reply) = Unit {0}

@@ -15,12 +15,13 @@ use sn_testing_tables::Report;
 use std::env;
 
 /// The parts, in the order in which they run.
-const PARTS: [&str; 2] = ["exports", "imports"];
+const PARTS: [&str; 3] = ["exports", "imports", "import_faults"];
 
 fn run(report: &mut Report<'_>, part: &str) -> Result<()> {
     match part {
         "exports" => sn_tests_exports::run(report),
         "imports" => sn_tests_imports::run(report),
+        "import_faults" => sn_tests_import_faults::run(report),
         _ => bail!("no such part: {part}"),
     }
 }

@@ -21,9 +21,8 @@ pub struct Ended {
     pub image: Vec<u8>,
 }
 
-/// An image whose tree is a directory at each front of a path. What is made below the last one inherits another ACL and another group.
-pub fn empty_image(alloc: Global, path: &str) -> Result<Vec<u8>> {
-    let mut disk = Disk::formatted(alloc, 8 * BLOCKS, BLOCKS)?;
+// Makes the directories of a path in a mount that ends with it. The last one has an ACL and a group that are inherited.
+fn make_directories(alloc: Global, disk: &mut Disk, path: &str) -> Result<()> {
     disk.remount()?;
     disk.login()?;
     for (end, _) in path.match_indices('/').skip(1) {
@@ -35,6 +34,13 @@ pub fn empty_image(alloc: Global, path: &str) -> Result<Vec<u8>> {
     line = format!(in alloc; "0 setacl {path} d u::---,u:1001:rwx,g::rwx,m::rwx,o::rwx")?;
     disk.ask(line.as_str())?;
     disk.unmount()?;
+    Ok(())
+}
+
+/// An image whose tree is a directory at each front of a path. What is made below the last one inherits another ACL and another group.
+pub fn empty_image(alloc: Global, path: &str) -> Result<Vec<u8>> {
+    let mut disk = Disk::formatted(alloc, 8 * BLOCKS, BLOCKS)?;
+    make_directories(alloc, &mut disk, path)?;
     disk.bytes(0, usize::MAX)
 }
 
@@ -46,6 +52,22 @@ fn bytes_of(alloc: Global, device: &MemDevice) -> Result<Vec<u8>> {
     Ok(bytes)
 }
 
+fn no_names(alloc: Global) -> Result<Names<'static>> {
+    Ok(Names {
+        users: Accounts::read(alloc, &[])?,
+        groups: Accounts::read(alloc, &[])?,
+    })
+}
+
+// A device with these bytes, of which so many calls succeed before one fails.
+fn device_of(alloc: Global, image: &[u8], behind: Option<u64>) -> Result<MemDevice> {
+    let mut device = MemDevice::from_bytes(alloc, image)?;
+    if let Some(calls) = behind {
+        device.fail_at(calls.saturating_add(1));
+    }
+    Ok(device)
+}
+
 /// Imports an archive into an image. So many calls of the device succeed before one fails, where that is asked for, and what wasn't
 /// synced is lost.
 pub fn imported(
@@ -55,14 +77,8 @@ pub fn imported(
     archive: &[u8],
     behind: Option<u64>,
 ) -> Result<Ended> {
-    let mut device = MemDevice::from_bytes(alloc, image)?;
-    if let Some(calls) = behind {
-        device.fail_at(calls.saturating_add(1));
-    }
-    let names = Names {
-        users: Accounts::read(alloc, &[])?,
-        groups: Accounts::read(alloc, &[])?,
-    };
+    let names = no_names(alloc)?;
+    let device = device_of(alloc, image, behind)?;
     let mut input = archive;
     let lines = Vec::new(alloc);
     let Imported {

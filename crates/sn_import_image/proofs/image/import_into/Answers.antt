@@ -1,6 +1,6 @@
 use Rattle.std.proofs.Common.{◌++◌, subst}
 use Rattle.std.specs.Prelude.{Result}
-use Rattle.sn_import_run.proofs.Made.{adds_more}
+use Rattle.sn_import_calls.proofs.Made.{adds_more}
 use Rattle.sn_import_image.specs.Imports.{made}
 use Rattle.sn_import_image.specs.Opening.{IsOpened, first_calls}
 use Rattle.sn_import_image.specs.declared.fault.ImportFault.{ImportFault}

@@ -1,6 +1,6 @@
 use Rattle.std.proofs.Common.{[], ◌∷◌, ◌++◌, subst}
 use Rattle.std.specs.Prelude.{Result}
-use Rattle.sn_import_run.proofs.Made.{adds_more}
+use Rattle.sn_import_calls.proofs.Made.{adds_more}
 use Rattle.sn_import_image.specs.Opening.{IsOpened, access, login, stat}
 use Rattle.sn_import_image.specs.declared.fault.ImportFault.{ImportFault}
 use Rattle.sn_import_image.proofs.Openings.{opened_more, opened_stop}

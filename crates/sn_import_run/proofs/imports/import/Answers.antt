@@ -1,7 +1,7 @@
 use Rattle.std.proofs.Common.{◌++◌, sym, ◌∙◌}
-use Rattle.sn_import_run.specs.Carried.{stop_of}
+use Rattle.sn_import_calls.specs.Carried.{stop_of}
 use Rattle.sn_import_run.proofs.Done.{import_goes, import_over}
-use Rattle.sn_import_run.proofs.Made.{adds_more}
+use Rattle.sn_import_calls.proofs.Made.{adds_more}
 use Rattle.sn_import_run.proofs.imports.import.Goals as goal
 
 pub make_entries-outcome-requires : goal.make_entries-outcome-requires

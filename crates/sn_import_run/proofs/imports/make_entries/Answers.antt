@@ -3,17 +3,17 @@ use Rattle.std.proofs.lemmas.Bool.{false≢true}
 use Rattle.std.specs.declared.option.Option.{Option}
 use Rattle.sn_import.specs.declared.object.Object.{Object}
 use Rattle.sn_untar.specs.Steps.{State, is_ended, start, state_of}
-use Rattle.sn_import_run.specs.Carried.{stop_of}
-use Rattle.sn_import_run.specs.Entries.{IsTaken}
-use Rattle.sn_import_run.specs.Files.{Came}
+use Rattle.sn_import_calls.specs.Carried.{stop_of}
+use Rattle.sn_import_files.specs.Entries.{IsTaken}
+use Rattle.sn_import_files.specs.Files.{Came}
 use Rattle.sn_import_run.specs.Imports.{end_told}
-use Rattle.sn_import_run.specs.Streams.{Takes}
-use Rattle.sn_import_run.specs.declared.stop.Stop.{Stop}
-use Rattle.sn_import_run.specs.declared.stop.Stop.TheVariants.{Unread}
+use Rattle.sn_import_files.specs.Streams.{Takes}
+use Rattle.sn_import_calls.specs.declared.stop.Stop.{Stop}
+use Rattle.sn_import_calls.specs.declared.stop.Stop.TheVariants.{Unread}
 use Rattle.sn_import_run.proofs.Awaiting.{told_awaits}
 use Rattle.sn_import_run.proofs.Done.{Progress, read_end, read_whole, read_within, taken_count, taken_last, taken_next}
-use Rattle.sn_import_run.proofs.Made.{adds_more, adds_none}
-use Rattle.sn_import_run.proofs.Parts.{takes_none}
+use Rattle.sn_import_calls.proofs.Made.{adds_more, adds_none}
+use Rattle.sn_import_files.proofs.Parts.{takes_none}
 use Rattle.sn_import_run.proofs.imports.make_entries.Goals as goal
 
 pub loop-turn-init : goal.loop-turn-init

@@ -1,6 +1,6 @@
 use Rattle.std.proofs.Common.{◌≡◌, ◌≤◌, true, false, []}
 use Rattle.sn_untar.specs.Steps.{is_ended, start, state_of}
-use Rattle.sn_import_run.specs.Carried.{Adds}
+use Rattle.sn_import_calls.specs.Carried.{Adds}
 use Rattle.sn_import_run.proofs.Done.{Progress}
 use Rattle.sn_import_run.proofs.imports.make_entries.Given as goal
 

@@ -3,11 +3,11 @@ use Rattle.std.specs.Prelude.{None}
 use Rattle.std.proofs.lemmas.List.{append-nil}
 use Rattle.sn_untar.specs.Steps.{state_of}
 use Rattle.sn_untar.specs.declared.told.Told.{Told}
-use Rattle.sn_import_run.specs.Entries.{IsTaken, cut, report}
-use Rattle.sn_import_run.specs.declared.why.Why.TheVariants as why
-use Rattle.sn_import_run.proofs.Contents.{arrives_none}
-use Rattle.sn_import_run.proofs.Entry.{taken_other}
-use Rattle.sn_import_run.proofs.Made.{adds_none}
+use Rattle.sn_import_files.specs.Entries.{IsTaken, cut, report}
+use Rattle.sn_import_calls.specs.declared.why.Why.TheVariants as why
+use Rattle.sn_import_files.proofs.Contents.{arrives_none}
+use Rattle.sn_import_files.proofs.Entry.{taken_other}
+use Rattle.sn_import_calls.proofs.Made.{adds_none}
 use Rattle.sn_import_run.proofs.imports.take.Goals as goal
 
 pub returns-in-Cut : goal.returns-in-Cut

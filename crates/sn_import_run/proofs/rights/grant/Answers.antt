@@ -1,9 +1,9 @@
 use Rattle.std.proofs.Common.{List, None, Some, [], refl, subst, ℕ, ◌++◌, ◌∷◌}
-use Rattle.sn_import_run.specs.Acts.{Told}
-use Rattle.sn_import_run.specs.Carried.{Grows}
+use Rattle.sn_import_calls.specs.Acts.{Told}
+use Rattle.sn_import_calls.specs.Carried.{Grows}
 use Rattle.sn_import_run.specs.Imports.{stop_told}
-use Rattle.sn_import_run.specs.declared.why.Why.TheVariants.{Stop}
-use Rattle.sn_import_run.proofs.Made.{adds_more}
+use Rattle.sn_import_calls.specs.declared.why.Why.TheVariants.{Stop}
+use Rattle.sn_import_calls.proofs.Made.{adds_more}
 use Rattle.sn_import_run.proofs.rights.grant.Goals as goal
 
 pub returns-in-Err : goal.returns-in-Err

@@ -1,6 +1,6 @@
 use Rattle.std.proofs.Common.{◌++◌, ◌<◌, ◌≤◌, [], length, arith, sym, ◌∙◌}
 use Rattle.sn_import_run.proofs.Granted.{granted_all, granted_last, granted_more}
-use Rattle.sn_import_run.proofs.Made.{adds_more, adds_none}
+use Rattle.sn_import_calls.proofs.Made.{adds_more, adds_none}
 use Rattle.sn_import_run.proofs.rights.grant_all.Goals as goal
 
 pub loop-object-init : goal.loop-object-init

@@ -1,6 +1,6 @@
 use Rattle.std.proofs.Common.{List, ◌++◌, drop}
-use Rattle.sn_import_run.specs.Acts.{Act}
-use Rattle.sn_import_run.specs.Carried.{Adds}
+use Rattle.sn_import_calls.specs.Acts.{Act}
+use Rattle.sn_import_calls.specs.Carried.{Adds}
 use Rattle.sn_import_run.specs.Imports.{AreGranted}
 use Rattle.sn_import_run.proofs.rights.grant_all.Given as goal
 

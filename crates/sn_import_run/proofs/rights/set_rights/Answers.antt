@@ -1,9 +1,9 @@
 use Rattle.std.proofs.Common.{[], ◌∷◌, None, List, subst}
 use Rattle.sn_import.specs.declared.object.Object.{Object}
-use Rattle.sn_import_run.specs.Acts.{Told}
+use Rattle.sn_import_calls.specs.Acts.{Told}
 use Rattle.sn_import_run.specs.Imports.{AreGranted, sorted, unsorted}
-use Rattle.sn_import_run.specs.declared.stop.Stop.TheVariants.{Memory}
-use Rattle.sn_import_run.specs.declared.why.Why.TheVariants.{Stop}
+use Rattle.sn_import_calls.specs.declared.stop.Stop.TheVariants.{Memory}
+use Rattle.sn_import_calls.specs.declared.why.Why.TheVariants.{Stop}
 use Rattle.sn_import_run.proofs.rights.set_rights.Goals as goal
 
 pub returns-in-Ok : goal.returns-in-Ok

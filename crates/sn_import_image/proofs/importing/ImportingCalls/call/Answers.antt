@@ -1,7 +1,7 @@
 use Rattle.std.proofs.Common.{[], ◌∷◌, length, replicate, refl, subst}
 use Rattle.sn_model.specs.declared.call.Event.TheVariants as event
-use Rattle.sn_import_run.specs.Acts.{Called}
-use Rattle.sn_import_run.specs.Carried.{Grows}
+use Rattle.sn_import_calls.specs.Acts.{Called}
+use Rattle.sn_import_calls.specs.Carried.{Grows}
 use Rattle.sn_import_image.specs.Importing.{Did, Seen}
 use Rattle.sn_serving.proofs.ServedLemmas.{leads_more}
 use Rattle.sn_import_image.proofs.Doing.{did_call}

@@ -1,6 +1,6 @@
 use Rattle.std.proofs.Common.{[], ◌∷◌, true, refl, subst}
-use Rattle.sn_import_run.specs.Acts.{Told}
-use Rattle.sn_import_run.specs.Carried.{Grows}
+use Rattle.sn_import_calls.specs.Acts.{Told}
+use Rattle.sn_import_calls.specs.Carried.{Grows}
 use Rattle.sn_import_image.specs.Importing.{Did, Seen}
 use Rattle.sn_import_image.proofs.Doing.{did_report}
 use Rattle.sn_import_image.proofs.importing.ImportingCalls.report.Goals as goal

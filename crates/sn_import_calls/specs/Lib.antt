@@ -1,0 +1,4 @@
+pub mod Stops
+pub mod Acts
+pub mod Answers
+pub mod Carried
