@@ -18,9 +18,9 @@ use Rattle.sn_model.specs.World.{Trees, World, trees_of}
 use Rattle.sn_run.specs.Places.{Place}
 use Rattle.sn_run.proofs.CutLemmas.{found_settled}
 use Rattle.sn_serving.specs.Served.{IsIn, Leads, Served, Unmounts, place_in}
-use Rattle.sn_export_walk.specs.Serving.{InState, IsStepOf, Reads}
-use Rattle.sn_export_walk.specs.declared.fault.ExportFault.{ExportFault}
-use Rattle.sn_export_walk.specs.declared.fault.ExportFault.TheVariants as export
+use Rattle.sn_export_reading.specs.Serving.{InState, IsStepOf, Reads}
+use Rattle.sn_export_reading.specs.declared.fault.ExportFault.{ExportFault}
+use Rattle.sn_export_reading.specs.declared.fault.ExportFault.TheVariants as export
 use Rattle.sn_export_image.specs.Faults.{outcome_of}
 use Rattle.sn_export_image.specs.declared.fault.ImageFault.{ImageFault}
 use Rattle.sn_export_image.specs.declared.fault.ImageFault.TheVariants as fault

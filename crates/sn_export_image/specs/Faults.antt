@@ -2,8 +2,8 @@
 use Rattle.std.specs.Prelude.{Result, Ok, Err}
 use Rattle.sn_model.specs.declared.end.End.{End}
 use Rattle.sn_model.specs.declared.end.End.TheVariants as ending
-use Rattle.sn_export_walk.specs.declared.fault.ExportFault.{ExportFault}
-use Rattle.sn_export_walk.specs.declared.fault.ExportFault.TheVariants as export
+use Rattle.sn_export_reading.specs.declared.fault.ExportFault.{ExportFault}
+use Rattle.sn_export_reading.specs.declared.fault.ExportFault.TheVariants as export
 use Rattle.sn_export_image.specs.declared.fault.ImageFault.{ImageFault}
 use Rattle.sn_export_image.specs.declared.fault.ImageFault.TheVariants as fault
 

@@ -1,6 +1,6 @@
 //! The tree at a path of an image, as a tar stream: mounts a device, reads the tree by calls of user 0, writes it, and unmounts.
 //!
-//! The model. `Exporting` is a mounted file system (`sn_serving`) that answers the calls of `sn_export_walk`, over the world that it holds as
+//! The model. `Exporting` is a mounted file system (`sn_serving`) that answers the calls of `sn_export_reading`, over the world that it holds as
 //! long as it runs (`RunsOver` of `specs/Worlds`). A mount runs over the world that the device's disk is an image of, so what
 //! [`export_image`] writes is the archive of what the path leads user 0 to in that world, or after an error the front of it.
 //!

@@ -6,7 +6,6 @@ use Rattle.std.specs.Cmp.Lexicographic.{pointwise}
 use Rattle.std.specs.FinMap as finite
 use Rattle.sn_acl.specs.Credential.{Credential}
 use Rattle.sn_limits.specs.Names.{has_name_length, is_dots, is_name, is_name_byte, is_name_spelled}
-use Rattle.sn_limits.specs.Versions.{limits_written}
 use Rattle.sn_limits.specs.declared.limits.Limits.{Limits}
 use Rattle.sn_walk.specs.declared.fault.PathFault.{PathFault}
 use Rattle.sn_walk.specs.declared.fault.PathFault.TheVariants.{Misspelt, TooLong}
@@ -26,7 +25,6 @@ use Rattle.sn_walk.specs.Views.{ViewedTrees, attributes_at, child_of, hides, is_
 use Rattle.sn_walk.specs.Walks.{admitted, found_as, found_at, passed, present, walk_from, walk_of}
 use Rattle.sn_walk.proofs.ChainLemmas.{bind_ok}
 use Rattle.sn_model.specs.declared.reply.FileStatus.{FileStatus}
-use Rattle.sn_model.specs.declared.reply.Refusal.{Refusal}
 use Rattle.sn_model.specs.Calls.{status_of}
 use Rattle.sn_model.specs.NameTree.{IsTree}
 use Rattle.sn_model.specs.Tests.{full, prefix, there}
@@ -34,14 +32,13 @@ use Rattle.sn_model.specs.Tree.{Node, Tree, attributes_of, link_to}
 use Rattle.sn_model.specs.World.{Trees, tree_in, viewed_if, viewed_trees}
 use Rattle.sn_model.proofs.DecisionLemmas.{seen_node, walked_ok}
 use Rattle.sn_export.specs.Archives.{Visit}
-use Rattle.sn_export_walk.specs.Serving.{AreFound, HasStatus, LeadsTo, reader}
-use Rattle.sn_export_walk.specs.Visiting.{IsAt, IsHere, image_below}
+use Rattle.sn_export_reading.specs.Serving.{HasStatus, LeadsTo, reader}
+use Rattle.sn_export_writing.specs.Visits.{IsAt}
+use Rattle.sn_export_walk.specs.Visiting.{IsHere, image_below}
 use Rattle.sn_export_walk.specs.declared.levels.Paths.{Paths}
+use Rattle.sn_export_reading.proofs.Leads.{path_ok, same_names}
 
 -- ---- the names of a path
-
-abbrev path_ok : List (List ℕ) → Result (List (List ℕ)) PathFault
-path_ok names = Ok names
 
 abbrev path_fault : PathFault → Result (List (List ℕ)) PathFault
 path_fault fault = Err fault
@@ -55,9 +52,6 @@ pub record IsSpelled (word : List ℕ) (names : List (List ℕ)) : Type 0 where
   pub rest : List ℕ
   pub whole : word ≡ 47 ∷ rest
   pub names_are : names ≡ components rest
-
-same_names : (a b : List (List ℕ)) → path_ok a ≡ Ok b → a ≡ b
-same_names a b e = cc
 
 all_named : (all names : List (List ℕ)) → of_names all ≡ Ok names → names ≡ all
 all_named all names e =
@@ -299,24 +293,6 @@ module _ (limits : Limits) (tree : Tree) (whole : IsTree limits tree) (directory
       cc
 
 -- ---- what is at a place
-
-abbrev found_ok : Found → Result Found Refusal
-found_ok f = Ok f
-
--- a path leads to one thing
-pub leads_once : (trees : Trees) (path : List ℕ) (a b : Found) → LeadsTo trees path a → LeadsTo trees path b → a ≡ b
-leads_once trees path a b is-a is-b =
-    let names : path_ok is-a.names ≡ Ok is-b.names = sym is-a.spelled ∙ is-b.spelled in
-    let same = same_names is-a.names is-b.names names in
-    let found : found_ok a ≡ Ok b = sym is-a.leads ∙ ap (full (viewed_trees trees) reader 1) same ∙ is-b.leads in
-    cc
-
-pub names_once : (trees : Trees) (path : List ℕ) (a : Found) (names : List (List ℕ)) → (is : LeadsTo trees path a) → parsed path ≡ Ok names → is.names ≡ names
-names_once trees path a names is e = same_names is.names names (sym is.spelled ∙ e)
-
-pub tree_is_whole : (trees : Trees) (home : Home) (tree : Tree) → AreFound trees → tree_in trees home ≡ Some tree → IsTree limits_written tree
-tree_is_whole trees Live tree are e = let same : trees.live ≡ tree = cc in subst (λ (t : Tree). IsTree limits_written t) same are.live
-tree_is_whole trees (Frozen name) tree are e = are.frozen name tree e
 
 pub seen_at : (trees : Trees) (path : List ℕ) (found : Found) → LeadsTo trees path found → attributes_at (viewed_trees trees) found.object ≡ Some found.attributes
 seen_at trees path found leads = let f = full_is (viewed_trees trees) reader leads.names found leads.leads in f.last.seen

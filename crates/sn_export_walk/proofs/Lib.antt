@@ -1,14 +1,8 @@
-pub mod Faults
-pub mod Members
-pub mod Kept
-pub mod Contents
 pub mod Ends
-pub mod Machine
 pub mod Order
 pub mod Names
 pub mod Stack
 pub mod Below
-pub mod Told
 pub mod Steps
 pub mod Placed
 pub mod Places

@@ -7,11 +7,12 @@ use Rattle.sn_model.specs.Tree.{Tree}
 use Rattle.sn_model.specs.World.{Trees}
 use Rattle.sn_walk.specs.declared.object.Home.{Home}
 use Rattle.sn_export.specs.Archives.{Visit, below, visits_in}
-use Rattle.sn_export_walk.specs.Serving.{AreFound, LeadsTo}
+use Rattle.sn_export_reading.specs.Serving.{AreFound, LeadsTo}
 use Rattle.sn_export_walk.specs.Visiting.{IsLevel, IsNextIn, image_below}
 use Rattle.sn_export_walk.specs.declared.levels.Level.{Level}
 use Rattle.sn_export_walk.specs.declared.levels.Paths.{Paths}
-use Rattle.sn_export_walk.proofs.Below.{leads_below, name_is, tree_is_whole}
+use Rattle.sn_export_walk.proofs.Below.{leads_below, name_is}
+use Rattle.sn_export_reading.proofs.Leads.{tree_is_whole}
 use Rattle.sn_export_walk.proofs.Names.{name_left, no_name_left}
 
 pub get_past : {A : Type 0} (xs : List A) (n : ℕ) → length xs ≤ n → slice_get xs n ≡ None

@@ -1,5 +1,3 @@
-pub mod Streams
-pub mod Walks
-pub mod Serving
+pub mod Archives
 pub mod Visiting
-pub mod Faults
+pub mod Untold

@@ -5,12 +5,12 @@ ghost use Rattle.sn_limits.specs.Names.{is_name};
 ghost use Rattle.sn_model.specs.Tree.{Tree};
 ghost use Rattle.sn_model.specs.World.{Trees};
 ghost use Rattle.sn_walk.specs.declared.object.Home.{Home};
-ghost use Rattle.sn_export_walk.specs.Faults.{is_own};
-ghost use Rattle.sn_export_walk.specs.Serving.{AreFound};
+ghost use Rattle.sn_export_reading.specs.Faults.{is_own};
+ghost use Rattle.sn_export_reading.specs.Serving.{AreFound};
 ghost use Rattle.sn_export_walk.specs.Visiting.{IsLevel, IsNextIn, image_below};
-ghost use Rattle.sn_export_walk.specs.declared.fault.ExportFault.TheVariants.{Memory as no_memory};
+ghost use Rattle.sn_export_reading.specs.declared.fault.ExportFault.TheVariants.{Memory as no_memory};
 
-use crate::fault::ExportFault;
+use sn_export_reading::ExportFault;
 use sn_host_names::to_host;
 use sn_limits::is_name;
 use sn_model::Names;

@@ -1,18 +1,15 @@
 //! Walks the tree at a path by calls of user 0, and writes it as a tar stream, as it goes.
 //!
-//! The model. `Calls` has a predicate of worlds, and its reply to a call is that of a step of `sn_model`'s machine over each of them
-//! (`IsStepOf` of `specs/Serving`). Where there is one that a mount may find, what [`export`] writes is the archive of the tree that the
-//! path leads user 0 to (`IsArchive` of `sn_export`), or after an error the front of it; and the trees are still the same. Of calls of which nothing is known a weaker
-//! fact is left: `IsStream` of `specs/Streams` says that bytes are a stream of members, each with exactly the records and the head of what
-//! is told of it, as much content as its head says, filled up to a block, no default ACL but on a directory, and hard links only to files
-//! before them; and zeros at the end. [`export`] writes such a stream, or after an error the front of one.
+//! The model. Where calls are those of a machine over a world (`Calls` of `sn_export_reading`) that a mount may find, what [`export`] writes is
+//! the archive of the tree that the path leads user 0 to (`IsArchive` of `sn_export`), or after an error the front of it; and the trees are
+//! still the same. Of calls of which nothing is known a weaker fact is left: what [`export`] writes is a stream of some members (`IsStream` of
+//! `sn_export_writing`), or after an error the front of one.
 //!
-//! An error tells its reason (`specs/Faults`): `Calls` also has a predicate of the reply that it gave last, by which the fault is one of the
-//! path, of memory, or of the device and the mount.
+//! An error tells its reason, by the reply that was given last (`Tells` of `sn_export_reading`); what `Path` says of a world is in
+//! `specs/Untold`.
 //!
-//! The way through: `walk` has the loop over names, by `levels`, `visits` writes what lies at a path, `content` the bytes of a file,
-//! `reading` makes the calls, and `output` counts what is written. What a walk knows of the tree is in `specs/Visiting`, and of the stream
-//! in `specs/Walks`.
+//! The way through: `walk` has the loop over names, by `levels`. What lies at a path is read by `sn_export_reading` and written by
+//! `sn_export_writing`. What a walk knows of the tree is in `specs/Visiting`, and the archive of what a path leads to in `specs/Archives`.
 //!
 //! No call changes the tree. Memory: the paths and names of each directory above, which numbers were met, and for each file of more
 //! than one name the path where it was met first.
@@ -24,14 +21,8 @@
 //! ```
 #![tactic(auto)]
 
-mod content;
-mod fault;
 mod levels;
-mod output;
-mod reading;
-mod visits;
 mod walk;
 
-pub use fault::ExportFault;
-pub use reading::Calls;
+pub use sn_export_reading::{Calls, ExportFault};
 pub use walk::export;

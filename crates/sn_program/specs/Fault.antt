@@ -4,7 +4,7 @@ use Rattle.sn_model.specs.declared.end.End.{End}
 use Rattle.sn_model.specs.declared.end.End.TheVariants as end
 use Rattle.sn_export_image.specs.declared.fault.ImageFault.{ImageFault}
 use Rattle.sn_export_image.specs.declared.fault.ImageFault.TheVariants as image
-use Rattle.sn_export_walk.specs.declared.fault.ExportFault.TheVariants as export
+use Rattle.sn_export_reading.specs.declared.fault.ExportFault.TheVariants as export
 use Rattle.sn_import_image.specs.declared.fault.ImportFault.{ImportFault}
 use Rattle.sn_import_image.specs.declared.fault.ImportFault.TheVariants as import
 use Rattle.sn_script.specs.declared.fault.ScriptFault.TheVariants as reading

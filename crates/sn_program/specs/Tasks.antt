@@ -22,7 +22,7 @@ use Rattle.sn_command.specs.declared.command.Checker.TheVariants as by
 use Rattle.sn_command.specs.declared.command.Task.{Task}
 use Rattle.sn_command.specs.declared.command.Task.TheVariants as task
 use Rattle.sn_script.specs.Replies.{reply_line}
-use Rattle.sn_export_walk.specs.Streams.{BeginsStream, WritesStream}
+use Rattle.sn_export_writing.specs.Streams.{BeginsStream, WritesStream}
 use Rattle.sn_output.specs.Outputs.{AppendsFront}
 use Rattle.sn_device.specs.Disk.{Disk}
 use Rattle.sn_mount_streams.specs.Told.{tells_anything}

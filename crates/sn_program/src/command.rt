@@ -4,7 +4,7 @@ ghost use Rattle.std.specs.declared.option.Option.{Option};
 ghost use Rattle.std.specs.Io.KnownBytes.{Keeps};
 ghost use Rattle.sn_device.specs.Memory.{contents_of, disk_of, first, status_of};
 ghost use Rattle.sn_device.specs.Status.{uncalled};
-ghost use Rattle.sn_export_walk.specs.Streams.{BeginsStream, WritesStream};
+ghost use Rattle.sn_export_writing.specs.Streams.{BeginsStream, WritesStream};
 ghost use Rattle.sn_layout.specs.Geometry.{IsDiskSize};
 ghost use Rattle.sn_mkfs.specs.declared.fault.MkfsFault.TheVariants as mkfs_fault;
 ghost use Rattle.sn_model.specs.declared.fault.Damage.{Damage as Kind};

@@ -2,8 +2,8 @@
 ghost use Rattle.std.specs.Prelude.{◌≡◌, ◌≢◌, IsErrOf, IsTrue, IfErr, OnOk};
 ghost use Rattle.sn_check.specs.Verdicts.{IsCause};
 ghost use Rattle.sn_device.specs.Disk.{reads};
-ghost use Rattle.sn_export_walk.specs.Serving.{BeginsArchive, WritesArchive};
-ghost use Rattle.sn_export_walk.specs.Streams.{BeginsStream, WritesStream};
+ghost use Rattle.sn_export_walk.specs.Archives.{BeginsArchive, WritesArchive};
+ghost use Rattle.sn_export_writing.specs.Streams.{BeginsStream, WritesStream};
 ghost use Rattle.sn_held.specs.Images.{IsImage};
 ghost use Rattle.sn_model.specs.World.{World, trees_of};
 ghost use Rattle.sn_model.specs.declared.fault.MountFault.{MountFault as Why};

@@ -1,11 +1,11 @@
 //! Drawn trees, and snapshots of them.
 
 use crate::drawing::calls_of;
-use crate::reading::lines_of;
 use crate::walking::Walk;
 use anyhow::{Result, ensure};
 use sn_device::MemDevice;
 use sn_export_image::{Exported, ImageFault, export_image};
+use sn_testing_archives::lines_of;
 use sn_testing_mounts::Disk;
 use sn_testing_tables::{Report, Tally};
 use std::alloc::Global;

@@ -1,7 +1,7 @@
 //! Archives of trees that calls have drawn on a disk in memory.
 //!
-//! `drawing` has the calls, `walking` what calls say of the tree after them, and `reading` what a plain reader finds in an archive:
-//! both as a line for each name. `drawn` compares the two, and `failing` has exports of which each call of the device fails in turn.
+//! `drawing` has the calls, and `walking` what calls say of the tree after them, as a line for each name. `drawn` compares these lines with
+//! those of a plain reader of the archive (`sn_testing_archives`), and `failing` has exports of which each call of the device fails in turn.
 //!
 //! No clause promises what comes out, since it is compared: `sn_tests_archives` runs it.
 #![tactic(auto)]
@@ -9,8 +9,6 @@
 mod drawing;
 mod drawn;
 mod failing;
-mod lines;
-mod reading;
 mod walking;
 
 use anyhow::Result;

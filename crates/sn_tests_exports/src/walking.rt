@@ -1,7 +1,7 @@
 //! What calls say of a tree.
 
-use crate::lines::{Facts, push_facts};
 use anyhow::{Context, Result, bail, ensure};
+use sn_testing_archives::{Facts, push_facts};
 use sn_testing_mounts::Disk;
 use std::alloc::Global;
 

@@ -2,7 +2,7 @@
 //! whole trees.
 //!
 //! The tables of the cases are in the data of `sn_tests_messages`: their head lines say where the answers come from. `heads`,
-//! `records`, `acls` and `trees` have their words, `nodes` the tree that is written, and `runs` spells bytes.
+//! `records`, `acls` and `trees` have their words, and `nodes` the tree that is written.
 //!
 //! No clause promises what comes out, since it is compared: `sn_tests_messages` runs it.
 #![tactic(auto)]
@@ -11,11 +11,9 @@ mod acls;
 mod heads;
 mod nodes;
 mod records;
-mod runs;
 mod trees;
 
 use anyhow::{Context, Result};
-pub use runs::push_runs;
 use sn_testing_tables::Report;
 use std::alloc::Global;
 

@@ -1,9 +1,9 @@
 //! Whole trees that tables have.
 
 use crate::nodes::{Node, Tree};
-use crate::runs::push_runs;
 use anyhow::{Context, Result};
 use sn_export_walk::{ExportFault, export};
+use sn_testing_archives::push_runs;
 use sn_testing_tables::{Case, Report};
 use std::alloc::Global;
 

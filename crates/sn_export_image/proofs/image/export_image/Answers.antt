@@ -3,9 +3,10 @@ use Rattle.std.specs.Prelude.{IfErr, OnOk, Result}
 use Rattle.sn_device.specs.Disk.{reads}
 use Rattle.sn_model.specs.World.{trees_of}
 use Rattle.sn_serving.specs.Served.{Served}
-use Rattle.sn_export_walk.specs.Faults.{IsUntold}
-use Rattle.sn_export_walk.specs.declared.fault.ExportFault.TheVariants as export
-use Rattle.sn_export_walk.specs.Serving.{Reads, WritesArchive}
+use Rattle.sn_export_walk.specs.Untold.{IsUntold}
+use Rattle.sn_export_reading.specs.declared.fault.ExportFault.TheVariants as export
+use Rattle.sn_export_reading.specs.Serving.{Reads}
+use Rattle.sn_export_walk.specs.Archives.{WritesArchive}
 use Rattle.sn_export_walk.proofs.Archived as archived
 use Rattle.sn_export_walk.proofs.Ends.{begins_nothing}
 use Rattle.sn_export_image.specs.Worlds.{HasTreesOf, RunsOver}

@@ -1,6 +1,6 @@
 use Rattle.sn_output.proofs.OutputLemmas.{front_kept}
 use Rattle.std.proofs.Common.{refl}
-use Rattle.sn_export_walk.proofs.Faults.{err_tells, error_as, never_path}
+use Rattle.sn_export_reading.proofs.Faults.{err_tells, error_as, never_path}
 use Rattle.sn_export_image.proofs.StreamLemmas.{begins_kept}
 use Rattle.sn_export_image.proofs.image.write_tree.Goals as goal
 

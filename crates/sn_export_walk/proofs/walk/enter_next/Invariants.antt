@@ -3,7 +3,7 @@ use Rattle.sn_export.specs.Archives.{Visit}
 use Rattle.sn_model.specs.Tree.{Tree}
 use Rattle.sn_model.specs.World.{Trees}
 use Rattle.sn_walk.specs.declared.object.Home.{Home}
-use Rattle.sn_export_walk.specs.Serving.{AreFound}
+use Rattle.sn_export_reading.specs.Serving.{AreFound}
 use Rattle.sn_export_walk.specs.Visiting.{AreLevels}
 use Rattle.sn_export_walk.proofs.walk.enter_next.Given as goal
 

@@ -1,12 +1,12 @@
 use Rattle.std.proofs.Common.{inl, inr, refl}
-use Rattle.sn_export_walk.proofs.Faults.{err_tells, error_as, tells_own, all_own, all_no_path, all_never, never_path}
+use Rattle.sn_export_reading.proofs.Faults.{err_tells, error_as, tells_own, all_own, all_no_path, all_never, never_path}
 use Rattle.std.proofs.lemmas.Result.{on_ok_weaker}
 use Rattle.sn_model.specs.World.{trees_of}
 use Rattle.sn_export_walk.proofs.Archived.{begins_archive, begins_nothing, first, writes_archive, untold}
 use Rattle.sn_export_walk.proofs.Archived as archived
 use Rattle.sn_export_walk.proofs.Ends.{begins_end, begins_stream}
 use Rattle.sn_export_walk.proofs.Ends as ends
-use Rattle.sn_export_walk.proofs.Placed.{on_ok_always}
+use Rattle.sn_export_writing.proofs.Files.{on_ok_always}
 use Rattle.sn_export_walk.proofs.walk.export.Goals as goal
 
 pub returns-in_err-paths-clause-front : goal.returns-in_err-paths-clause-front

@@ -1,9 +1,9 @@
-use Rattle.sn_export_walk.proofs.Faults.{err_tells, error_as, tells_own, all_no_path, all_never, never_path}
+use Rattle.sn_export_reading.proofs.Faults.{err_tells, error_as, tells_own, all_no_path, all_never, never_path}
 use Rattle.std.proofs.Common.{◌≡◌, ◌∙◌, ap, arith, inr, sym}
 use Rattle.sn_model.specs.declared.reply.FileStatus.{FileStatus}
 use Rattle.sn_walk.specs.declared.walking.Found.{Found}
 use Rattle.sn_walk.specs.Objects.{number_of}
-use Rattle.sn_export_walk.proofs.Below.{leads_once}
+use Rattle.sn_export_reading.proofs.Leads.{leads_once}
 use Rattle.sn_model.specs.World.{trees_of}
 use Rattle.sn_export_walk.proofs.Archived.{begins_at}
 use Rattle.sn_export_walk.proofs.Placed.{if_ok_pair, if_ok_two}

@@ -1,5 +1,5 @@
-use Rattle.sn_export_walk.specs.Faults.{LeadsNowhere}
-use Rattle.sn_export_walk.proofs.Faults.{err_tells, error_as, own_told, own_no_path, as_own, all_never, never_path}
+use Rattle.sn_export_reading.specs.Faults.{LeadsNowhere}
+use Rattle.sn_export_reading.proofs.Faults.{err_tells, error_as, own_told, own_no_path, as_own, all_never, never_path}
 use Rattle.std.proofs.Common.{arith, Bool, Global, List, Vec, ℕ, true, ◌++◌, ◌≡◌, ◌∙◌, subst, sym, ap, refl}
 use Rattle.std.specs.Prelude.{drop, length, slice_get, slice_set}
 use Rattle.std.proofs.lemmas.List.{length-set, take_at}
@@ -7,14 +7,15 @@ use Rattle.std.proofs.lemmas.Result.{on_ok_weaker}
 use Rattle.sn_limits.specs.declared.kind.Kind.TheVariants.{Directory, File}
 use Rattle.sn_model.specs.declared.reply.FileStatus.{FileStatus}
 use Rattle.sn_export.specs.Archives.{Visit}
-use Rattle.sn_export_walk.specs.Serving.{HasStatus, LeadsTo}
-use Rattle.sn_export_walk.specs.Visiting.{AreLevels, IsAt, IsSeen, Place}
+use Rattle.sn_export_reading.specs.Serving.{HasStatus, LeadsTo}
+use Rattle.sn_export_walk.specs.Visiting.{AreLevels}
+use Rattle.sn_export_writing.specs.Visits.{IsAt, IsSeen, Place}
 use Rattle.sn_export_walk.proofs.Below.{is_at}
-use Rattle.sn_export_walk.proofs.Kept.{begins_none}
+use Rattle.sn_export_writing.proofs.Kept.{begins_none}
 use Rattle.sn_export_walk.proofs.Order.{all_seen}
 use Rattle.sn_export_walk.proofs.Placed.{begun_at, keeps_first, none_in_it, wrote_at}
-use Rattle.sn_export_walk.proofs.Told.{access_is, begins_directory, writes_directory}
-use Rattle.sn_export_walk.proofs.Told as told
+use Rattle.sn_export_writing.proofs.Told.{access_is, begins_directory, writes_directory}
+use Rattle.sn_export_writing.proofs.Told as told
 use Rattle.sn_export_walk.proofs.walk.visit.Goals as goal
 
 pub returns-in_err-status-clause-front : goal.returns-in_err-status-clause-front
@@ -74,7 +75,7 @@ returns-in_ok-acls-in-File-clause-visited g c = λ trees home tree seen pending 
     let placed = subst (λ (p : List ℕ). IsAt trees at p c.as_slice-told.result.now c.in_ok-status.status) (sym c.as_slice-image.ensures.value) (subst (λ (p : List ℕ). IsAt trees at c.args.paths.image.items p c.in_ok-status.status) (sym c.as_slice-told.ensures.value) a.2) in
     let seen_before = keeps.met c.in_ok-status.status.number c.in_ok-was_met.was_met (ap (λ (m : List Bool). slice_get m c.in_ok-status.status.number) (sym c.as_mut_slice.ensures.value) ∙ c.in_ok-was_met.ensures.was) in
     let fresh : IsSeen c.in_ok-was_met.was_met visit.number seen = subst (λ (n : ℕ). IsSeen c.in_ok-was_met.was_met n seen) (sym number) seen_before in
-    let empty = none_in_it trees at c.args.paths.image.items c.args.paths.told.items c.in_ok-status.status acls a.2 kind access c.in_ok-acls-in-File.ensures.plain s.1.are_found in
+    let empty = none_in_it trees at c.args.paths.image.items c.args.paths.told.items c.in_ok-status.status a.2 kind s.1.are_found in
     on_ok_weaker c.put_name.result (λ w. (
       wrote_at tree seen visit a.1 _ _ _ _ a.2.node_is w.0,
       subst (λ (vs : List Visit). AreLevels trees home tree c.args.levels.now.items (vs ++ pending)) (sym empty) levels,

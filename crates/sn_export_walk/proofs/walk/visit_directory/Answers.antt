@@ -1,13 +1,14 @@
-use Rattle.sn_export_walk.proofs.Faults.{err_tells, error_as, own_told, own_no_path, as_own, tells_own, all_no_path}
+use Rattle.sn_export_reading.proofs.Faults.{err_tells, error_as, own_told, own_no_path, as_own, tells_own, all_no_path}
 use Rattle.std.proofs.Common.{◌∙◌, ◌++◌, ◌∷◌, List, ℕ, [], ap, inl, refl, subst, sym, inr}
 use Rattle.std.proofs.lemmas.Result.{on_ok_weaker}
 use Rattle.sn_tar.specs.declared.kind.Kind.TheVariants as kinds
 use Rattle.sn_export.specs.Archives.{visits_in}
-use Rattle.sn_export_walk.specs.Serving.{LeadsTo}
-use Rattle.sn_export_walk.specs.Visiting.{AreLevels, entry_told}
-use Rattle.sn_export_walk.specs.Walks.{BeginsHeads, WritesHeads}
+use Rattle.sn_export_reading.specs.Serving.{LeadsTo}
+use Rattle.sn_export_walk.specs.Visiting.{AreLevels}
+use Rattle.sn_export_writing.specs.Visits.{entry_told}
+use Rattle.sn_export_writing.specs.Writing.{BeginsHeads, WritesHeads}
 use Rattle.sn_export_walk.specs.declared.levels.Level.{Level}
-use Rattle.sn_export_walk.proofs.Kept.{begins_none, one_known}
+use Rattle.sn_export_writing.proofs.Kept.{begins_none, one_known}
 use Rattle.sn_export_walk.proofs.Placed.{directory_begun, directory_written, level_is}
 use Rattle.sn_export_walk.proofs.Stack.{on_top}
 use Rattle.sn_export_walk.proofs.walk.visit_directory.Goals as goal

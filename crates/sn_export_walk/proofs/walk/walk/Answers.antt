@@ -1,7 +1,7 @@
-use Rattle.sn_export_walk.proofs.Faults.{err_tells, error_as, own_told, own_no_path, never_path}
+use Rattle.sn_export_reading.proofs.Faults.{err_tells, error_as, own_told, own_no_path, never_path}
 use Rattle.std.proofs.Common.{[], ◌∷◌, ◌++◌, List, Option, refl, subst, sym, inl, inr}
 use Rattle.sn_export.specs.Archives.{Visit}
-use Rattle.sn_export_walk.proofs.Kept.{begins_more, writes_more}
+use Rattle.sn_export_writing.proofs.Kept.{begins_more, writes_more}
 use Rattle.sn_export_walk.proofs.Ends.{has_begun, nothing_known}
 use Rattle.sn_export_walk.proofs.Placed.{keeps_none}
 use Rattle.sn_export_walk.proofs.Steps.{HasVisited, visit_begun, visited_all, visited_begun, visited_more, visited_none}

@@ -3,10 +3,11 @@ use Rattle.sn_export.specs.Archives.{Visit}
 use Rattle.sn_model.specs.Tree.{Tree}
 use Rattle.sn_model.specs.World.{Trees}
 use Rattle.sn_walk.specs.declared.object.Home.{Home}
-use Rattle.sn_export_walk.specs.Faults.{Goes}
-use Rattle.sn_export_walk.specs.Serving.{Reads}
-use Rattle.sn_export_walk.specs.Visiting.{AreLevels, IsHere, Keeps}
-use Rattle.sn_export_walk.specs.Walks.{Writes}
+use Rattle.sn_export_reading.specs.Faults.{Goes}
+use Rattle.sn_export_reading.specs.Serving.{Reads}
+use Rattle.sn_export_walk.specs.Visiting.{AreLevels, IsHere}
+use Rattle.sn_export_writing.specs.Visits.{Keeps}
+use Rattle.sn_export_writing.specs.Writing.{Writes}
 use Rattle.sn_export_walk.proofs.Steps.{HasVisited}
 use Rattle.sn_export_walk.proofs.walk.walk.Given as goal
 

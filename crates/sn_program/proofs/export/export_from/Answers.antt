@@ -1,7 +1,7 @@
 use Rattle.std.proofs.Common.{List, ℕ, subst}
 use Rattle.std.specs.Prelude.{OnOk, Result}
 use Rattle.sn_export_image.specs.declared.fault.ImageFault.{ImageFault}
-use Rattle.sn_export_walk.specs.Serving.{BeginsArchive, WritesArchive}
+use Rattle.sn_export_walk.specs.Archives.{BeginsArchive, WritesArchive}
 use Rattle.sn_model.specs.World.{trees_of}
 use Rattle.sn_program.proofs.export.export_from.Goals as goal
 

@@ -1,0 +1,26 @@
+use Rattle.sn_export_reading.specs.Faults.{refusal_in}
+use Rattle.sn_export_reading.proofs.Faults.{granted, told_of, never_of_path, err_tells}
+use Rattle.std.proofs.Common.{◌≡◌, List, ℕ, subst, ap, inr}
+use Rattle.sn_model.specs.declared.call.Call.TheVariants as call
+use Rattle.sn_model.specs.declared.reply.Reply.TheVariants as answer
+use Rattle.sn_export_reading.specs.Serving.{IsStepOf}
+use Rattle.sn_export_reading.proofs.Machine.{getacl_told}
+use Rattle.sn_export_reading.proofs.reading.acl_of.Goals as goal
+
+pub returns-in-Acl-clause-acl : goal.returns-in-Acl-clause-acl
+returns-in-Acl-clause-acl g c = λ trees r.
+    (let is : c.call.result ≡ answer.Acl c.in-Acl.acl = c.in-Acl.is in
+    let step = subst (λ (p : List ℕ). IsStepOf r.world 0 (call.GetAcl p c.args.kind) c.call.result (g.C.Calls.serves c.call.new.self)) c.in_ok-new.ensures (c.call.ensures.step r.world r.serves) in
+    getacl_told trees r c.args.path.now c.args.kind _ _ step is)
+
+pub returns-in_err-new-clause-told : goal.returns-in_err-new-clause-told
+returns-in_err-new-clause-told g c = λ goes. err_tells _ _ c.from_residual.result c.from_residual.ensures.1 (inr goes)
+
+pub returns-in-Acl-clause-told : goal.returns-in-Acl-clause-told
+returns-in-Acl-clause-told g c = λ goes. (let is : c.call.result ≡ answer.Acl c.in-Acl.acl = c.in-Acl.is in granted (g.C.Calls.last c.args.calls.now) _ c.call.result c.call.ensures.last goes (ap refusal_in is))
+
+pub returns-clause-told : goal.returns-clause-told
+returns-clause-told g c = λ goes. told_of (g.C.Calls.last c.args.calls.now) _ c.call.result c.call.ensures.last goes c.fault_of.result c.fault_of.ensures
+
+pub returns-clause-path : goal.returns-clause-path
+returns-clause-path g c = never_of_path c.fault_of.result c.call.result c.fault_of.ensures
