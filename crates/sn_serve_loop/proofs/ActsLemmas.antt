@@ -11,7 +11,7 @@ use Rattle.sn_serve.specs.Messages.{Answers, Held, acts_in, Way, closes, follows
 use Rattle.sn_serve.specs.declared.told.Told.{Told}
 use Rattle.std.specs.declared.result.Result.{Result}
 use Rattle.sn_serve.specs.declared.service.Service.{Service}
-use Rattle.sn_serve_loop.specs.Conversations.{Replies, Converses, answered, answers, begins, paced, refuses}
+use Rattle.sn_serve_loop.specs.Conversations.{Replies, Converses, answered, answers, begins, refuses}
 
 -- nothing was done, and more was done after it
 module _ {F : Type 0} (did : F → F → List Act → Type 0) where
@@ -46,8 +46,7 @@ module _ {F P : Type 0} (did : F → F → List Act → Type 0) (tells : P → �
   pub conversation_grows : {first : Service F} {who : P} {last : Service F} {after : P} {messages replies : List (List ℕ)} {acts : List Act} → Converses did tells stopped first who messages replies acts last after
       → Grows (did first.server.file_system) (did last.server.file_system) acts
   conversation_grows {first = first} begins = grows_none did first.server.file_system
-  conversation_grows {first = first} (answered {done = done} {acts} {old = old} {new} t is r) =
-      grows_more did first.server.file_system old.server.file_system new.server.file_system done acts (conversation_grows t) (replies_grow r)
-  conversation_grows {first = first} (paced {done = done} {old} {new} t p) =
-      subst (λ (acts : List Act). Grows (did first.server.file_system) (did new.server.file_system) acts) (append-nil done)
-      (grows_more did first.server.file_system old.server.file_system new.server.file_system done [] (conversation_grows t) p.grows)
+  conversation_grows {first = first} (answered {done = done} {acts} {old = old} {mid} {new} t is r p) =
+      subst (λ (all : List Act). Grows (did first.server.file_system) (did new.server.file_system) all) (append-nil (done ++ acts))
+      (grows_more did first.server.file_system mid.server.file_system new.server.file_system (done ++ acts) []
+      (grows_more did first.server.file_system old.server.file_system mid.server.file_system done acts (conversation_grows t) (replies_grow r)) p.grows)

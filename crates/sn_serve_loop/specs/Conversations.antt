@@ -24,15 +24,13 @@ pub data Replies {F P : Type 0} (did : F → F → List Act → Type 0) (tells :
       → Replies did tells stopped message old before new after reply (acts_for e)
   refuses : {reply : List ℕ} → stopped old.server.file_system ≡ true → IsRefusal message reply → Replies did tells stopped message old before old before reply []
 
--- These messages were answered by these replies, and these acts were done for them.
+-- These messages were answered by these replies, and these acts were done for them. After each of them, and at no other time, work may be done.
 pub data Converses {F P : Type 0} (did : F → F → List Act → Type 0) (tells : P → ℕ → Option (List ℕ) → P → Type 0) (stopped : F → Bool) (first : Service F) (who : P)
     : List (List ℕ) → List (List ℕ) → List Act → Service F → P → Type 0 where
   begins : Converses did tells stopped first who [] [] [] first who
-  answered : {messages replies : List (List ℕ)} {done acts : List Act} {message reply : List ℕ} {old new : Service F} {before after : P}
-      → Converses did tells stopped first who messages replies done old before → IsMessage message → Replies did tells stopped message old before new after reply acts
+  answered : {messages replies : List (List ℕ)} {done acts : List Act} {message reply : List ℕ} {old mid new : Service F} {before after : P}
+      → Converses did tells stopped first who messages replies done old before → IsMessage message → Replies did tells stopped message old before mid after reply acts → Paces did mid new
       → Converses did tells stopped first who (messages ++ message ∷ []) (replies ++ reply ∷ []) (done ++ acts) new after
-  paced : {messages replies : List (List ℕ)} {done : List Act} {old new : Service F} {before : P} → Converses did tells stopped first who messages replies done old before → Paces did old new
-      → Converses did tells stopped first who messages replies done new before
 
 -- ---- the output
 
@@ -44,7 +42,22 @@ pub data Sends : List (List ℕ) → Bool → Option (List ℕ) → Option (List
 
 -- ---- all of it
 
--- Of the bytes that came, messages were answered, and the last are still to be.
+-- The last of these messages was answered, and no work was done after it.
+pub record Owes {F P : Type 0} (did : F → F → List Act → Type 0) (tells : P → ℕ → Option (List ℕ) → P → Type 0) (stopped : F → Bool) (first : Service F) (who : P) (messages : List (List ℕ)) (last : Service F)
+    (after : P) : Type 0 where
+  pub others : List (List ℕ)
+  pub replies : List (List ℕ)
+  pub done : List Act
+  pub old : Service F
+  pub before : P
+  pub converses : Converses did tells stopped first who others replies done old before
+  pub message : List ℕ
+  pub reply : List ℕ
+  pub acts : List Act
+  pub answered_last : Replies did tells stopped message old before last after reply acts
+  pub messages_are : messages ≡ others ++ message ∷ []
+
+-- Of the bytes that came, messages were answered, and the last are still to be. While a reply isn't written whole, no work is done.
 pub record Conversation {F P : Type 0} (did : F → F → List Act → Type 0) (tells : P → ℕ → Option (List ℕ) → P → Type 0) (stopped : F → Bool) (whole : Bool) (old : Service F) (before : P) (new : Service F)
     (after : P) (pending left : List ℕ) (input rest output written : Option (List ℕ)) : Type 0 where
   pub messages : List (List ℕ)
@@ -55,6 +68,7 @@ pub record Conversation {F P : Type 0} (did : F → F → List Act → Type 0) (
   pub consumes : Consumes input rest came
   pub bytes : pending ++ came ≡ concat messages ++ left
   pub sends : Sends replies whole output written
+  pub owes : whole ≡ false → Owes did tells stopped old before messages new after
 
 -- The input has ended: no whole message is left, and each reply was written whole.
 pub record HasEnded (whole : Bool) (left : List ℕ) (rest : Option (List ℕ)) : Type 0 where

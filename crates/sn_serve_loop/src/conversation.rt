@@ -121,7 +121,7 @@ fn answer_all<F: FileSystem, H: Host, R: Read, W: Write>(
 /// that aren't a whole message yet are left. It is given up after 2^64 - 1 turns, as an input that timed out.
 ///
 /// Proved: The messages of the input are answered one after the other, each by its plan and by one reply, with work of the file system for which nobody
-/// waits between them; once a failure has stopped it, each is answered with `EIO`, and does nothing. Where the input has ended, no whole message is
+/// waits between them, and none after a reply that isn't written whole; once a failure has stopped it, each is answered with `EIO`, and does nothing. Where the input has ended, no whole message is
 /// left, and each reply was written whole.
 pub fn converse<F: FileSystem, H: Host, R: Read, W: Write>(
     connection: &mut Connection<F>,

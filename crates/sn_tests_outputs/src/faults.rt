@@ -1,39 +1,9 @@
-//! How faults are reported: the line of each, and outputs that take nothing.
+//! How faults are reported where outputs take nothing or little, and those of files.
 
-use sn_mkfs::MkfsFault;
-use sn_model::{Damage, MountFault};
 use sn_program::{ProgramFault, Which, program, tell};
-use sn_script::ScriptFault;
 use sn_tests_commands::staying;
 use std::io::{ErrorKind, Write};
 use std::{fs, io, str};
-
-const FAULTS: [(ProgramFault, &str, u8); 9] = [
-    (ProgramFault::Usage, "snapfs: usage\n", 2),
-    (
-        ProgramFault::Script(ScriptFault::Line(7)),
-        "snapfs: script line 7\n",
-        1,
-    ),
-    (
-        ProgramFault::Script(ScriptFault::Memory),
-        "snapfs: memory\n",
-        1,
-    ),
-    (ProgramFault::Memory, "snapfs: memory\n", 1),
-    (ProgramFault::Mount(MountFault::Memory), "snapfs: M5\n", 1),
-    (
-        ProgramFault::Mount(MountFault::Damaged {
-            damage: Damage::Pointer,
-            block: 6,
-        }),
-        "snapfs: M4 C2 6\n",
-        1,
-    ),
-    (ProgramFault::Format(MkfsFault::Device), "snapfs: K3\n", 1),
-    (ProgramFault::Path, "snapfs: path\n", 1),
-    (ProgramFault::Stopped, "snapfs: stopped\n", 1),
-];
 
 /// An output that takes nothing.
 #[derive(Drop)]
@@ -168,12 +138,6 @@ fn holds_where_cut_short(rt: &HostRuntime) -> bool {
 /// Prints how many cases there are, and gives how many were wrong.
 pub fn run_all(rt: &HostRuntime) -> io::Result<u64> {
     let mut wrong = 0u64;
-    for (fault, line, status) in FAULTS {
-        if !is_told(rt, fault, line, status) {
-            println!(rt; "wrong: the fault of {line:?}")?;
-            wrong = wrong.saturating_add(1);
-        }
-    }
     fs::write(rt, SCRIPT[2], ASKED)?;
     program(
         rt,
@@ -199,6 +163,6 @@ pub fn run_all(rt: &HostRuntime) -> io::Result<u64> {
         println!(rt; "wrong: outputs with little room")?;
         wrong = wrong.saturating_add(1);
     }
-    println!(rt; "faults: {}, wrong: {wrong}", FAULTS.len() + 4)?;
+    println!(rt; "faults: 4, wrong: {wrong}")?;
     Ok(wrong)
 }

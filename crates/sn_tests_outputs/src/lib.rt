@@ -1,8 +1,10 @@
 //! Cases of what the program leaves: the lines that report a fault, outputs that take nothing or little, files of
 //! images, and archives of these.
 //!
-//! `faults` has the lines and the outputs, `images` what a run leaves of a file, also of one in use, and `exports` what is written
-//! of one. A run that has ended is that of `sn_tests_commands`.
+//! `lines` holds the lines and the statuses that the manual page tells against those of the program: the tables are in the folder `manual`
+//! of the data of `sn_tests_program`, and `bench/manual.py`, which the gate runs, compares them with the page. `faults` has the outputs,
+//! `images` what a run leaves of a file, also of one in use, and `exports` what is written of one. A run that has ended is that of
+//! `sn_tests_commands`.
 //!
 //! No clause promises what comes out, since it is compared: `sn_tests_program` runs it.
 #![tactic(auto)]
@@ -10,6 +12,7 @@
 mod exports;
 mod faults;
 mod images;
+mod lines;
 
 use anyhow::{Result, ensure};
 use sn_testing_tables::Report;
@@ -18,6 +21,7 @@ use sn_testing_tables::Report;
 /// memory, or a wrong case of the faults, after all others.
 pub fn run(report: &mut Report<'_>) -> Result<()> {
     let wrong = faults::run_all(report.runtime())?;
+    lines::run(report)?;
     images::run(report)?;
     exports::run(report)?;
     ensure!(wrong == 0, "faults that are told otherwise");

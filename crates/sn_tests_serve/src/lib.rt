@@ -16,7 +16,8 @@
 //! The lines `?` stand before the first serve. After each serve the image has to be sound.
 //!
 //! The way through: `conversation` reads a text, `host` tells of senders and of the time, `serving` has a serve and its replies, and `talking` compares
-//! them. `failing` serves a conversation on devices of which each write fails in turn, and looks at what a crash leaves then.
+//! them. `failing` serves a conversation on devices of which each write fails in turn, and looks at what a crash leaves then. `pacing` makes writes
+//! one after the other, none of which may make a consistency point.
 //!
 //! No clause promises what comes out, since it is compared: `sn_tests_serving` runs it.
 #![tactic(auto)]
@@ -24,6 +25,7 @@
 mod conversation;
 mod failing;
 mod host;
+mod pacing;
 mod serving;
 mod talking;
 
@@ -75,5 +77,5 @@ pub fn run(report: &mut Report<'_>) -> Result<()> {
         let text = text_of(report, file)?;
         failing::run(report, file, text.as_str())?;
     }
-    Ok(())
+    pacing::run(report)
 }
