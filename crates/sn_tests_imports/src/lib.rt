@@ -1,16 +1,16 @@
 //! Archives that are imported into images in memory, and exported again.
 //!
-//! `imported` has an import, which `sn_tests_import_faults` makes too, and `round_trips` those of drawn trees, whose second archive has to be the
+//! `importing` has an import, which `sn_tests_import_faults` makes too, and `round_trips` those of drawn trees, whose second archive has to be the
 //! first byte by byte.
 //!
 //! No clause promises what comes out, since it is compared: `sn_tests_archives` runs it.
 #![tactic(auto)]
 
-mod imported;
+mod importing;
 mod round_trips;
 
 use anyhow::Result;
-pub use imported::{Ended, empty_image, imported};
+pub use importing::{Ended, empty_image, imported};
 use sn_testing_tables::Report;
 
 /// Compares all archives. A lack of memory is an error.

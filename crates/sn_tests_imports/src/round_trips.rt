@@ -1,6 +1,6 @@
 //! Drawn trees.
 
-use crate::imported::{empty_image, imported};
+use crate::importing::{empty_image, imported};
 use anyhow::Result;
 use sn_testing_tables::{Report, Tally};
 use sn_tests_exports::{draw, exported};
