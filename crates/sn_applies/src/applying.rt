@@ -2,6 +2,7 @@
 ghost use Rattle.std.specs.Prelude.{◌≡◌, IsTrue, IfOk, IfErr, is_some};
 ghost use Rattle.sn_model.specs.Changes.{apply, cut, owned, written};
 ghost use Rattle.sn_model.specs.NameTree.{IsHierarchy};
+ghost use Rattle.sn_walk.specs.Frame.{Leaves};
 
 use crate::NamedTree;
 use crate::moving::rename;
@@ -20,9 +21,7 @@ fn write<T: NamedTree>(
     bytes: &[u8],
 ) -> Result<bool, T::Fault>
     requires { T.holds tree.old }
-    ensures kept { T.holds tree.new }
-    ensures follows { T.follows tree.old tree.new }
-    ensures same { IsTrue T.is_told → T.shows tree.new ≡ T.shows tree.old }
+    ensures left { Leaves T.holds T.follows T.is_told T.shows tree.old tree.new }
     ensures found { IsTrue T.is_told → IfOk result (λ b. b ≡ is_some (written limits.now (T.shows tree.old) number offset bytes.now)) }
     ensures cause { IfErr result (λ f. T.causes tree.old tree.new f) }
 {
@@ -40,9 +39,7 @@ fn set_size<T: NamedTree>(
     size: u64,
 ) -> Result<bool, T::Fault>
     requires { T.holds tree.old }
-    ensures kept { T.holds tree.new }
-    ensures follows { T.follows tree.old tree.new }
-    ensures same { IsTrue T.is_told → T.shows tree.new ≡ T.shows tree.old }
+    ensures left { Leaves T.holds T.follows T.is_told T.shows tree.old tree.new }
     ensures found { IsTrue T.is_told → IfOk result (λ b. b ≡ is_some (cut limits.now (T.shows tree.old) number size)) }
     ensures cause { IfErr result (λ f. T.causes tree.old tree.new f) }
 {
@@ -59,9 +56,7 @@ fn set_attributes<T: NamedTree>(
     ownership: &Ownership,
 ) -> Result<bool, T::Fault>
     requires { T.holds tree.old }
-    ensures kept { T.holds tree.new }
-    ensures follows { T.follows tree.old tree.new }
-    ensures same { IsTrue T.is_told → T.shows tree.new ≡ T.shows tree.old }
+    ensures left { Leaves T.holds T.follows T.is_told T.shows tree.old tree.new }
     ensures found { IsTrue T.is_told → IfOk result (λ b. b ≡ is_some (owned (T.shows tree.old) number ownership.now)) }
     ensures cause { IfErr result (λ f. T.causes tree.old tree.new f) }
 {
@@ -87,9 +82,7 @@ pub fn applies<T: NamedTree>(
     change: &Change<'_>,
 ) -> Result<bool, T::Fault>
     requires { T.holds tree.old }
-    ensures kept { T.holds tree.new }
-    ensures follows { T.follows tree.old tree.new }
-    ensures same { IsTrue T.is_told → T.shows tree.new ≡ T.shows tree.old }
+    ensures left { Leaves T.holds T.follows T.is_told T.shows tree.old tree.new }
     ensures found { IsTrue T.is_told → IsHierarchy (T.shows tree.old) → IfOk result (λ b. b ≡ is_some (apply limits.now change.now (T.shows tree.old))) }
     ensures cause { IfErr result (λ f. T.causes tree.old tree.new f) }
 {

@@ -5,6 +5,7 @@ ghost use Rattle.sn_applies.specs.Tests.{can_move, gives_way, leaving, lies_in_i
 ghost use Rattle.sn_model.specs.Changes.{renamed};
 ghost use Rattle.sn_model.specs.NameTree.{IsHierarchy};
 ghost use Rattle.sn_model.specs.Tree.{link_to};
+ghost use Rattle.sn_walk.specs.Frame.{Leaves};
 
 use crate::NamedTree;
 use crate::reads::{Standing, has_room, losing, standing_of};
@@ -25,9 +26,7 @@ struct Moving {
 // Whether what has the new name can lose it to a node of this kind, if anything has it.
 fn gives_way<T: NamedTree>(tree: &mut T, kind: Kind, target: Option<u16>) -> Result<bool, T::Fault>
     requires { T.holds tree.old }
-    ensures kept { T.holds tree.new }
-    ensures follows { T.follows tree.old tree.new }
-    ensures same { IsTrue T.is_told → T.shows tree.new ≡ T.shows tree.old }
+    ensures left { Leaves T.holds T.follows T.is_told T.shows tree.old tree.new }
     ensures found { IsTrue T.is_told → IfOk result (λ b. b ≡ gives_way (T.shows tree.old) kind target) }
     ensures cause { IfErr result (λ f. T.causes tree.old tree.new f) }
 {
@@ -48,9 +47,7 @@ fn lies_in_itself<T: NamedTree>(
     directory: u16,
 ) -> Result<bool, T::Fault>
     requires { T.holds tree.old }
-    ensures kept { T.holds tree.new }
-    ensures follows { T.follows tree.old tree.new }
-    ensures same { IsTrue T.is_told → T.shows tree.new ≡ T.shows tree.old }
+    ensures left { Leaves T.holds T.follows T.is_told T.shows tree.old tree.new }
     ensures found { IsTrue T.is_told → IfOk result (λ b. b ≡ lies_in_itself (T.shows tree.old) kind number directory) }
     ensures cause { IfErr result (λ f. T.causes tree.old tree.new f) }
 {
@@ -74,9 +71,7 @@ fn can_move<T: NamedTree>(
     name: &[u8],
 ) -> Result<bool, T::Fault>
     requires { T.holds tree.old }
-    ensures kept { T.holds tree.new }
-    ensures follows { T.follows tree.old tree.new }
-    ensures same { IsTrue T.is_told → T.shows tree.new ≡ T.shows tree.old }
+    ensures left { Leaves T.holds T.follows T.is_told T.shows tree.old tree.new }
     ensures found { IsTrue T.is_told → IfOk result (λ b. b ≡ can_move limits.now (T.shows tree.old) moving.from (link_to moving.to name.now) moving.number moving.standing moving.target) }
     ensures cause { IfErr result (λ f. T.causes tree.old tree.new f) }
 {
@@ -101,9 +96,7 @@ fn move_number<T: NamedTree>(
     name: &[u8],
 ) -> Result<bool, T::Fault>
     requires { T.holds tree.old }
-    ensures kept { T.holds tree.new }
-    ensures follows { T.follows tree.old tree.new }
-    ensures same { IsTrue T.is_told → T.shows tree.new ≡ T.shows tree.old }
+    ensures left { Leaves T.holds T.follows T.is_told T.shows tree.old tree.new }
     ensures found { IsTrue T.is_told → IsHierarchy (T.shows tree.old) → (old_name : List ℕ) → map.get (T.shows tree.old).links (link_to from old_name) ≡ Some number → IfOk result (λ b. b ≡ is_some (renamed limits.now (T.shows tree.old) (link_to from old_name) (link_to to name.now))) }
     ensures cause { IfErr result (λ f. T.causes tree.old tree.new f) }
 {
@@ -135,9 +128,7 @@ pub(crate) fn rename<T: NamedTree>(
     new_name: &[u8],
 ) -> Result<bool, T::Fault>
     requires { T.holds tree.old }
-    ensures kept { T.holds tree.new }
-    ensures follows { T.follows tree.old tree.new }
-    ensures same { IsTrue T.is_told → T.shows tree.new ≡ T.shows tree.old }
+    ensures left { Leaves T.holds T.follows T.is_told T.shows tree.old tree.new }
     ensures found { IsTrue T.is_told → IsHierarchy (T.shows tree.old) → IfOk result (λ b. b ≡ is_some (renamed limits.now (T.shows tree.old) (link_to from old_name.now) (link_to to new_name.now))) }
     ensures cause { IfErr result (λ f. T.causes tree.old tree.new f) }
 {

@@ -4,6 +4,7 @@ ghost use Rattle.sn_applies.specs.Tests.{can_get, losing};
 ghost use Rattle.sn_model.specs.Changes.{linked, made, removed};
 ghost use Rattle.sn_model.specs.NameTree.{IsHierarchy};
 ghost use Rattle.sn_model.specs.Tree.{link_to};
+ghost use Rattle.sn_walk.specs.Frame.{Leaves};
 
 use crate::NamedTree;
 use crate::reads::{file_names, has_room, is_free_number, losing};
@@ -21,9 +22,7 @@ fn can_get<T: NamedTree>(
     links: u16,
 ) -> Result<bool, T::Fault>
     requires { T.holds tree.old }
-    ensures kept { T.holds tree.new }
-    ensures follows { T.follows tree.old tree.new }
-    ensures same { IsTrue T.is_told → T.shows tree.new ≡ T.shows tree.old }
+    ensures left { Leaves T.holds T.follows T.is_told T.shows tree.old tree.new }
     ensures found { IsTrue T.is_told → IfOk result (λ b. b ≡ can_get limits.now (T.shows tree.old) (link_to directory name.now) links) }
     ensures cause { IfErr result (λ f. T.causes tree.old tree.new f) }
 {
@@ -47,9 +46,7 @@ pub(crate) fn make<T: NamedTree>(
     ownership: &Ownership,
 ) -> Result<bool, T::Fault>
     requires { T.holds tree.old }
-    ensures kept { T.holds tree.new }
-    ensures follows { T.follows tree.old tree.new }
-    ensures same { IsTrue T.is_told → T.shows tree.new ≡ T.shows tree.old }
+    ensures left { Leaves T.holds T.follows T.is_told T.shows tree.old tree.new }
     ensures found { IsTrue T.is_told → IsHierarchy (T.shows tree.old) → IfOk result (λ b. b ≡ is_some (made limits.now (T.shows tree.old) (link_to directory name.now) number kind ownership.now)) }
     ensures cause { IfErr result (λ f. T.causes tree.old tree.new f) }
 {
@@ -72,9 +69,7 @@ pub(crate) fn add_link<T: NamedTree>(
     number: u16,
 ) -> Result<bool, T::Fault>
     requires { T.holds tree.old }
-    ensures kept { T.holds tree.new }
-    ensures follows { T.follows tree.old tree.new }
-    ensures same { IsTrue T.is_told → T.shows tree.new ≡ T.shows tree.old }
+    ensures left { Leaves T.holds T.follows T.is_told T.shows tree.old tree.new }
     ensures found { IsTrue T.is_told → IfOk result (λ b. b ≡ is_some (linked limits.now (T.shows tree.old) (link_to directory name.now) number)) }
     ensures cause { IfErr result (λ f. T.causes tree.old tree.new f) }
 {
@@ -87,9 +82,7 @@ pub(crate) fn add_link<T: NamedTree>(
 // Whether what has the number can lose its name.
 fn can_lose<T: NamedTree>(tree: &mut T, number: u16) -> Result<bool, T::Fault>
     requires { T.holds tree.old }
-    ensures kept { T.holds tree.new }
-    ensures follows { T.follows tree.old tree.new }
-    ensures same { IsTrue T.is_told → T.shows tree.new ≡ T.shows tree.old }
+    ensures left { Leaves T.holds T.follows T.is_told T.shows tree.old tree.new }
     ensures found { IsTrue T.is_told → IfOk result (λ b. b ≡ is_some (losing (T.shows tree.old) number)) }
     ensures cause { IfErr result (λ f. T.causes tree.old tree.new f) }
 {
@@ -106,9 +99,7 @@ pub(crate) fn remove<T: NamedTree>(
     name: &[u8],
 ) -> Result<bool, T::Fault>
     requires { T.holds tree.old }
-    ensures kept { T.holds tree.new }
-    ensures follows { T.follows tree.old tree.new }
-    ensures same { IsTrue T.is_told → T.shows tree.new ≡ T.shows tree.old }
+    ensures left { Leaves T.holds T.follows T.is_told T.shows tree.old tree.new }
     ensures found { IsTrue T.is_told → IfOk result (λ b. b ≡ is_some (removed (T.shows tree.old) (link_to directory name.now))) }
     ensures cause { IfErr result (λ f. T.causes tree.old tree.new f) }
 {

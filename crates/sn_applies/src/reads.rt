@@ -2,6 +2,7 @@
 ghost use Rattle.std.specs.Prelude.{◌≡◌, IsTrue, IfOk, IfErr, is_some};
 ghost use Rattle.sn_applies.specs.Tests.{standing_of, file_names, losing, has_room};
 ghost use Rattle.sn_model.specs.Changes.{directory_at, is_free_number};
+ghost use Rattle.sn_walk.specs.Frame.{Leaves};
 
 use crate::NamedTree;
 use sn_limits::{Kind, Limits};
@@ -19,9 +20,7 @@ pub(crate) fn standing_of<T: NamedTree>(
     number: u16,
 ) -> Result<Option<Standing>, T::Fault>
     requires { T.holds tree.old }
-    ensures kept { T.holds tree.new }
-    ensures follows { T.follows tree.old tree.new }
-    ensures same { IsTrue T.is_told → T.shows tree.new ≡ T.shows tree.old }
+    ensures left { Leaves T.holds T.follows T.is_told T.shows tree.old tree.new }
     ensures found { IsTrue T.is_told → IfOk result (λ s. s ≡ standing_of (T.shows tree.old) number) }
     ensures cause { IfErr result (λ f. T.causes tree.old tree.new f) }
 {
@@ -38,9 +37,7 @@ pub(crate) fn standing_of<T: NamedTree>(
 // How many names a file has, if the number is one's.
 pub(crate) fn file_names<T: NamedTree>(tree: &mut T, number: u16) -> Result<Option<u16>, T::Fault>
     requires { T.holds tree.old }
-    ensures kept { T.holds tree.new }
-    ensures follows { T.follows tree.old tree.new }
-    ensures same { IsTrue T.is_told → T.shows tree.new ≡ T.shows tree.old }
+    ensures left { Leaves T.holds T.follows T.is_told T.shows tree.old tree.new }
     ensures found { IsTrue T.is_told → IfOk result (λ n. n ≡ file_names (T.shows tree.old) number) }
     ensures cause { IfErr result (λ f. T.causes tree.old tree.new f) }
 {
@@ -52,9 +49,7 @@ pub(crate) fn file_names<T: NamedTree>(tree: &mut T, number: u16) -> Result<Opti
 
 fn is_directory_at<T: NamedTree>(tree: &mut T, number: u16) -> Result<bool, T::Fault>
     requires { T.holds tree.old }
-    ensures kept { T.holds tree.new }
-    ensures follows { T.follows tree.old tree.new }
-    ensures same { IsTrue T.is_told → T.shows tree.new ≡ T.shows tree.old }
+    ensures left { Leaves T.holds T.follows T.is_told T.shows tree.old tree.new }
     ensures found { IsTrue T.is_told → IfOk result (λ b. b ≡ is_some (directory_at (T.shows tree.old) number)) }
     ensures cause { IfErr result (λ f. T.causes tree.old tree.new f) }
 {
@@ -71,9 +66,7 @@ pub(crate) fn is_free_number<T: NamedTree>(
     number: u16,
 ) -> Result<bool, T::Fault>
     requires { T.holds tree.old }
-    ensures kept { T.holds tree.new }
-    ensures follows { T.follows tree.old tree.new }
-    ensures same { IsTrue T.is_told → T.shows tree.new ≡ T.shows tree.old }
+    ensures left { Leaves T.holds T.follows T.is_told T.shows tree.old tree.new }
     ensures found { IsTrue T.is_told → IfOk result (λ b. b ≡ is_free_number limits.now (T.shows tree.old) number) }
     ensures cause { IfErr result (λ f. T.causes tree.old tree.new f) }
 {
@@ -89,9 +82,7 @@ pub(crate) fn is_free_number<T: NamedTree>(
 // The kind of what can lose its name: a file, or a directory without names.
 pub(crate) fn losing<T: NamedTree>(tree: &mut T, number: u16) -> Result<Option<Kind>, T::Fault>
     requires { T.holds tree.old }
-    ensures kept { T.holds tree.new }
-    ensures follows { T.follows tree.old tree.new }
-    ensures same { IsTrue T.is_told → T.shows tree.new ≡ T.shows tree.old }
+    ensures left { Leaves T.holds T.follows T.is_told T.shows tree.old tree.new }
     ensures found { IsTrue T.is_told → IfOk result (λ k. k ≡ losing (T.shows tree.old) number) }
     ensures cause { IfErr result (λ f. T.causes tree.old tree.new f) }
 {
@@ -121,9 +112,7 @@ pub(crate) fn has_room<T: NamedTree>(
     links: u16,
 ) -> Result<bool, T::Fault>
     requires { T.holds tree.old }
-    ensures kept { T.holds tree.new }
-    ensures follows { T.follows tree.old tree.new }
-    ensures same { IsTrue T.is_told → T.shows tree.new ≡ T.shows tree.old }
+    ensures left { Leaves T.holds T.follows T.is_told T.shows tree.old tree.new }
     ensures found { IsTrue T.is_told → IfOk result (λ b. b ≡ has_room limits.now (T.shows tree.old) directory leaving links) }
     ensures cause { IfErr result (λ f. T.causes tree.old tree.new f) }
 {

@@ -12,6 +12,7 @@ ghost use Rattle.sn_core_decide_rules.specs.Decided.{Decides, DecidesShown, Hide
 ghost use Rattle.sn_core_decide_rules.specs.Faults.{IfView};
 ghost use Rattle.sn_core_decide_rules.specs.Shown.{Shows};
 ghost use Rattle.sn_core_decide.specs.Groups.{group_of};
+ghost use Rattle.sn_walk.specs.Frame.{Leaves};
 
 use crate::groups::{Group, group_of};
 use crate::sessions::{decide_login, decide_logout, decide_sync, decide_umask};
@@ -78,9 +79,7 @@ fn decide_of_node<'a, V: FileView>(
 ) -> Result<Outcome<'a>, CallError<V::Fault>>
     requires holds { V.holds view.old }
     requires group { group_of call.now ≡ Group.Nodes }
-    ensures kept { V.holds view.new }
-    ensures follows { V.follows view.old view.new }
-    ensures same { IsTrue V.is_told → V.shows view.new ≡ V.shows view.old }
+    ensures left { Leaves V.holds V.follows V.is_told V.shows view.old view.new }
     ensures decided { IsTrue V.is_told → DecidesShown (in_use_of sessions.now) (V.shows view.old) (V.room view.old) (V.names view.old) (V.bytes view.old) session call.now result }
     ensures cause { IfView result (λ f. V.causes view.old view.new f) }
     ensures numbers { IfOk result (λ o. IsCall call.now) }
@@ -109,9 +108,7 @@ fn decide_of_names<'a, V: FileView>(
 ) -> Result<Outcome<'a>, CallError<V::Fault>>
     requires holds { V.holds view.old }
     requires group { group_of call.now ≡ Group.Names }
-    ensures kept { V.holds view.new }
-    ensures follows { V.follows view.old view.new }
-    ensures same { IsTrue V.is_told → V.shows view.new ≡ V.shows view.old }
+    ensures left { Leaves V.holds V.follows V.is_told V.shows view.old view.new }
     ensures decided { IsTrue V.is_told → DecidesShown (in_use_of sessions.now) (V.shows view.old) (V.room view.old) (V.names view.old) (V.bytes view.old) session call.now result }
     ensures cause { IfView result (λ f. V.causes view.old view.new f) }
     ensures numbers { IfOk result (λ o. IsCall call.now) }
@@ -136,9 +133,7 @@ fn decide_of_file<'a, V: FileView>(
 ) -> Result<Outcome<'a>, CallError<V::Fault>>
     requires holds { V.holds view.old }
     requires group { group_of call.now ≡ Group.Files }
-    ensures kept { V.holds view.new }
-    ensures follows { V.follows view.old view.new }
-    ensures same { IsTrue V.is_told → V.shows view.new ≡ V.shows view.old }
+    ensures left { Leaves V.holds V.follows V.is_told V.shows view.old view.new }
     ensures decided { IsTrue V.is_told → DecidesShown (in_use_of sessions.now) (V.shows view.old) (V.room view.old) (V.names view.old) (V.bytes view.old) session call.now result }
     ensures cause { IfView result (λ f. V.causes view.old view.new f) }
     ensures numbers { IfOk result (λ o. IsCall call.now) }
@@ -163,9 +158,7 @@ fn decide_of_snapshot<'a, V: FileView>(
 ) -> Result<Outcome<'a>, CallError<V::Fault>>
     requires holds { V.holds view.old }
     requires group { group_of call.now ≡ Group.Snapshots }
-    ensures kept { V.holds view.new }
-    ensures follows { V.follows view.old view.new }
-    ensures same { IsTrue V.is_told → V.shows view.new ≡ V.shows view.old }
+    ensures left { Leaves V.holds V.follows V.is_told V.shows view.old view.new }
     ensures decided { IsTrue V.is_told → DecidesShown (in_use_of sessions.now) (V.shows view.old) (V.room view.old) (V.names view.old) (V.bytes view.old) session call.now result }
     ensures refused { IsTrue V.is_told → HidesNoRefusalShown (in_use_of sessions.now) (V.shows view.old) session call.now result }
     ensures cause { IfView result (λ f. V.causes view.old view.new f) }
@@ -189,9 +182,7 @@ fn decide_shown<'a, V: FileView>(
     call: &'a Call,
 ) -> Result<Outcome<'a>, CallError<V::Fault>>
     requires { V.holds view.old }
-    ensures kept { V.holds view.new }
-    ensures follows { V.follows view.old view.new }
-    ensures same { IsTrue V.is_told → V.shows view.new ≡ V.shows view.old }
+    ensures left { Leaves V.holds V.follows V.is_told V.shows view.old view.new }
     ensures decided { IsTrue V.is_told → DecidesShown (in_use_of sessions.now) (V.shows view.old) (V.room view.old) (V.names view.old) (V.bytes view.old) session call.now result }
     ensures refused { IsTrue V.is_told → HidesNoRefusalShown (in_use_of sessions.now) (V.shows view.old) session call.now result }
     ensures cause { IfView result (λ f. V.causes view.old view.new f) }
@@ -222,9 +213,7 @@ pub fn decide<'a, V: FileView>(
     call: &'a Call,
 ) -> Result<Outcome<'a>, CallError<V::Fault>>
     requires { V.holds view.old }
-    ensures kept { V.holds view.new }
-    ensures follows { V.follows view.old view.new }
-    ensures same { IsTrue V.is_told → V.shows view.new ≡ V.shows view.old }
+    ensures left { Leaves V.holds V.follows V.is_told V.shows view.old view.new }
     ensures decided { IsTrue V.is_told → (world : World) → Shows world (in_use_of sessions.now) (V.shows view.old) (V.room view.old) (V.names view.old) (V.bytes view.old) → Decides world session call.now result }
     ensures refused { IsTrue V.is_told → (world : World) → Shows world (in_use_of sessions.now) (V.shows view.old) (V.room view.old) (V.names view.old) (V.bytes view.old) → HidesNoRefusal world session call.now result }
     ensures cause { IfView result (λ f. V.causes view.old view.new f) }

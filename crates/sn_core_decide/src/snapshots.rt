@@ -11,6 +11,7 @@ ghost use Rattle.sn_desc.specs.Sessions.{in_use_of};
 ghost use Rattle.sn_core_decide_rules.specs.Decided.{DecidesShown, HidesNoRefusalShown};
 ghost use Rattle.sn_core_decide_rules.specs.Faults.{IfView};
 ghost use Rattle.sn_core_decide.specs.Restoring.{restores_in};
+ghost use Rattle.sn_walk.specs.Frame.{Leaves};
 
 use sn_acl::Cred;
 use sn_core_decide_rules::{
@@ -101,9 +102,7 @@ pub(crate) fn decide_snap_create<V: FileView>(
     name: &Word,
 ) -> Result<Outcome<'static>, CallError<V::Fault>>
     requires { V.holds view.old }
-    ensures kept { V.holds view.new }
-    ensures follows { V.follows view.old view.new }
-    ensures same { IsTrue V.is_told → V.shows view.new ≡ V.shows view.old }
+    ensures left { Leaves V.holds V.follows V.is_told V.shows view.old view.new }
     ensures decided { IsTrue V.is_told → DecidesShown (in_use_of sessions.now) (V.shows view.old) (V.room view.old) (V.names view.old) (V.bytes view.old) session (call.SnapCreate name.now) result }
     ensures cause { IfView result (λ f. V.causes view.old view.new f) }
 {
@@ -160,9 +159,7 @@ pub(crate) fn decide_snap_restore<V: FileView>(
     name: &Word,
 ) -> Result<Outcome<'static>, CallError<V::Fault>>
     requires { V.holds view.old }
-    ensures kept { V.holds view.new }
-    ensures follows { V.follows view.old view.new }
-    ensures same { IsTrue V.is_told → V.shows view.new ≡ V.shows view.old }
+    ensures left { Leaves V.holds V.follows V.is_told V.shows view.old view.new }
     ensures decided { IsTrue V.is_told → DecidesShown (in_use_of sessions.now) (V.shows view.old) (V.room view.old) (V.names view.old) (V.bytes view.old) session (call.SnapRestore name.now) result }
     ensures refused { IsTrue V.is_told → HidesNoRefusalShown (in_use_of sessions.now) (V.shows view.old) session (call.SnapRestore name.now) result }
     ensures cause { IfView result (λ f. V.causes view.old view.new f) }
@@ -186,9 +183,7 @@ pub(crate) fn decide_snap_list<V: FileView>(
     session: u32,
 ) -> Result<Outcome<'static>, CallError<V::Fault>>
     requires { V.holds view.old }
-    ensures kept { V.holds view.new }
-    ensures follows { V.follows view.old view.new }
-    ensures same { IsTrue V.is_told → V.shows view.new ≡ V.shows view.old }
+    ensures left { Leaves V.holds V.follows V.is_told V.shows view.old view.new }
     ensures decided { IsTrue V.is_told → DecidesShown (in_use_of sessions.now) (V.shows view.old) (V.room view.old) (V.names view.old) (V.bytes view.old) session call.SnapList result }
     ensures cause { IfView result (λ f. V.causes view.old view.new f) }
 {

@@ -8,6 +8,7 @@ ghost use Rattle.sn_core_decide_rules.specs.Decided.{DecidesShown};
 ghost use Rattle.sn_core_decide_rules.specs.Faults.{IfView};
 ghost use Rattle.sn_model.specs.AccessCalls as calls;
 ghost use Rattle.sn_model.specs.Outcomes.{tells};
+ghost use Rattle.sn_walk.specs.Frame.{Leaves};
 
 use crate::rights::has_acl;
 use sn_acl::Acl;
@@ -46,9 +47,7 @@ fn stat<'a, V: TreeView>(
     path: &Path<'a>,
 ) -> Result<Outcome<'a>, Failure<Refusal, V::Fault>>
     requires { V.holds view.old }
-    ensures kept { V.holds view.new }
-    ensures follows { V.follows view.old view.new }
-    ensures same { IsTrue V.is_told → V.shows view.new ≡ V.shows view.old }
+    ensures left { Leaves V.holds V.follows V.is_told V.shows view.old view.new }
     ensures exact { IsTrue V.is_told → Gives (λ o. o) result (stat_outcome (V.shows view.old) caller.now path.now) }
     ensures cause { IfFault result (λ f. V.causes view.old view.new f) }
 {
@@ -69,9 +68,7 @@ pub fn decide_stat<'a, V: FileView>(
     path: &'a Word,
 ) -> Result<Outcome<'a>, CallError<V::Fault>>
     requires { V.holds view.old }
-    ensures kept { V.holds view.new }
-    ensures follows { V.follows view.old view.new }
-    ensures same { IsTrue V.is_told → V.shows view.new ≡ V.shows view.old }
+    ensures left { Leaves V.holds V.follows V.is_told V.shows view.old view.new }
     ensures decided { IsTrue V.is_told → DecidesShown (in_use_of sessions.now) (V.shows view.old) (V.room view.old) (V.names view.old) (V.bytes view.old) session (call.Stat path.now) result }
     ensures cause { IfView result (λ f. V.causes view.old view.new f) }
 {
@@ -89,9 +86,7 @@ fn access<V: TreeView>(
     want: Access,
 ) -> Result<Outcome<'static>, Failure<Refusal, V::Fault>>
     requires { V.holds view.old }
-    ensures kept { V.holds view.new }
-    ensures follows { V.follows view.old view.new }
-    ensures same { IsTrue V.is_told → V.shows view.new ≡ V.shows view.old }
+    ensures left { Leaves V.holds V.follows V.is_told V.shows view.old view.new }
     ensures exact { IsTrue V.is_told → Gives (λ o. o) result (calls.access_outcome (V.shows view.old) caller.now path.now want) }
     ensures cause { IfFault result (λ f. V.causes view.old view.new f) }
 {
@@ -116,9 +111,7 @@ pub fn decide_access<V: FileView>(
     want: Access,
 ) -> Result<Outcome<'static>, CallError<V::Fault>>
     requires { V.holds view.old }
-    ensures kept { V.holds view.new }
-    ensures follows { V.follows view.old view.new }
-    ensures same { IsTrue V.is_told → V.shows view.new ≡ V.shows view.old }
+    ensures left { Leaves V.holds V.follows V.is_told V.shows view.old view.new }
     ensures decided { IsTrue V.is_told → DecidesShown (in_use_of sessions.now) (V.shows view.old) (V.room view.old) (V.names view.old) (V.bytes view.old) session (call.Access path.now want) result }
     ensures cause { IfView result (λ f. V.causes view.old view.new f) }
 {
@@ -133,9 +126,7 @@ pub(crate) fn default_acl_at<V: TreeView>(
     object: &Object,
 ) -> Result<Option<Acl>, V::Fault>
     requires { V.holds view.old }
-    ensures kept { V.holds view.new }
-    ensures follows { V.follows view.old view.new }
-    ensures same { IsTrue V.is_told → V.shows view.new ≡ V.shows view.old }
+    ensures left { Leaves V.holds V.follows V.is_told V.shows view.old view.new }
     ensures found { IsTrue V.is_told → IfOk result (λ a. a ≡ calls.default_acl_at (V.shows view.old) object.now) }
     ensures cause { IfErr result (λ f. V.causes view.old view.new f) }
 {
@@ -154,9 +145,7 @@ fn getacl<V: TreeView>(
     kind: AclKind,
 ) -> Result<Option<Acl>, Failure<Refusal, V::Fault>>
     requires { V.holds view.old }
-    ensures kept { V.holds view.new }
-    ensures follows { V.follows view.old view.new }
-    ensures same { IsTrue V.is_told → V.shows view.new ≡ V.shows view.old }
+    ensures left { Leaves V.holds V.follows V.is_told V.shows view.old view.new }
     ensures exact { IsTrue V.is_told → Gives (λ acl. tells (Reply.Acl acl)) result (calls.getacl_outcome (V.shows view.old) caller.now path.now kind) }
     ensures cause { IfFault result (λ f. V.causes view.old view.new f) }
 {
@@ -181,9 +170,7 @@ pub fn decide_getacl<V: FileView>(
     kind: AclKind,
 ) -> Result<Outcome<'static>, CallError<V::Fault>>
     requires { V.holds view.old }
-    ensures kept { V.holds view.new }
-    ensures follows { V.follows view.old view.new }
-    ensures same { IsTrue V.is_told → V.shows view.new ≡ V.shows view.old }
+    ensures left { Leaves V.holds V.follows V.is_told V.shows view.old view.new }
     ensures decided { IsTrue V.is_told → DecidesShown (in_use_of sessions.now) (V.shows view.old) (V.room view.old) (V.names view.old) (V.bytes view.old) session (call.GetAcl path.now kind) result }
     ensures cause { IfView result (λ f. V.causes view.old view.new f) }
 {

@@ -7,6 +7,7 @@ ghost use Rattle.sn_model.specs.declared.call.Call.TheVariants as call;
 ghost use Rattle.sn_desc.specs.Sessions.{in_use_of};
 ghost use Rattle.sn_core_decide_rules.specs.Decided.{DecidesShown};
 ghost use Rattle.sn_core_decide_rules.specs.Faults.{IfView};
+ghost use Rattle.sn_walk.specs.Frame.{Leaves};
 
 use crate::asking::default_acl_at;
 use crate::rights::{by_owner, has_acl, to_group, to_owner};
@@ -25,9 +26,7 @@ use sn_walk::{Attributes, Failure, Found, Path, TreeView};
 /// What is set at once of an object.
 fn ownership_at<V: TreeView>(view: &mut V, found: &Found) -> Result<Ownership, V::Fault>
     requires { V.holds view.old }
-    ensures kept { V.holds view.new }
-    ensures follows { V.follows view.old view.new }
-    ensures same { IsTrue V.is_told → V.shows view.new ≡ V.shows view.old }
+    ensures left { Leaves V.holds V.follows V.is_told V.shows view.old view.new }
     ensures found { IsTrue V.is_told → IfOk result (λ o. o ≡ calls.ownership_at (V.shows view.old) found.now) }
     ensures cause { IfErr result (λ f. V.causes view.old view.new f) }
 {
@@ -85,9 +84,7 @@ fn chmod<V: TreeView>(
     bits: ModeBits,
 ) -> Result<Outcome<'static>, Failure<Refusal, V::Fault>>
     requires { V.holds view.old }
-    ensures kept { V.holds view.new }
-    ensures follows { V.follows view.old view.new }
-    ensures same { IsTrue V.is_told → V.shows view.new ≡ V.shows view.old }
+    ensures left { Leaves V.holds V.follows V.is_told V.shows view.old view.new }
     ensures exact { IsTrue V.is_told → Gives (λ o. o) result (calls.chmod_outcome limits.now (V.shows view.old) caller.now path.now bits) }
     ensures cause { IfFault result (λ f. V.causes view.old view.new f) }
 {
@@ -111,9 +108,7 @@ pub fn decide_chmod<V: FileView>(
     mode: u16,
 ) -> Result<Outcome<'static>, CallError<V::Fault>>
     requires { V.holds view.old }
-    ensures kept { V.holds view.new }
-    ensures follows { V.follows view.old view.new }
-    ensures same { IsTrue V.is_told → V.shows view.new ≡ V.shows view.old }
+    ensures left { Leaves V.holds V.follows V.is_told V.shows view.old view.new }
     ensures decided { IsTrue V.is_told → DecidesShown (in_use_of sessions.now) (V.shows view.old) (V.room view.old) (V.names view.old) (V.bytes view.old) session (call.Chmod path.now mode) result }
     ensures cause { IfView result (λ f. V.causes view.old view.new f) }
 {
@@ -156,9 +151,7 @@ fn chown<V: TreeView>(
     gid: Option<u32>,
 ) -> Result<Outcome<'static>, Failure<Refusal, V::Fault>>
     requires { V.holds view.old }
-    ensures kept { V.holds view.new }
-    ensures follows { V.follows view.old view.new }
-    ensures same { IsTrue V.is_told → V.shows view.new ≡ V.shows view.old }
+    ensures left { Leaves V.holds V.follows V.is_told V.shows view.old view.new }
     ensures exact { IsTrue V.is_told → Gives (λ o. o) result (calls.chown_outcome limits.now (V.shows view.old) caller.now path.now uid gid) }
     ensures cause { IfFault result (λ f. V.causes view.old view.new f) }
 {
@@ -185,9 +178,7 @@ pub fn decide_chown<V: FileView>(
     gid: Option<u32>,
 ) -> Result<Outcome<'static>, CallError<V::Fault>>
     requires { V.holds view.old }
-    ensures kept { V.holds view.new }
-    ensures follows { V.follows view.old view.new }
-    ensures same { IsTrue V.is_told → V.shows view.new ≡ V.shows view.old }
+    ensures left { Leaves V.holds V.follows V.is_told V.shows view.old view.new }
     ensures decided { IsTrue V.is_told → DecidesShown (in_use_of sessions.now) (V.shows view.old) (V.room view.old) (V.names view.old) (V.bytes view.old) session (call.Chown path.now uid gid) result }
     ensures cause { IfView result (λ f. V.causes view.old view.new f) }
 {
@@ -227,9 +218,7 @@ fn setacl<V: TreeView>(
     acl: NewAcl,
 ) -> Result<Outcome<'static>, Failure<Refusal, V::Fault>>
     requires { V.holds view.old }
-    ensures kept { V.holds view.new }
-    ensures follows { V.follows view.old view.new }
-    ensures same { IsTrue V.is_told → V.shows view.new ≡ V.shows view.old }
+    ensures left { Leaves V.holds V.follows V.is_told V.shows view.old view.new }
     ensures exact { IsTrue V.is_told → Gives (λ o. o) result (calls.setacl_outcome limits.now (V.shows view.old) caller.now path.now acl) }
     ensures cause { IfFault result (λ f. V.causes view.old view.new f) }
 {
@@ -254,9 +243,7 @@ pub fn decide_setacl<V: FileView>(
     acl: &Word,
 ) -> Result<Outcome<'static>, CallError<V::Fault>>
     requires { V.holds view.old }
-    ensures kept { V.holds view.new }
-    ensures follows { V.follows view.old view.new }
-    ensures same { IsTrue V.is_told → V.shows view.new ≡ V.shows view.old }
+    ensures left { Leaves V.holds V.follows V.is_told V.shows view.old view.new }
     ensures decided { IsTrue V.is_told → DecidesShown (in_use_of sessions.now) (V.shows view.old) (V.room view.old) (V.names view.old) (V.bytes view.old) session (call.SetAcl path.now kind acl.now) result }
     ensures cause { IfView result (λ f. V.causes view.old view.new f) }
 {

@@ -10,6 +10,7 @@ ghost use Rattle.sn_model.specs.declared.call.Call.TheVariants as call;
 ghost use Rattle.sn_desc.specs.Sessions.{in_use_of};
 ghost use Rattle.sn_core_decide_rules.specs.Decided.{DecidesShown};
 ghost use Rattle.sn_core_decide_rules.specs.Faults.{IfView};
+ghost use Rattle.sn_walk.specs.Frame.{Leaves};
 
 use sn_acl::{Acl, Inherited, Mode, inherit};
 use sn_core_decide_rules::{
@@ -150,9 +151,7 @@ fn open_in<'a, V: CallView>(
     place: u16,
 ) -> Result<Outcome<'a>, Failure<Refusal, V::Fault>>
     requires { V.holds view.old }
-    ensures kept { V.holds view.new }
-    ensures follows { V.follows view.old view.new }
-    ensures same { IsTrue V.is_told → V.shows view.new ≡ V.shows view.old }
+    ensures left { Leaves V.holds V.follows V.is_told V.shows view.old view.new }
     ensures exact { IsTrue V.is_told → Gives (λ o. o) result (calls.open_in limits.now (seen_by (V.shows view.old) (V.room view.old) (V.names view.old)) caller.now fd flags mode path.now parent.now place) }
     ensures cause { IfFault result (λ f. V.causes view.old view.new f) }
 {
@@ -186,9 +185,7 @@ fn open_absent<'a, V: CallView>(
     parent: Result<(Object, u16), Refusal>,
 ) -> Result<Outcome<'a>, Failure<Refusal, V::Fault>>
     requires { V.holds view.old }
-    ensures kept { V.holds view.new }
-    ensures follows { V.follows view.old view.new }
-    ensures same { IsTrue V.is_told → V.shows view.new ≡ V.shows view.old }
+    ensures left { Leaves V.holds V.follows V.is_told V.shows view.old view.new }
     ensures exact { IsTrue V.is_told → (walked : Walked) → parent ≡ parent_of Errno.Enoent walked → Gives (λ o. o) result (calls.open_absent limits.now (seen_by (V.shows view.old) (V.room view.old) (V.names view.old)) caller.now fd flags mode path.now walked) }
     ensures cause { IfFault result (λ f. V.causes view.old view.new f) }
 {
@@ -208,9 +205,7 @@ fn open<'a, V: CallView>(
     mode: Mode,
 ) -> Result<Outcome<'a>, Failure<Refusal, V::Fault>>
     requires { V.holds view.old }
-    ensures kept { V.holds view.new }
-    ensures follows { V.follows view.old view.new }
-    ensures same { IsTrue V.is_told → V.shows view.new ≡ V.shows view.old }
+    ensures left { Leaves V.holds V.follows V.is_told V.shows view.old view.new }
     ensures exact { IsTrue V.is_told → Gives (λ o. o) result (calls.open_as limits.now (seen_by (V.shows view.old) (V.room view.old) (V.names view.old)) caller.now fd path.now flags mode) }
     ensures cause { IfFault result (λ f. V.causes view.old view.new f) }
 {
@@ -240,9 +235,7 @@ pub fn decide_open<'a, V: FileView>(
     mode: u16,
 ) -> Result<Outcome<'a>, CallError<V::Fault>>
     requires { V.holds view.old }
-    ensures kept { V.holds view.new }
-    ensures follows { V.follows view.old view.new }
-    ensures same { IsTrue V.is_told → V.shows view.new ≡ V.shows view.old }
+    ensures left { Leaves V.holds V.follows V.is_told V.shows view.old view.new }
     ensures decided { IsTrue V.is_told → DecidesShown (in_use_of sessions.now) (V.shows view.old) (V.room view.old) (V.names view.old) (V.bytes view.old) session (call.Open path.now flags mode) result }
     ensures cause { IfView result (λ f. V.causes view.old view.new f) }
 {

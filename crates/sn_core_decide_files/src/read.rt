@@ -6,6 +6,7 @@ ghost use Rattle.sn_desc.specs.InUse.{descriptor_of};
 ghost use Rattle.sn_desc.specs.Sessions.{in_use_of};
 ghost use Rattle.sn_core_decide_rules.specs.Decided.{DecidesShown};
 ghost use Rattle.sn_core_decide_rules.specs.Faults.{IfLookUp, IfView};
+ghost use Rattle.sn_walk.specs.Frame.{Leaves};
 
 use sn_core_decide_rules::{CallError, FileFault, FileView, asks, count_argument, logged_in};
 use sn_desc::{OpenFile, Sessions};
@@ -22,9 +23,7 @@ fn reads<V: FileView>(
 ) -> Result<Outcome<'static>, FileFault<V::Fault>>
     requires holds { V.holds view.old }
     requires few { count ≤ 65536 }
-    ensures kept { V.holds view.new }
-    ensures follows { V.follows view.old view.new }
-    ensures same { IsTrue V.is_told → V.shows view.new ≡ V.shows view.old }
+    ensures left { Leaves V.holds V.follows V.is_told V.shows view.old view.new }
     ensures found { IsTrue V.is_told → IfOk result (λ o. o ≡ calls.reads fd (descriptor_of file.now) (take count (drop file.now.offset (V.bytes view.old file.now.home file.now.number)))) }
     ensures cause { IfLookUp result (λ f. V.causes view.old view.new f) }
 {
@@ -49,9 +48,7 @@ pub fn decide_read<V: FileView>(
     count: u64,
 ) -> Result<Outcome<'static>, CallError<V::Fault>>
     requires { V.holds view.old }
-    ensures kept { V.holds view.new }
-    ensures follows { V.follows view.old view.new }
-    ensures same { IsTrue V.is_told → V.shows view.new ≡ V.shows view.old }
+    ensures left { Leaves V.holds V.follows V.is_told V.shows view.old view.new }
     ensures decided { IsTrue V.is_told → DecidesShown (in_use_of sessions.now) (V.shows view.old) (V.room view.old) (V.names view.old) (V.bytes view.old) session (call.Read fd count) result }
     ensures cause { IfView result (λ f. V.causes view.old view.new f) }
 {

@@ -8,6 +8,7 @@ ghost use Rattle.sn_desc.specs.Sessions.{in_use_of};
 ghost use Rattle.sn_walk.specs.Gives.{Answers};
 ghost use Rattle.sn_core_decide_rules.specs.Decided.{DecidesShown};
 ghost use Rattle.sn_core_decide_rules.specs.Faults.{IfView};
+ghost use Rattle.sn_walk.specs.Frame.{Leaves};
 
 use sn_core_decide_rules::{
     CallError, FileView, asks, blocks_spanned, bytes_argument, logged_in, write_charge,
@@ -59,9 +60,7 @@ fn write_some<'a>(
 /// Where a write to an open file begins.
 fn write_offset<V: FileView>(view: &mut V, file: &OpenFile) -> Result<u64, V::Fault>
     requires { V.holds view.old }
-    ensures kept { V.holds view.new }
-    ensures follows { V.follows view.old view.new }
-    ensures same { IsTrue V.is_told → V.shows view.new ≡ V.shows view.old }
+    ensures left { Leaves V.holds V.follows V.is_told V.shows view.old view.new }
     ensures found { IsTrue V.is_told → IfOk result (λ offset. offset ≡ calls.write_offset (descriptor_of file.now) (V.bytes view.old file.now.home file.now.number)) }
     ensures cause { IfErr result (λ f. V.causes view.old view.new f) }
 {
@@ -84,9 +83,7 @@ pub fn decide_write<'a, V: FileView>(
     bytes: &'a FileData,
 ) -> Result<Outcome<'a>, CallError<V::Fault>>
     requires { V.holds view.old }
-    ensures kept { V.holds view.new }
-    ensures follows { V.follows view.old view.new }
-    ensures same { IsTrue V.is_told → V.shows view.new ≡ V.shows view.old }
+    ensures left { Leaves V.holds V.follows V.is_told V.shows view.old view.new }
     ensures decided { IsTrue V.is_told → DecidesShown (in_use_of sessions.now) (V.shows view.old) (V.room view.old) (V.names view.old) (V.bytes view.old) session (call.Write fd bytes.now) result }
     ensures cause { IfView result (λ f. V.causes view.old view.new f) }
 {

@@ -7,6 +7,7 @@ ghost use Rattle.sn_model.specs.declared.call.Call.TheVariants as call;
 ghost use Rattle.sn_desc.specs.Sessions.{in_use_of};
 ghost use Rattle.sn_core_decide_rules.specs.Decided.{DecidesShown};
 ghost use Rattle.sn_core_decide_rules.specs.Faults.{IfView};
+ghost use Rattle.sn_walk.specs.Frame.{Leaves};
 
 use sn_core_decide_rules::{
     CallError, CallView, FileView, decided, does, full, live, logged_in, name_charge, no_directory,
@@ -49,9 +50,7 @@ fn link_in<'a, V: CallView>(
     place: u16,
 ) -> Result<Outcome<'a>, Failure<Refusal, V::Fault>>
     requires { V.holds view.old }
-    ensures kept { V.holds view.new }
-    ensures follows { V.follows view.old view.new }
-    ensures same { IsTrue V.is_told → V.shows view.new ≡ V.shows view.old }
+    ensures left { Leaves V.holds V.follows V.is_told V.shows view.old view.new }
     ensures exact { IsTrue V.is_told → Gives (λ o. o) result (calls.link_in limits.now (seen_by (V.shows view.old) (V.room view.old) (V.names view.old)) caller.now new.now found.now number parent.now place) }
     ensures cause { IfFault result (λ f. V.causes view.old view.new f) }
 {
@@ -78,9 +77,7 @@ fn link<'a, V: CallView>(
     new: &Path<'a>,
 ) -> Result<Outcome<'a>, Failure<Refusal, V::Fault>>
     requires { V.holds view.old }
-    ensures kept { V.holds view.new }
-    ensures follows { V.follows view.old view.new }
-    ensures same { IsTrue V.is_told → V.shows view.new ≡ V.shows view.old }
+    ensures left { Leaves V.holds V.follows V.is_told V.shows view.old view.new }
     ensures exact { IsTrue V.is_told → Gives (λ o. o) result (calls.link_outcome limits.now (seen_by (V.shows view.old) (V.room view.old) (V.names view.old)) caller.now old.now new.now) }
     ensures cause { IfFault result (λ f. V.causes view.old view.new f) }
 {
@@ -102,9 +99,7 @@ pub fn decide_link<'a, V: FileView>(
     new: &'a Word,
 ) -> Result<Outcome<'a>, CallError<V::Fault>>
     requires { V.holds view.old }
-    ensures kept { V.holds view.new }
-    ensures follows { V.follows view.old view.new }
-    ensures same { IsTrue V.is_told → V.shows view.new ≡ V.shows view.old }
+    ensures left { Leaves V.holds V.follows V.is_told V.shows view.old view.new }
     ensures decided { IsTrue V.is_told → DecidesShown (in_use_of sessions.now) (V.shows view.old) (V.room view.old) (V.names view.old) (V.bytes view.old) session (call.Link old.now new.now) result }
     ensures cause { IfView result (λ f. V.causes view.old view.new f) }
 {

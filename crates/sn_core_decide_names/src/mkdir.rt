@@ -9,6 +9,7 @@ ghost use Rattle.sn_model.specs.declared.call.Call.TheVariants as call;
 ghost use Rattle.sn_desc.specs.Sessions.{in_use_of};
 ghost use Rattle.sn_core_decide_rules.specs.Decided.{DecidesShown};
 ghost use Rattle.sn_core_decide_rules.specs.Faults.{IfView};
+ghost use Rattle.sn_walk.specs.Frame.{Leaves};
 
 use sn_acl::{Acl, Inherited, Mode, inherit};
 use sn_core_decide_rules::{
@@ -57,9 +58,7 @@ fn mkdir<'a, V: CallView>(
     mode: Mode,
 ) -> Result<Outcome<'a>, Failure<Refusal, V::Fault>>
     requires { V.holds view.old }
-    ensures kept { V.holds view.new }
-    ensures follows { V.follows view.old view.new }
-    ensures same { IsTrue V.is_told → V.shows view.new ≡ V.shows view.old }
+    ensures left { Leaves V.holds V.follows V.is_told V.shows view.old view.new }
     ensures exact { IsTrue V.is_told → Gives (λ o. o) result (mkdir_outcome limits.now (seen_by (V.shows view.old) (V.room view.old) (V.names view.old)) caller.now path.now mode) }
     ensures cause { IfFault result (λ f. V.causes view.old view.new f) }
 {
@@ -96,9 +95,7 @@ pub fn decide_mkdir<'a, V: FileView>(
     mode: u16,
 ) -> Result<Outcome<'a>, CallError<V::Fault>>
     requires { V.holds view.old }
-    ensures kept { V.holds view.new }
-    ensures follows { V.follows view.old view.new }
-    ensures same { IsTrue V.is_told → V.shows view.new ≡ V.shows view.old }
+    ensures left { Leaves V.holds V.follows V.is_told V.shows view.old view.new }
     ensures decided { IsTrue V.is_told → DecidesShown (in_use_of sessions.now) (V.shows view.old) (V.room view.old) (V.names view.old) (V.bytes view.old) session (call.Mkdir path.now mode) result }
     ensures cause { IfView result (λ f. V.causes view.old view.new f) }
 {

@@ -8,6 +8,7 @@ ghost use Rattle.sn_model.specs.declared.call.Call.TheVariants as call;
 ghost use Rattle.sn_desc.specs.Sessions.{in_use_of};
 ghost use Rattle.sn_core_decide_rules.specs.Decided.{DecidesShown};
 ghost use Rattle.sn_core_decide_rules.specs.Faults.{IfView};
+ghost use Rattle.sn_walk.specs.Frame.{Leaves};
 
 use sn_core_decide_rules::{
     CallError, CallView, FileView, asks, full, granted, is_listable, logged_in, path_argument,
@@ -25,9 +26,7 @@ fn readdir<V: CallView>(
     path: &Path<'_>,
 ) -> Result<Object, Failure<Refusal, V::Fault>>
     requires { V.holds view.old }
-    ensures kept { V.holds view.new }
-    ensures follows { V.follows view.old view.new }
-    ensures same { IsTrue V.is_told → V.shows view.new ≡ V.shows view.old }
+    ensures left { Leaves V.holds V.follows V.is_told V.shows view.old view.new }
     ensures exact { IsTrue V.is_told → Gives (λ directory. tells (Reply.Names ((V.names view.old).listed directory))) result (calls.readdir_outcome (seen_by (V.shows view.old) (V.room view.old) (V.names view.old)) caller.now path.now) }
     ensures cause { IfFault result (λ f. V.causes view.old view.new f) }
 {
@@ -57,9 +56,7 @@ pub fn decide_readdir<V: FileView>(
     path: &Word,
 ) -> Result<Outcome<'static>, CallError<V::Fault>>
     requires { V.holds view.old }
-    ensures kept { V.holds view.new }
-    ensures follows { V.follows view.old view.new }
-    ensures same { IsTrue V.is_told → V.shows view.new ≡ V.shows view.old }
+    ensures left { Leaves V.holds V.follows V.is_told V.shows view.old view.new }
     ensures decided { IsTrue V.is_told → DecidesShown (in_use_of sessions.now) (V.shows view.old) (V.room view.old) (V.names view.old) (V.bytes view.old) session (call.Readdir path.now) result }
     ensures cause { IfView result (λ f. V.causes view.old view.new f) }
 {

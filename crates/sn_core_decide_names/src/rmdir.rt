@@ -7,6 +7,7 @@ ghost use Rattle.sn_model.specs.declared.call.Call.TheVariants as call;
 ghost use Rattle.sn_desc.specs.Sessions.{in_use_of};
 ghost use Rattle.sn_core_decide_rules.specs.Decided.{DecidesShown};
 ghost use Rattle.sn_core_decide_rules.specs.Faults.{IfView};
+ghost use Rattle.sn_walk.specs.Frame.{Leaves};
 
 use sn_core_decide_rules::{
     CallError, CallView, FileView, decided, does, empty, is_listable, live, logged_in, name_charge,
@@ -28,9 +29,7 @@ fn rmdir_in<'a, V: CallView>(
     found: &Found,
 ) -> Result<Outcome<'a>, Failure<Refusal, V::Fault>>
     requires { V.holds view.old }
-    ensures kept { V.holds view.new }
-    ensures follows { V.follows view.old view.new }
-    ensures same { IsTrue V.is_told → V.shows view.new ≡ V.shows view.old }
+    ensures left { Leaves V.holds V.follows V.is_told V.shows view.old view.new }
     ensures exact { IsTrue V.is_told → Gives (λ o. o) result (calls.rmdir_in limits.now (seen_by (V.shows view.old) (V.room view.old) (V.names view.old)) caller.now path.now parent.now place found.now) }
     ensures cause { IfFault result (λ f. V.causes view.old view.new f) }
 {
@@ -56,9 +55,7 @@ fn rmdir<'a, V: CallView>(
     path: &Path<'a>,
 ) -> Result<Outcome<'a>, Failure<Refusal, V::Fault>>
     requires { V.holds view.old }
-    ensures kept { V.holds view.new }
-    ensures follows { V.follows view.old view.new }
-    ensures same { IsTrue V.is_told → V.shows view.new ≡ V.shows view.old }
+    ensures left { Leaves V.holds V.follows V.is_told V.shows view.old view.new }
     ensures exact { IsTrue V.is_told → Gives (λ o. o) result (calls.rmdir_outcome limits.now (seen_by (V.shows view.old) (V.room view.old) (V.names view.old)) caller.now path.now) }
     ensures cause { IfFault result (λ f. V.causes view.old view.new f) }
 {
@@ -77,9 +74,7 @@ pub fn decide_rmdir<'a, V: FileView>(
     path: &'a Word,
 ) -> Result<Outcome<'a>, CallError<V::Fault>>
     requires { V.holds view.old }
-    ensures kept { V.holds view.new }
-    ensures follows { V.follows view.old view.new }
-    ensures same { IsTrue V.is_told → V.shows view.new ≡ V.shows view.old }
+    ensures left { Leaves V.holds V.follows V.is_told V.shows view.old view.new }
     ensures decided { IsTrue V.is_told → DecidesShown (in_use_of sessions.now) (V.shows view.old) (V.room view.old) (V.names view.old) (V.bytes view.old) session (call.Rmdir path.now) result }
     ensures cause { IfView result (λ f. V.causes view.old view.new f) }
 {

@@ -7,6 +7,7 @@ ghost use Rattle.sn_model.specs.declared.call.Call.TheVariants as call;
 ghost use Rattle.sn_desc.specs.Sessions.{in_use_of};
 ghost use Rattle.sn_core_decide_rules.specs.Decided.{DecidesShown};
 ghost use Rattle.sn_core_decide_rules.specs.Faults.{IfView};
+ghost use Rattle.sn_walk.specs.Frame.{Leaves};
 
 use sn_core_decide_rules::{
     CallError, FileView, decided, does, live, logged_in, no_directory, parent_of, path_argument,
@@ -28,9 +29,7 @@ fn unlink_in<'a, V: TreeView>(
     found: &Found,
 ) -> Result<Outcome<'a>, Failure<Refusal, V::Fault>>
     requires { V.holds view.old }
-    ensures kept { V.holds view.new }
-    ensures follows { V.follows view.old view.new }
-    ensures same { IsTrue V.is_told → V.shows view.new ≡ V.shows view.old }
+    ensures left { Leaves V.holds V.follows V.is_told V.shows view.old view.new }
     ensures exact { IsTrue V.is_told → Gives (λ o. o) result (unlink_in limits.now (V.shows view.old) caller.now path.now directory.now place found.now) }
     ensures cause { IfFault result (λ f. V.causes view.old view.new f) }
 {
@@ -52,9 +51,7 @@ fn unlink<'a, V: TreeView>(
     path: &Path<'a>,
 ) -> Result<Outcome<'a>, Failure<Refusal, V::Fault>>
     requires { V.holds view.old }
-    ensures kept { V.holds view.new }
-    ensures follows { V.follows view.old view.new }
-    ensures same { IsTrue V.is_told → V.shows view.new ≡ V.shows view.old }
+    ensures left { Leaves V.holds V.follows V.is_told V.shows view.old view.new }
     ensures exact { IsTrue V.is_told → Gives (λ o. o) result (calls.unlink_outcome limits.now (V.shows view.old) caller.now path.now) }
     ensures cause { IfFault result (λ f. V.causes view.old view.new f) }
 {
@@ -76,9 +73,7 @@ pub fn decide_unlink<'a, V: FileView>(
     path: &'a Word,
 ) -> Result<Outcome<'a>, CallError<V::Fault>>
     requires { V.holds view.old }
-    ensures kept { V.holds view.new }
-    ensures follows { V.follows view.old view.new }
-    ensures same { IsTrue V.is_told → V.shows view.new ≡ V.shows view.old }
+    ensures left { Leaves V.holds V.follows V.is_told V.shows view.old view.new }
     ensures decided { IsTrue V.is_told → DecidesShown (in_use_of sessions.now) (V.shows view.old) (V.room view.old) (V.names view.old) (V.bytes view.old) session (call.Unlink path.now) result }
     ensures cause { IfView result (λ f. V.causes view.old view.new f) }
 {

@@ -7,6 +7,7 @@ ghost use Rattle.sn_model.specs.declared.call.Call.TheVariants as call;
 ghost use Rattle.sn_desc.specs.Sessions.{in_use_of};
 ghost use Rattle.sn_core_decide_rules.specs.Decided.{DecidesShown};
 ghost use Rattle.sn_core_decide_rules.specs.Faults.{IfView};
+ghost use Rattle.sn_walk.specs.Frame.{Leaves};
 
 use sn_acl::Cred;
 use sn_core_decide_rules::{
@@ -47,9 +48,7 @@ fn is_one(moving: &Moving) -> bool
 /// The new name isn't below what is moved: EINVAL otherwise.
 fn not_below<V: MoveView>(view: &mut V, moving: &Moving) -> Result<(), Failure<Refusal, V::Fault>>
     requires { V.holds view.old }
-    ensures kept { V.holds view.new }
-    ensures follows { V.follows view.old view.new }
-    ensures same { IsTrue V.is_told → V.shows view.new ≡ V.shows view.old }
+    ensures left { Leaves V.holds V.follows V.is_told V.shows view.old view.new }
     ensures exact { IsTrue V.is_told → Gives (λ u. u) result (calls.not_below (seen_by (V.shows view.old) (V.room view.old) (V.names view.old)) moving.now) }
     ensures cause { IfFault result (λ f. V.causes view.old view.new f) }
 {
@@ -84,9 +83,7 @@ fn gives_way<V: CallView>(
     moving: &Moving,
 ) -> Result<(), Failure<Refusal, V::Fault>>
     requires { V.holds view.old }
-    ensures kept { V.holds view.new }
-    ensures follows { V.follows view.old view.new }
-    ensures same { IsTrue V.is_told → V.shows view.new ≡ V.shows view.old }
+    ensures left { Leaves V.holds V.follows V.is_told V.shows view.old view.new }
     ensures exact { IsTrue V.is_told → Gives (λ u. u) result (calls.gives_way (seen_by (V.shows view.old) (V.room view.old) (V.names view.old)) cred.now parent.now moving.now.found moving.now.target) }
     ensures cause { IfFault result (λ f. V.causes view.old view.new f) }
 {
@@ -107,9 +104,7 @@ fn room_to_move<V: CallView>(
     moving: &Moving,
 ) -> Result<(), Failure<Refusal, V::Fault>>
     requires { V.holds view.old }
-    ensures kept { V.holds view.new }
-    ensures follows { V.follows view.old view.new }
-    ensures same { IsTrue V.is_told → V.shows view.new ≡ V.shows view.old }
+    ensures left { Leaves V.holds V.follows V.is_told V.shows view.old view.new }
     ensures exact { IsTrue V.is_told → Gives (λ u. u) result (calls.room_to_move (seen_by (V.shows view.old) (V.room view.old) (V.names view.old)) moving.now) }
     ensures cause { IfFault result (λ f. V.causes view.old view.new f) }
 {
@@ -130,9 +125,7 @@ fn moving_to<V: TreeView>(
     found: &Found,
 ) -> Result<(Object, u16, Option<Found>), Failure<Refusal, V::Fault>>
     requires { V.holds view.old }
-    ensures kept { V.holds view.new }
-    ensures follows { V.follows view.old view.new }
-    ensures same { IsTrue V.is_told → V.shows view.new ≡ V.shows view.old }
+    ensures left { Leaves V.holds V.follows V.is_told V.shows view.old view.new }
     ensures exact { IsTrue V.is_told → (place : ℕ) → Gives (λ to. record { old_directory = old_directory.now; old_place = place; new_directory = to.0; new_place = to.1; found = found.now; target = to.2 }) result (calls.moving_to (V.shows view.old) cred.now new.now old_directory.now place found.now) }
     ensures cause { IfFault result (λ f. V.causes view.old view.new f) }
 {
@@ -155,9 +148,7 @@ fn moving_of<V: TreeView>(
     new: &Path<'_>,
 ) -> Result<Moving, Failure<Refusal, V::Fault>>
     requires { V.holds view.old }
-    ensures kept { V.holds view.new }
-    ensures follows { V.follows view.old view.new }
-    ensures same { IsTrue V.is_told → V.shows view.new ≡ V.shows view.old }
+    ensures left { Leaves V.holds V.follows V.is_told V.shows view.old view.new }
     ensures exact { IsTrue V.is_told → Gives (λ m. m) result (calls.moving_of (V.shows view.old) cred.now old.now new.now) }
     ensures cause { IfFault result (λ f. V.causes view.old view.new f) }
 {
@@ -188,9 +179,7 @@ fn moved_in<'a, V: CallView>(
     to: &Attributes,
 ) -> Result<Outcome<'a>, Failure<Refusal, V::Fault>>
     requires { V.holds view.old }
-    ensures kept { V.holds view.new }
-    ensures follows { V.follows view.old view.new }
-    ensures same { IsTrue V.is_told → V.shows view.new ≡ V.shows view.old }
+    ensures left { Leaves V.holds V.follows V.is_told V.shows view.old view.new }
     ensures exact { IsTrue V.is_told → Gives (λ o. o) result (calls.moved_in limits.now (seen_by (V.shows view.old) (V.room view.old) (V.names view.old)) caller.now old.now new.now moving.now from.now to.now) }
     ensures cause { IfFault result (λ f. V.causes view.old view.new f) }
 {
@@ -219,9 +208,7 @@ fn moved<'a, V: MoveView>(
     moving: &Moving,
 ) -> Result<Outcome<'a>, Failure<Refusal, V::Fault>>
     requires { V.holds view.old }
-    ensures kept { V.holds view.new }
-    ensures follows { V.follows view.old view.new }
-    ensures same { IsTrue V.is_told → V.shows view.new ≡ V.shows view.old }
+    ensures left { Leaves V.holds V.follows V.is_told V.shows view.old view.new }
     ensures exact { IsTrue V.is_told → Gives (λ o. o) result (calls.moved_outcome limits.now (seen_by (V.shows view.old) (V.room view.old) (V.names view.old)) caller.now old.now new.now moving.now) }
     ensures cause { IfFault result (λ f. V.causes view.old view.new f) }
 {
@@ -245,9 +232,7 @@ fn rename<'a, V: MoveView>(
     new: &Path<'a>,
 ) -> Result<Outcome<'a>, Failure<Refusal, V::Fault>>
     requires { V.holds view.old }
-    ensures kept { V.holds view.new }
-    ensures follows { V.follows view.old view.new }
-    ensures same { IsTrue V.is_told → V.shows view.new ≡ V.shows view.old }
+    ensures left { Leaves V.holds V.follows V.is_told V.shows view.old view.new }
     ensures exact { IsTrue V.is_told → Gives (λ o. o) result (calls.rename_outcome limits.now (seen_by (V.shows view.old) (V.room view.old) (V.names view.old)) caller.now old.now new.now) }
     ensures cause { IfFault result (λ f. V.causes view.old view.new f) }
 {
@@ -272,9 +257,7 @@ pub fn decide_rename<'a, V: FileView>(
     new: &'a Word,
 ) -> Result<Outcome<'a>, CallError<V::Fault>>
     requires { V.holds view.old }
-    ensures kept { V.holds view.new }
-    ensures follows { V.follows view.old view.new }
-    ensures same { IsTrue V.is_told → V.shows view.new ≡ V.shows view.old }
+    ensures left { Leaves V.holds V.follows V.is_told V.shows view.old view.new }
     ensures decided { IsTrue V.is_told → DecidesShown (in_use_of sessions.now) (V.shows view.old) (V.room view.old) (V.names view.old) (V.bytes view.old) session (call.Rename old.now new.now) result }
     ensures cause { IfView result (λ f. V.causes view.old view.new f) }
 {

@@ -8,6 +8,7 @@ ghost use Rattle.sn_model.specs.Tests as tests;
 ghost use Rattle.sn_walk.specs.Gives.{Gives, IfFault};
 ghost use Rattle.sn_walk.specs.Walks.{end_of, found_at};
 ghost use Rattle.sn_model.specs.NameCalls as names;
+ghost use Rattle.sn_walk.specs.Frame.{Leaves};
 
 use crate::view::CallView;
 use sn_acl::{Acl, Cred, Permissions, Tag, check};
@@ -73,9 +74,7 @@ pub fn prefix<V: TreeView>(
     path: &Path<'_>,
 ) -> Result<Walked, Failure<Refusal, V::Fault>>
     requires { V.holds view.old }
-    ensures kept { V.holds view.new }
-    ensures follows { V.follows view.old view.new }
-    ensures same { IsTrue V.is_told → V.shows view.new ≡ V.shows view.old }
+    ensures left { Leaves V.holds V.follows V.is_told V.shows view.old view.new }
     ensures exact { IsTrue V.is_told → Gives (λ w. w) result (tests.prefix (V.shows view.old) cred.now which path.now) }
     ensures few { IfOk result (λ w. end_of w ≤ 1023) }
     ensures cause { IfFault result (λ f. V.causes view.old view.new f) }
@@ -93,9 +92,7 @@ pub fn prefix<V: TreeView>(
 pub fn there<V: TreeView>(view: &mut V, walked: Walked) -> Result<Found, Failure<Refusal, V::Fault>>
     requires holds { V.holds view.old }
     requires few { end_of walked ≤ 1023 }
-    ensures kept { V.holds view.new }
-    ensures follows { V.follows view.old view.new }
-    ensures same { IsTrue V.is_told → V.shows view.new ≡ V.shows view.old }
+    ensures left { Leaves V.holds V.follows V.is_told V.shows view.old view.new }
     ensures exact { IsTrue V.is_told → Gives (λ f. f) result (tests.there (found_at (V.shows view.old) walked)) }
     ensures cause { IfFault result (λ f. V.causes view.old view.new f) }
 {
@@ -114,9 +111,7 @@ pub fn full<V: TreeView>(
     path: &Path<'_>,
 ) -> Result<Found, Failure<Refusal, V::Fault>>
     requires { V.holds view.old }
-    ensures kept { V.holds view.new }
-    ensures follows { V.follows view.old view.new }
-    ensures same { IsTrue V.is_told → V.shows view.new ≡ V.shows view.old }
+    ensures left { Leaves V.holds V.follows V.is_told V.shows view.old view.new }
     ensures exact { IsTrue V.is_told → Gives (λ f. f) result (tests.full (V.shows view.old) cred.now which path.now) }
     ensures cause { IfFault result (λ f. V.causes view.old view.new f) }
 {
@@ -220,9 +215,7 @@ pub fn writable_parent<V: TreeView>(
     directory: &Object,
 ) -> Result<Attributes, Failure<Refusal, V::Fault>>
     requires { V.holds view.old }
-    ensures kept { V.holds view.new }
-    ensures follows { V.follows view.old view.new }
-    ensures same { IsTrue V.is_told → V.shows view.new ≡ V.shows view.old }
+    ensures left { Leaves V.holds V.follows V.is_told V.shows view.old view.new }
     ensures exact { IsTrue V.is_told → Gives (λ a. a) result (tests.writable_parent (V.shows view.old) cred.now which place directory.now) }
     ensures cause { IfFault result (λ f. V.causes view.old view.new f) }
 {
@@ -242,9 +235,7 @@ pub fn given_in<V: CallView>(
     directory: u16,
 ) -> Result<Option<Acl>, Failure<Refusal, V::Fault>>
     requires { V.holds view.old }
-    ensures kept { V.holds view.new }
-    ensures follows { V.follows view.old view.new }
-    ensures same { IsTrue V.is_told → V.shows view.new ≡ V.shows view.old }
+    ensures left { Leaves V.holds V.follows V.is_told V.shows view.old view.new }
     ensures room { IsTrue V.is_told → Gives (λ _. tt) result (V.room view.old directory) }
     ensures found { IsTrue V.is_told → IfOk result (λ acl. acl ≡ ((V.shows view.old).tree Home.Live).default_acl directory) }
     ensures cause { IfFault result (λ f. V.causes view.old view.new f) }
@@ -297,9 +288,7 @@ pub fn is_listable(found: &Found) -> Result<(), Refusal>
 /// A directory that is removed has no names: ENOTEMPTY otherwise.
 pub fn empty<V: CallView>(view: &mut V, directory: u16) -> Result<(), Failure<Refusal, V::Fault>>
     requires { V.holds view.old }
-    ensures kept { V.holds view.new }
-    ensures follows { V.follows view.old view.new }
-    ensures same { IsTrue V.is_told → V.shows view.new ≡ V.shows view.old }
+    ensures left { Leaves V.holds V.follows V.is_told V.shows view.old view.new }
     ensures exact { IsTrue V.is_told → Gives (λ u. u) result (names.empty ((V.names view.old).is_empty directory)) }
     ensures cause { IfFault result (λ f. V.causes view.old view.new f) }
 {

@@ -7,13 +7,12 @@ use sn_overlay::{Below, Through};
 pub trait KeepsNames: Below {
     ghost use Rattle.std.specs.Prelude.{◌≡◌, IsTrue, IfOk, IfErr};
     ghost use Rattle.sn_model.specs.Tree.{link_to};
+    ghost use Rattle.sn_walk.specs.Frame.{Leaves};
 
     /// A name of a directory that is lent, with memory of its own. A fault is one of memory.
     fn keep_name(&mut self, directory: u16, name: &[u8]) -> Result<Link, Self::Fault>
         requires { Self.holds self.old }
-        ensures kept { Self.holds self.new }
-        ensures follows { Self.follows self.old self.new }
-        ensures same { IsTrue Self.is_told → Self.shows self.new ≡ Self.shows self.old }
+        ensures left { Leaves Self.holds Self.follows Self.is_told Self.shows self.old self.new }
         ensures link { IfOk result (λ link. link ≡ link_to directory name.now) }
         ensures cause { IfErr result (λ f. Self.causes self.old self.new f) };
 }

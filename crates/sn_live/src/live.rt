@@ -21,6 +21,7 @@ ghost use Rattle.sn_model.specs.Settling.{nameless_in};
 ghost use Rattle.sn_overlay.specs.Overlays.{layer_of, no_changes};
 ghost use Rattle.sn_overlay_change.specs.ChangeLayers.{layer_of_change};
 ghost use Rattle.sn_overlay_change.specs.Faults.{IfBelow};
+ghost use Rattle.sn_walk.specs.Frame.{Leaves};
 
 use crate::nodes::{nameless_after, note_names, note_nodes};
 use crate::preparing::{PreparedLive, charge_through, prepare_through};
@@ -154,9 +155,7 @@ impl LiveTree {
         requires holds { B.holds below.old }
         requires version { limits_of limits.now.version ≡ Some limits.now }
         requires live { IsTrue B.is_told → IsLive self.now (B.shows below.old) }
-        ensures kept { B.holds below.new }
-        ensures follows { B.follows below.old below.new }
-        ensures same { IsTrue B.is_told → B.shows below.new ≡ B.shows below.old }
+        ensures left { Leaves B.holds B.follows B.is_told B.shows below.old below.new }
         ensures exact { IsTrue B.is_told → IfOk result (λ n. n ≡ charge_for limits.now (shown_of self.now (B.shows below.old)) change.now) }
         ensures few { IfOk result (λ n. n ≤ 2 ^ 64) }
         ensures cause { IfErr result (λ f. B.causes below.old below.new f) }
@@ -189,9 +188,7 @@ impl LiveTree {
         requires holds { B.holds below.old }
         requires version { limits_of limits.now.version ≡ Some limits.now }
         requires live { IsTrue B.is_told → IsLive self.old (B.shows below.old) }
-        ensures kept { B.holds below.new }
-        ensures follows { B.follows below.old below.new }
-        ensures same { IsTrue B.is_told → B.shows below.new ≡ B.shows below.old }
+        ensures left { Leaves B.holds B.follows B.is_told B.shows below.old below.new }
         ensures alike { ShowsAlike self.old self.new }
         ensures point { point_of self.new ≡ point_of self.old }
         ensures changes { changes_of self.new ≡ changes_of self.old }

@@ -7,6 +7,7 @@ ghost use Rattle.sn_model.specs.Settling.{is_nameless};
 ghost use Rattle.sn_model.specs.Tree.{Tree, link_to};
 ghost use Rattle.sn_number_table.specs.Nameless.{is_listed};
 ghost use Rattle.sn_number_table.specs.Table.{TellsNumbers, kept_of, since_of};
+ghost use Rattle.sn_walk.specs.Frame.{Leaves};
 
 use sn_applies::NamedTree;
 use sn_limits::Kind;
@@ -31,9 +32,7 @@ pub(crate) enum NodeMoves {
 // Whether a number is that of a file without names.
 fn is_nameless<T: NamedTree>(tree: &mut T, number: u16) -> Result<bool, T::Fault>
     requires { T.holds tree.old }
-    ensures kept { T.holds tree.new }
-    ensures follows { T.follows tree.old tree.new }
-    ensures same { IsTrue T.is_told → T.shows tree.new ≡ T.shows tree.old }
+    ensures left { Leaves T.holds T.follows T.is_told T.shows tree.old tree.new }
     ensures found { IsTrue T.is_told → IfOk result (λ b. b ≡ is_nameless (T.shows tree.old) number (map.get (T.shows tree.old).nodes number)) }
     ensures cause { IfErr result (λ f. T.causes tree.old tree.new f) }
 {
@@ -62,9 +61,7 @@ fn losing_of(number: u16, kind: Kind, links: u16) -> NodeMoves
 // What becomes of what loses a name, if anything does.
 fn losing<T: NamedTree>(tree: &mut T, number: Option<u16>) -> Result<NodeMoves, T::Fault>
     requires { T.holds tree.old }
-    ensures kept { T.holds tree.new }
-    ensures follows { T.follows tree.old tree.new }
-    ensures same { IsTrue T.is_told → T.shows tree.new ≡ T.shows tree.old }
+    ensures left { Leaves T.holds T.follows T.is_told T.shows tree.old tree.new }
     ensures found { IsTrue T.is_told → IfOk result (λ moves. moves ≡ losing (T.shows tree.old) number) }
     ensures cause { IfErr result (λ f. T.causes tree.old tree.new f) }
 {
@@ -81,9 +78,7 @@ fn losing<T: NamedTree>(tree: &mut T, number: Option<u16>) -> Result<NodeMoves, 
 // What a remove does.
 fn removing<T: NamedTree>(tree: &mut T, directory: u16, name: &[u8]) -> Result<NodeMoves, T::Fault>
     requires { T.holds tree.old }
-    ensures kept { T.holds tree.new }
-    ensures follows { T.follows tree.old tree.new }
-    ensures same { IsTrue T.is_told → T.shows tree.new ≡ T.shows tree.old }
+    ensures left { Leaves T.holds T.follows T.is_told T.shows tree.old tree.new }
     ensures found { IsTrue T.is_told → IfOk result (λ moves. moves ≡ losing (T.shows tree.old) (map.get (T.shows tree.old).links (link_to directory name.now))) }
     ensures cause { IfErr result (λ f. T.causes tree.old tree.new f) }
 {
@@ -100,9 +95,7 @@ fn renaming<T: NamedTree>(
     new_name: &[u8],
 ) -> Result<NodeMoves, T::Fault>
     requires { T.holds tree.old }
-    ensures kept { T.holds tree.new }
-    ensures follows { T.follows tree.old tree.new }
-    ensures same { IsTrue T.is_told → T.shows tree.new ≡ T.shows tree.old }
+    ensures left { Leaves T.holds T.follows T.is_told T.shows tree.old tree.new }
     ensures found { IsTrue T.is_told → IfOk result (λ moves. moves ≡ renaming (T.shows tree.old) (link_to from old_name.now) (link_to to new_name.now)) }
     ensures cause { IfErr result (λ f. T.causes tree.old tree.new f) }
 {
@@ -119,9 +112,7 @@ fn renaming<T: NamedTree>(
 // What a link does to the file that gets a name.
 fn linking<T: NamedTree>(tree: &mut T, number: u16) -> Result<NodeMoves, T::Fault>
     requires { T.holds tree.old }
-    ensures kept { T.holds tree.new }
-    ensures follows { T.follows tree.old tree.new }
-    ensures same { IsTrue T.is_told → T.shows tree.new ≡ T.shows tree.old }
+    ensures left { Leaves T.holds T.follows T.is_told T.shows tree.old tree.new }
     ensures found { IsTrue T.is_told → IfOk result (λ moves. moves ≡ linking (T.shows tree.old) number) }
     ensures cause { IfErr result (λ f. T.causes tree.old tree.new f) }
 {
@@ -134,9 +125,7 @@ fn linking<T: NamedTree>(tree: &mut T, number: u16) -> Result<NodeMoves, T::Faul
 // What a make does.
 fn making<T: NamedTree>(tree: &mut T, number: u16) -> Result<NodeMoves, T::Fault>
     requires { T.holds tree.old }
-    ensures kept { T.holds tree.new }
-    ensures follows { T.follows tree.old tree.new }
-    ensures same { IsTrue T.is_told → T.shows tree.new ≡ T.shows tree.old }
+    ensures left { Leaves T.holds T.follows T.is_told T.shows tree.old tree.new }
     ensures found { IsTrue T.is_told → IfOk result (λ moves. moves ≡ making (T.shows tree.old) number) }
     ensures cause { IfErr result (λ f. T.causes tree.old tree.new f) }
 {
@@ -150,9 +139,7 @@ pub(crate) fn node_moves_of<T: NamedTree>(
     change: &Change<'_>,
 ) -> Result<NodeMoves, T::Fault>
     requires { T.holds tree.old }
-    ensures kept { T.holds tree.new }
-    ensures follows { T.follows tree.old tree.new }
-    ensures same { IsTrue T.is_told → T.shows tree.new ≡ T.shows tree.old }
+    ensures left { Leaves T.holds T.follows T.is_told T.shows tree.old tree.new }
     ensures found { IsTrue T.is_told → IfOk result (λ moves. moves ≡ node_moves_of (T.shows tree.old) change.now) }
     ensures cause { IfErr result (λ f. T.causes tree.old tree.new f) }
 {

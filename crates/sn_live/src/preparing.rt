@@ -14,6 +14,7 @@ ghost use Rattle.sn_overlay.specs.Layers.{through};
 ghost use Rattle.sn_overlay.specs.Overlays.{TakesRoom, layer_of};
 ghost use Rattle.sn_overlay.specs.Seen.{LiesOver};
 ghost use Rattle.sn_overlay_change.specs.Faults.{IfBelow};
+ghost use Rattle.sn_walk.specs.Frame.{Leaves};
 
 use crate::nodes::{NodeMoves, lost_of, node_moves_of};
 use sn_directories::{Directories, KeepsNames, LoggedTree};
@@ -49,9 +50,7 @@ fn moves_over<'x, B: KeepsNames>(
 ) -> Result<NodeMoves, B::Fault>
     requires holds { B.holds below.old }
     requires shown { IsTrue B.is_told → IsShown (layer_of overlay.now) (B.shows below.old) directories.now }
-    ensures kept { B.holds below.new }
-    ensures follows { B.follows below.old below.new }
-    ensures same { IsTrue B.is_told → B.shows below.new ≡ B.shows below.old }
+    ensures left { Leaves B.holds B.follows B.is_told B.shows below.old below.new }
     ensures found { IsTrue B.is_told → IfOk result (λ moves. moves ≡ node_moves_of (through (layer_of overlay.now) (B.shows below.old)) change.now) }
     ensures cause { IfErr result (λ f. B.causes below.old below.new f) }
 {
@@ -75,9 +74,7 @@ fn prepare_over<B: KeepsNames>(
     requires holds { B.holds below.old }
     requires version { limits_of limits.now.version ≡ Some limits.now }
     requires shown { IsTrue B.is_told → IsShown (layer_of overlay.old) (B.shows below.old) directories.now }
-    ensures kept { B.holds below.new }
-    ensures follows { B.follows below.old below.new }
-    ensures same { IsTrue B.is_told → B.shows below.new ≡ B.shows below.old }
+    ensures left { Leaves B.holds B.follows B.is_told B.shows below.old below.new }
     ensures layer { layer_of overlay.new ≡ layer_of overlay.old }
     ensures prepared { IsTrue B.is_told → IfOk result (λ p. IsPrepared limits.now p (through (layer_of overlay.old) (B.shows below.old)) change.now) }
     ensures room { IfOk result (λ p. IfSome p (λ prepared. laid.HasRoomFor overlay.new prepared.change drops)) }
@@ -112,9 +109,7 @@ pub(crate) fn prepare_through<'x, B: KeepsNames>(
     requires version { limits_of limits.now.version ≡ Some limits.now }
     requires lies { IsTrue B.is_told → LiesOver (layer_of bottom.now) (B.shows below.old) }
     requires shown { IsTrue B.is_told → IsShown (layer_of top.old) (through (layer_of bottom.now) (B.shows below.old)) directories.now }
-    ensures kept { B.holds below.new }
-    ensures follows { B.follows below.old below.new }
-    ensures same { IsTrue B.is_told → B.shows below.new ≡ B.shows below.old }
+    ensures left { Leaves B.holds B.follows B.is_told B.shows below.old below.new }
     ensures layer { layer_of top.new ≡ layer_of top.old }
     ensures prepared { IsTrue B.is_told → IfOk result (λ p. IsPrepared limits.now p (through (layer_of top.old) (through (layer_of bottom.now) (B.shows below.old))) change.now) }
     ensures room { IfOk result (λ p. IfSome p (λ prepared. laid.HasRoomFor top.new prepared.change drops)) }
@@ -141,9 +136,7 @@ pub(crate) fn charge_through<'x, B: KeepsNames>(
     requires version { limits_of limits.now.version ≡ Some limits.now }
     requires lies { IsTrue B.is_told → LiesOver (layer_of bottom.now) (B.shows below.old) }
     requires shown { IsTrue B.is_told → IsShown (layer_of top.now) (through (layer_of bottom.now) (B.shows below.old)) directories.now }
-    ensures kept { B.holds below.new }
-    ensures follows { B.follows below.old below.new }
-    ensures same { IsTrue B.is_told → B.shows below.new ≡ B.shows below.old }
+    ensures left { Leaves B.holds B.follows B.is_told B.shows below.old below.new }
     ensures exact { IsTrue B.is_told → IfOk result (λ n. n ≡ charge_for limits.now (through (layer_of top.now) (through (layer_of bottom.now) (B.shows below.old))) change.now) }
     ensures few { IfOk result (λ n. n ≤ 2 ^ 64) }
     ensures cause { IfErr result (λ f. B.causes below.old below.new f) }

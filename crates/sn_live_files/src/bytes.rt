@@ -5,6 +5,7 @@ ghost use Rattle.sn_core_decide_rules.specs.Faults.{IfLookUp};
 ghost use Rattle.sn_overlay.specs.Keys.{file_block_at};
 ghost use Rattle.sn_overlay.specs.Layers.{bytes_of};
 ghost use Rattle.sn_overlay.specs.Seen.{seen_block};
+ghost use Rattle.sn_walk.specs.Frame.{Leaves};
 
 use sn_core_decide_rules::FileFault;
 use sn_overlay::{BLOCK_SIZE, Below, FileBlock};
@@ -13,9 +14,7 @@ use std::alloc::Global;
 /// How many bytes a node has: none of a directory, or of a number without a node.
 pub fn size<B: Below>(tree: &mut B, number: u16) -> Result<u64, B::Fault>
     requires { B.holds tree.old }
-    ensures kept { B.holds tree.new }
-    ensures follows { B.follows tree.old tree.new }
-    ensures same { IsTrue B.is_told → B.shows tree.new ≡ B.shows tree.old }
+    ensures left { Leaves B.holds B.follows B.is_told B.shows tree.old tree.new }
     ensures found { IsTrue B.is_told → IfOk result (λ size. size ≡ length (bytes_of (map.get (B.shows tree.old).nodes number))) }
     ensures cause { IfErr result (λ f. B.causes tree.old tree.new f) }
 {
@@ -62,9 +61,7 @@ fn push_part<B: Below>(
 ) -> Result<(), FileFault<B::Fault>>
     requires holds { B.holds tree.old }
     requires within { at % 4096 + count ≤ 4096 }
-    ensures kept { B.holds tree.new }
-    ensures follows { B.follows tree.old tree.new }
-    ensures same { IsTrue B.is_told → B.shows tree.new ≡ B.shows tree.old }
+    ensures left { Leaves B.holds B.follows B.is_told B.shows tree.old tree.new }
     ensures bytes { IsTrue B.is_told → OnOk result (bytes.new.items ≡ bytes.old.items
         ++ take count (drop (at % 4096) (seen_block (B.shows tree.old) (file_block_at number (at / 4096))))) }
     ensures longer { OnOk result (vec_len bytes.new ≡ vec_len bytes.old + count) }
@@ -94,9 +91,7 @@ fn gathered<B: Below>(
     requires holds { B.holds tree.old }
     requires fits { offset + count < 2 ^ 64 }
     requires within { IsTrue B.is_told → offset + count ≤ length (bytes_of (map.get (B.shows tree.old).nodes number)) }
-    ensures kept { B.holds tree.new }
-    ensures follows { B.follows tree.old tree.new }
-    ensures same { IsTrue B.is_told → B.shows tree.new ≡ B.shows tree.old }
+    ensures left { Leaves B.holds B.follows B.is_told B.shows tree.old tree.new }
     ensures found { IsTrue B.is_told → IfOk result (λ read. read.items ≡ take count (drop offset (bytes_of (map.get (B.shows tree.old).nodes number)))) }
     ensures ends { IfOk result (λ read. offset + length read.items < 2 ^ 64) }
     ensures cause { IfLookUp result (λ f. B.causes tree.old tree.new f) }
@@ -121,9 +116,7 @@ pub(crate) fn gathered_from<B: Below>(
     most: usize,
 ) -> Result<Vec<u8>, FileFault<B::Fault>>
     requires { B.holds tree.old }
-    ensures kept { B.holds tree.new }
-    ensures follows { B.follows tree.old tree.new }
-    ensures same { IsTrue B.is_told → B.shows tree.new ≡ B.shows tree.old }
+    ensures left { Leaves B.holds B.follows B.is_told B.shows tree.old tree.new }
     ensures found { IsTrue B.is_told → IfOk result (λ read. read.items ≡ take most (drop offset (bytes_of (map.get (B.shows tree.old).nodes number)))) }
     ensures ends { IfOk result (λ read. offset + length read.items < 2 ^ 64) }
     ensures cause { IfLookUp result (λ f. B.causes tree.old tree.new f) }

@@ -21,14 +21,13 @@ pub trait HasContents: Below {
     ghost use Rattle.sn_overlay.specs.Seen.{seen_node};
     ghost use Rattle.sn_live_files.specs.Known.{attributes_of};
     ghost use Rattle.sn_live_files.specs.Listing.{links_of};
+    ghost use Rattle.sn_walk.specs.Frame.{Leaves};
 
     /// What a walk learns of the node that a number has, `None` where none has it: less than the
     /// whole node, which has its default ACL too.
     fn attributes(&mut self, number: u16) -> Result<Option<Attributes>, Self::Fault>
         requires { Self.holds self.old }
-        ensures kept { Self.holds self.new }
-        ensures follows { Self.follows self.old self.new }
-        ensures same { IsTrue Self.is_told → Self.shows self.new ≡ Self.shows self.old }
+        ensures left { Leaves Self.holds Self.follows Self.is_told Self.shows self.old self.new }
         ensures found { IsTrue Self.is_told → IfOk result (λ a. a ≡ option_map attributes_of (seen_node (Self.shows self.old) number)) }
         ensures cause { IfErr result (λ f. Self.causes self.old self.new f) };
 
@@ -43,9 +42,7 @@ pub trait HasContents: Below {
         most: usize,
     ) -> Result<Vec<u8>, FileFault<Self::Fault>>
         requires { Self.holds self.old }
-        ensures kept { Self.holds self.new }
-        ensures follows { Self.follows self.old self.new }
-        ensures same { IsTrue Self.is_told → Self.shows self.new ≡ Self.shows self.old }
+        ensures left { Leaves Self.holds Self.follows Self.is_told Self.shows self.old self.new }
         ensures found { IsTrue Self.is_told → IfOk result (λ read. read.items ≡ take most (drop offset (bytes_of (map.get (Self.shows self.old).nodes number)))) }
         ensures ends { IfOk result (λ read. offset + length read.items < 2 ^ 64) }
         ensures cause { IfLookUp result (λ f. Self.causes self.old self.new f) };
@@ -58,9 +55,7 @@ pub trait HasContents: Below {
         directory: u16,
     ) -> Result<Vec<(Link, u16)>, FileFault<Self::Fault>>
         requires { Self.holds self.old }
-        ensures kept { Self.holds self.new }
-        ensures follows { Self.follows self.old self.new }
-        ensures same { IsTrue Self.is_told → Self.shows self.new ≡ Self.shows self.old }
+        ensures left { Leaves Self.holds Self.follows Self.is_told Self.shows self.old self.new }
         ensures found { IsTrue Self.is_told → IfOk result (λ names. names.items ≡ links_of (Self.shows self.old) directory) }
         ensures cause { IfLookUp result (λ f. Self.causes self.old self.new f) };
 }

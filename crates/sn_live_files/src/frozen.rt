@@ -23,6 +23,7 @@ pub trait HasSnapshots: Below {
     ghost use Rattle.sn_live_files.specs.Frozen.{FrozenTrees, bytes_at, seen_at};
     ghost use Rattle.sn_model.specs.Seen.{names_if};
     ghost use Rattle.sn_model.specs.Settling.{nameless_if};
+    ghost use Rattle.sn_walk.specs.Frame.{Leaves};
 
     // the trees of the snapshots, by their names
     ghost frozen: { Self → FrozenTrees };
@@ -46,9 +47,7 @@ pub trait HasSnapshots: Below {
     ) -> Result<Option<Attributes>, Self::Fault>
         requires holds { Self.holds self.old }
         requires frozen { holds_frozen self.old }
-        ensures kept { Self.holds self.new }
-        ensures follows { Self.follows self.old self.new }
-        ensures same { IsTrue Self.is_told → Self.shows self.new ≡ Self.shows self.old }
+        ensures left { Leaves Self.holds Self.follows Self.is_told Self.shows self.old self.new }
         ensures found { IsTrue Self.is_told → IfOk result (λ a. a ≡ (seen_at (frozen self.old) snapshot.now).node number) }
         ensures cause { IfErr result (λ f. Self.causes self.old self.new f) };
 
@@ -61,9 +60,7 @@ pub trait HasSnapshots: Below {
     ) -> Result<Option<u16>, Self::Fault>
         requires holds { Self.holds self.old }
         requires frozen { holds_frozen self.old }
-        ensures kept { Self.holds self.new }
-        ensures follows { Self.follows self.old self.new }
-        ensures same { IsTrue Self.is_told → Self.shows self.new ≡ Self.shows self.old }
+        ensures left { Leaves Self.holds Self.follows Self.is_told Self.shows self.old self.new }
         ensures found { IsTrue Self.is_told → IfOk result (λ n. n ≡ (seen_at (frozen self.old) snapshot.now).link directory name.now) }
         ensures cause { IfErr result (λ f. Self.causes self.old self.new f) };
 
@@ -75,9 +72,7 @@ pub trait HasSnapshots: Below {
     ) -> Result<Option<Acl>, Self::Fault>
         requires holds { Self.holds self.old }
         requires frozen { holds_frozen self.old }
-        ensures kept { Self.holds self.new }
-        ensures follows { Self.follows self.old self.new }
-        ensures same { IsTrue Self.is_told → Self.shows self.new ≡ Self.shows self.old }
+        ensures left { Leaves Self.holds Self.follows Self.is_told Self.shows self.old self.new }
         ensures found { IsTrue Self.is_told → IfOk result (λ a. a ≡ (seen_at (frozen self.old) snapshot.now).default_acl number) }
         ensures cause { IfErr result (λ f. Self.causes self.old self.new f) };
 
@@ -85,9 +80,7 @@ pub trait HasSnapshots: Below {
     fn frozen_size(&mut self, snapshot: &SnapshotName, number: u16) -> Result<u64, Self::Fault>
         requires holds { Self.holds self.old }
         requires frozen { holds_frozen self.old }
-        ensures kept { Self.holds self.new }
-        ensures follows { Self.follows self.old self.new }
-        ensures same { IsTrue Self.is_told → Self.shows self.new ≡ Self.shows self.old }
+        ensures left { Leaves Self.holds Self.follows Self.is_told Self.shows self.old self.new }
         ensures found { IsTrue Self.is_told → IfOk result (λ size. size ≡ length (bytes_at (frozen self.old) snapshot.now number)) }
         ensures cause { IfErr result (λ f. Self.causes self.old self.new f) };
 
@@ -103,9 +96,7 @@ pub trait HasSnapshots: Below {
     ) -> Result<Vec<u8>, FileFault<Self::Fault>>
         requires holds { Self.holds self.old }
         requires frozen { holds_frozen self.old }
-        ensures kept { Self.holds self.new }
-        ensures follows { Self.follows self.old self.new }
-        ensures same { IsTrue Self.is_told → Self.shows self.new ≡ Self.shows self.old }
+        ensures left { Leaves Self.holds Self.follows Self.is_told Self.shows self.old self.new }
         ensures found { IsTrue Self.is_told → IfOk result (λ read. read.items ≡ take most (drop offset (bytes_at (frozen self.old) snapshot.now number))) }
         ensures ends { IfOk result (λ read. offset + length read.items < 2 ^ 64) }
         ensures cause { IfLookUp result (λ f. Self.causes self.old self.new f) };
@@ -120,9 +111,7 @@ pub trait HasSnapshots: Below {
     ) -> Result<Names, FileFault<Self::Fault>>
         requires holds { Self.holds self.old }
         requires frozen { holds_frozen self.old }
-        ensures kept { Self.holds self.new }
-        ensures follows { Self.follows self.old self.new }
-        ensures same { IsTrue Self.is_told → Self.shows self.new ≡ Self.shows self.old }
+        ensures left { Leaves Self.holds Self.follows Self.is_told Self.shows self.old self.new }
         ensures found { IsTrue Self.is_told → IfOk result (λ names. names ≡ names_if (map.get (frozen self.old) snapshot.now) directory) }
         ensures cause { IfLookUp result (λ f. Self.causes self.old self.new f) };
 
@@ -130,9 +119,7 @@ pub trait HasSnapshots: Below {
     fn frozen_nameless(&mut self, snapshot: &SnapshotName) -> Result<u32, Self::Fault>
         requires holds { Self.holds self.old }
         requires frozen { holds_frozen self.old }
-        ensures kept { Self.holds self.new }
-        ensures follows { Self.follows self.old self.new }
-        ensures same { IsTrue Self.is_told → Self.shows self.new ≡ Self.shows self.old }
+        ensures left { Leaves Self.holds Self.follows Self.is_told Self.shows self.old self.new }
         ensures found { IsTrue Self.is_told → IfOk result (λ count. count ≡ nameless_if (map.get (frozen self.old) snapshot.now)) }
         ensures cause { IfErr result (λ f. Self.causes self.old self.new f) };
 

@@ -9,6 +9,7 @@ ghost use Rattle.sn_overlay.specs.Layers.{through};
 ghost use Rattle.sn_overlay.specs.Overlays.{layer_of};
 ghost use Rattle.sn_live.specs.Live.{IsLive, shown_of};
 ghost use Rattle.sn_live_view.specs.Live.{IsNumbered, live_trees, world_of};
+ghost use Rattle.sn_walk.specs.Frame.{Leaves};
 
 use crate::unread::UnreadView;
 use crate::{LiveView, Unread};
@@ -36,9 +37,7 @@ fn decide_on<'x, 'c, T: NamedTree + HasContents + HasSnapshots>(
     requires holds { T.holds tree.old }
     requires frozen { T.holds_frozen tree.old }
     requires numbered { IsTrue T.is_told → IsNumbered (T.shows tree.old) numbers.now }
-    ensures kept { T.holds tree.new }
-    ensures follows { T.follows tree.old tree.new }
-    ensures same { IsTrue T.is_told → T.shows tree.new ≡ T.shows tree.old }
+    ensures left { Leaves T.holds T.follows T.is_told T.shows tree.old tree.new }
     ensures decided { IsTrue T.is_told → Decides (world_of (in_use_of sessions.now) (live_trees (T.shows tree.old) (T.frozen tree.old))) session call.now result }
     ensures refused { IsTrue T.is_told → HidesNoRefusal (world_of (in_use_of sessions.now) (live_trees (T.shows tree.old) (T.frozen tree.old))) session call.now result }
     ensures cause { IfView result (λ f. T.causes tree.old tree.new f) }
@@ -63,9 +62,7 @@ fn decide_over<'x, 'c, B: KeepsNames + HasContents + HasSnapshots>(
     requires frozen { B.holds_frozen below.old }
     requires shown { IsTrue B.is_told → IsShown (layer_of overlay.now) (B.shows below.old) directories.now }
     requires numbered { IsTrue B.is_told → IsNumbered (through (layer_of overlay.now) (B.shows below.old)) numbers.now }
-    ensures kept { B.holds below.new }
-    ensures follows { B.follows below.old below.new }
-    ensures same { IsTrue B.is_told → B.shows below.new ≡ B.shows below.old }
+    ensures left { Leaves B.holds B.follows B.is_told B.shows below.old below.new }
     ensures decided { IsTrue B.is_told → Decides (world_of (in_use_of sessions.now) (live_trees (through (layer_of overlay.now) (B.shows below.old)) (B.frozen below.old))) session call.now result }
     ensures refused { IsTrue B.is_told → HidesNoRefusal (world_of (in_use_of sessions.now) (live_trees (through (layer_of overlay.now) (B.shows below.old)) (B.frozen below.old))) session call.now result }
     ensures cause { IfView result (λ f. B.causes below.old below.new f) }
@@ -94,9 +91,7 @@ pub fn decide_live<'x, 'c, B: KeepsNames + HasContents + HasSnapshots>(
     requires holds { B.holds root.old }
     requires frozen { B.holds_frozen root.old }
     requires live { IsTrue B.is_told → IsLive live.now (B.shows root.old) }
-    ensures kept { B.holds root.new }
-    ensures follows { B.follows root.old root.new }
-    ensures same { IsTrue B.is_told → B.shows root.new ≡ B.shows root.old }
+    ensures left { Leaves B.holds B.follows B.is_told B.shows root.old root.new }
     ensures decided { IsTrue B.is_told → Decides (world_of (in_use_of sessions.now) (live_trees (shown_of live.now (B.shows root.old)) (B.frozen root.old))) session call.now result }
     ensures refused { IsTrue B.is_told → HidesNoRefusal (world_of (in_use_of sessions.now) (live_trees (shown_of live.now (B.shows root.old)) (B.frozen root.old))) session call.now result }
     ensures cause { IfView result (λ f. B.causes root.old root.new f) }

@@ -7,6 +7,7 @@ ghost use Rattle.sn_live_view.specs.Looking.{known_at, known_by};
 ghost use Rattle.sn_model.specs.World.{viewed_trees};
 ghost use Rattle.sn_overlay.specs.Layers.{through};
 ghost use Rattle.sn_overlay.specs.Overlays.{layer_of};
+ghost use Rattle.sn_walk.specs.Frame.{Leaves};
 
 use crate::LiveView;
 use sn_acl::Cred;
@@ -39,9 +40,7 @@ pub struct Known {
 // What a path leads user 0 to.
 fn look_along<V: TreeView>(view: &mut V, path: &Path<'_>) -> Result<Option<Known>, V::Fault>
     requires { V.holds view.old }
-    ensures kept { V.holds view.new }
-    ensures follows { V.follows view.old view.new }
-    ensures same { IsTrue V.is_told → V.shows view.new ≡ V.shows view.old }
+    ensures left { Leaves V.holds V.follows V.is_told V.shows view.old view.new }
     ensures found { IsTrue V.is_told → IfOk result (λ known. known ≡ known_by (V.shows view.old) path.now) }
     ensures cause { IfErr result (λ f. V.causes view.old view.new f) }
 {
@@ -61,9 +60,7 @@ fn look_along<V: TreeView>(view: &mut V, path: &Path<'_>) -> Result<Option<Known
 // What is sought in a view.
 fn look<V: TreeView>(view: &mut V, sought: &Sought<'_>) -> Result<Option<Known>, V::Fault>
     requires { V.holds view.old }
-    ensures kept { V.holds view.new }
-    ensures follows { V.follows view.old view.new }
-    ensures same { IsTrue V.is_told → V.shows view.new ≡ V.shows view.old }
+    ensures left { Leaves V.holds V.follows V.is_told V.shows view.old view.new }
     ensures found { IsTrue V.is_told → IfOk result (λ known. known ≡ known_at (V.shows view.old) sought.now) }
     ensures cause { IfErr result (λ f. V.causes view.old view.new f) }
 {
@@ -89,9 +86,7 @@ fn look_on<'x, T: NamedTree + HasContents + HasSnapshots>(
     requires holds { T.holds tree.old }
     requires frozen { T.holds_frozen tree.old }
     requires numbered { IsTrue T.is_told → IsNumbered (T.shows tree.old) numbers.now }
-    ensures kept { T.holds tree.new }
-    ensures follows { T.follows tree.old tree.new }
-    ensures same { IsTrue T.is_told → T.shows tree.new ≡ T.shows tree.old }
+    ensures left { Leaves T.holds T.follows T.is_told T.shows tree.old tree.new }
     ensures found { IsTrue T.is_told → IfOk result (λ known. known ≡ known_at (viewed_trees (live_trees (T.shows tree.old) (T.frozen tree.old))) sought.now) }
     ensures cause { IfErr result (λ f. T.causes tree.old tree.new f) }
 {
@@ -111,9 +106,7 @@ fn look_over<'x, B: KeepsNames + HasContents + HasSnapshots>(
     requires frozen { B.holds_frozen below.old }
     requires shown { IsTrue B.is_told → IsShown (layer_of overlay.now) (B.shows below.old) directories.now }
     requires numbered { IsTrue B.is_told → IsNumbered (through (layer_of overlay.now) (B.shows below.old)) numbers.now }
-    ensures kept { B.holds below.new }
-    ensures follows { B.follows below.old below.new }
-    ensures same { IsTrue B.is_told → B.shows below.new ≡ B.shows below.old }
+    ensures left { Leaves B.holds B.follows B.is_told B.shows below.old below.new }
     ensures found { IsTrue B.is_told → IfOk result (λ known. known ≡ known_at (viewed_trees (live_trees (through (layer_of overlay.now) (B.shows below.old)) (B.frozen below.old))) sought.now) }
     ensures cause { IfErr result (λ f. B.causes below.old below.new f) }
 {
@@ -137,9 +130,7 @@ pub fn look_up<'x, B: KeepsNames + HasContents + HasSnapshots>(
     requires holds { B.holds root.old }
     requires frozen { B.holds_frozen root.old }
     requires live { IsTrue B.is_told → IsLive live.now (B.shows root.old) }
-    ensures kept { B.holds root.new }
-    ensures follows { B.follows root.old root.new }
-    ensures same { IsTrue B.is_told → B.shows root.new ≡ B.shows root.old }
+    ensures left { Leaves B.holds B.follows B.is_told B.shows root.old root.new }
     ensures found { IsTrue B.is_told → IfOk result (λ known. known ≡ known_at (viewed_trees (live_trees (shown_of live.now (B.shows root.old)) (B.frozen root.old))) sought.now) }
     ensures cause { IfErr result (λ f. B.causes root.old root.new f) }
 {

@@ -5,6 +5,7 @@ ghost use Rattle.sn_limits.specs.Versions.{limits_written};
 ghost use Rattle.sn_walk.specs.Gives.{Gives, IfFault};
 ghost use Rattle.sn_model.specs.Seen.{has_room_for_name};
 ghost use Rattle.sn_overlay.specs.Seen.{seen_node};
+ghost use Rattle.sn_walk.specs.Frame.{Leaves};
 
 use sn_acl::Acl;
 use sn_applies::NamedTree;
@@ -16,9 +17,7 @@ use sn_walk::Failure;
 /// number.
 pub(crate) fn default_acl<T: NamedTree>(tree: &mut T, number: u16) -> Result<Option<Acl>, T::Fault>
     requires { T.holds tree.old }
-    ensures kept { T.holds tree.new }
-    ensures follows { T.follows tree.old tree.new }
-    ensures same { IsTrue T.is_told → T.shows tree.new ≡ T.shows tree.old }
+    ensures left { Leaves T.holds T.follows T.is_told T.shows tree.old tree.new }
     ensures found { IsTrue T.is_told → IfOk result (λ a. a ≡ option_and_then (λ node. node.ownership.default_acl) (seen_node (T.shows tree.old) number)) }
     ensures cause { IfErr result (λ f. T.causes tree.old tree.new f) }
 {
@@ -36,9 +35,7 @@ pub(crate) fn room_for_name<T: NamedTree>(
     directory: u16,
 ) -> Result<(), Failure<Refusal, T::Fault>>
     requires { T.holds tree.old }
-    ensures kept { T.holds tree.new }
-    ensures follows { T.follows tree.old tree.new }
-    ensures same { IsTrue T.is_told → T.shows tree.new ≡ T.shows tree.old }
+    ensures left { Leaves T.holds T.follows T.is_told T.shows tree.old tree.new }
     ensures found { IsTrue T.is_told → Gives (λ u. u) result (has_room_for_name limits_written (T.shows tree.old) directory) }
     ensures cause { IfFault result (λ f. T.causes tree.old tree.new f) }
 {

@@ -8,6 +8,7 @@ ghost use Rattle.sn_model.specs.Tree.{link_to};
 ghost use Rattle.sn_model.specs.declared.link.Link.{Link};
 ghost use Rattle.sn_overlay.specs.Layers.{through};
 ghost use Rattle.sn_overlay.specs.Overlays.{layer_of};
+ghost use Rattle.sn_walk.specs.Frame.{Leaves};
 
 use sn_applies::NamedTree;
 use sn_core_decide_rules::{
@@ -22,9 +23,7 @@ use sn_overlay::{Overlay, Through};
 // Whether a number is a file's.
 fn is_file<T: NamedTree>(tree: &mut T, number: u16) -> Result<bool, T::Fault>
     requires { T.holds tree.old }
-    ensures kept { T.holds tree.new }
-    ensures follows { T.follows tree.old tree.new }
-    ensures same { IsTrue T.is_told → T.shows tree.new ≡ T.shows tree.old }
+    ensures left { Leaves T.holds T.follows T.is_told T.shows tree.old tree.new }
     ensures found { IsTrue T.is_told → (link : Link) → map.get (T.shows tree.old).links link ≡ Some number → IfOk result (λ b. file_under (T.shows tree.old) link ≡ (if b then 1 else 0)) }
     ensures cause { IfErr result (λ f. T.causes tree.old tree.new f) }
 {
@@ -38,9 +37,7 @@ fn is_file<T: NamedTree>(tree: &mut T, number: u16) -> Result<bool, T::Fault>
 // Whether a name of a directory is a file's.
 fn is_file_under<T: NamedTree>(tree: &mut T, directory: u16, name: &[u8]) -> Result<bool, T::Fault>
     requires { T.holds tree.old }
-    ensures kept { T.holds tree.new }
-    ensures follows { T.follows tree.old tree.new }
-    ensures same { IsTrue T.is_told → T.shows tree.new ≡ T.shows tree.old }
+    ensures left { Leaves T.holds T.follows T.is_told T.shows tree.old tree.new }
     ensures found { IsTrue T.is_told → IfOk result (λ b. file_under (T.shows tree.old) (link_to directory name.now) ≡ (if b then 1 else 0)) }
     ensures cause { IfErr result (λ f. T.causes tree.old tree.new f) }
 {
@@ -58,9 +55,7 @@ fn remove_charge<T: NamedTree>(
     name: &[u8],
 ) -> Result<u128, T::Fault>
     requires { T.holds tree.old }
-    ensures kept { T.holds tree.new }
-    ensures follows { T.follows tree.old tree.new }
-    ensures same { IsTrue T.is_told → T.shows tree.new ≡ T.shows tree.old }
+    ensures left { Leaves T.holds T.follows T.is_told T.shows tree.old tree.new }
     ensures exact { IsTrue T.is_told → IfOk result (λ n. n ≡ (2 + file_under (T.shows tree.old) (link_to directory name.now)) * limits.now.inode_charge + limits.now.block_charge) }
     ensures most { IfOk result (λ n. n ≤ 3 * limits.now.inode_charge + limits.now.block_charge) }
     ensures cause { IfErr result (λ f. T.causes tree.old tree.new f) }
@@ -81,9 +76,7 @@ fn charge<T: NamedTree>(
     change: &Change<'_>,
 ) -> Result<u128, T::Fault>
     requires { T.holds tree.old }
-    ensures kept { T.holds tree.new }
-    ensures follows { T.follows tree.old tree.new }
-    ensures same { IsTrue T.is_told → T.shows tree.new ≡ T.shows tree.old }
+    ensures left { Leaves T.holds T.follows T.is_told T.shows tree.old tree.new }
     ensures exact { IsTrue T.is_told → IfOk result (λ n. n ≡ charge_for limits.now (T.shows tree.old) change.now) }
     ensures most { IfOk result (λ n. n ≤ 5 * limits.now.inode_charge + limits.now.block_charge * 2 ^ 53) }
     ensures cause { IfErr result (λ f. T.causes tree.old tree.new f) }
@@ -117,9 +110,7 @@ pub fn change_charge<'x, B: KeepsNames>(
     requires holds { B.holds below.old }
     requires version { limits_of limits.now.version ≡ Some limits.now }
     requires shown { IsTrue B.is_told → IsShown (layer_of overlay.now) (B.shows below.old) directories.now }
-    ensures kept { B.holds below.new }
-    ensures follows { B.follows below.old below.new }
-    ensures same { IsTrue B.is_told → B.shows below.new ≡ B.shows below.old }
+    ensures left { Leaves B.holds B.follows B.is_told B.shows below.old below.new }
     ensures exact { IsTrue B.is_told → IfOk result (λ n. n ≡ charge_for limits.now (through (layer_of overlay.now) (B.shows below.old)) change.now) }
     ensures few { IfOk result (λ n. n ≤ 2 ^ 64) }
     ensures cause { IfErr result (λ f. B.causes below.old below.new f) }

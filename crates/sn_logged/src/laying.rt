@@ -12,6 +12,7 @@ ghost use Rattle.sn_overlay.specs.Merges.{merge};
 ghost use Rattle.sn_overlay.specs.Overlays.{HasRoom, TakesRoom, layer_of};
 ghost use Rattle.sn_overlay_change.specs.ChangeLayers.{layer_of_change};
 ghost use Rattle.sn_overlay_change.specs.Faults.{IfBelow};
+ghost use Rattle.sn_walk.specs.Frame.{Leaves};
 
 use crate::moving::note_moves;
 use crate::preparing::{PreparedChange, prepare};
@@ -34,9 +35,7 @@ fn prepare_over<'x, B: KeepsNames>(
     requires holds { B.holds below.old }
     requires version { limits_of limits.now.version ≡ Some limits.now }
     requires shown { IsTrue B.is_told → IsShown (layer_of overlay.now) (B.shows below.old) directories.now }
-    ensures kept { B.holds below.new }
-    ensures follows { B.follows below.old below.new }
-    ensures same { IsTrue B.is_told → B.shows below.new ≡ B.shows below.old }
+    ensures left { Leaves B.holds B.follows B.is_told B.shows below.old below.new }
     ensures found { IsTrue B.is_told → IfOk result (λ p. IsPrepared limits.now p (through (layer_of overlay.now) (B.shows below.old)) change.now) }
     ensures cause { IfBelow result (λ f. B.causes below.old below.new f) }
 {
@@ -65,9 +64,7 @@ pub fn prepare_change<B: KeepsNames>(
     requires holds { B.holds below.old }
     requires version { limits_of limits.now.version ≡ Some limits.now }
     requires shown { IsTrue B.is_told → IsShown (layer_of overlay.old) (B.shows below.old) directories.now }
-    ensures kept { B.holds below.new }
-    ensures follows { B.follows below.old below.new }
-    ensures same { IsTrue B.is_told → B.shows below.new ≡ B.shows below.old }
+    ensures left { Leaves B.holds B.follows B.is_told B.shows below.old below.new }
     ensures layer { layer_of overlay.new ≡ layer_of overlay.old }
     ensures prepared { IsTrue B.is_told → IfOk result (λ p. IsPrepared limits.now p (through (layer_of overlay.old) (B.shows below.old)) change.now) }
     ensures room { IfOk result (λ p. IfSome p (λ prepared. HasRoomFor overlay.new prepared drops)) }

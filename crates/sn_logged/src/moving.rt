@@ -10,6 +10,7 @@ ghost use Rattle.sn_model.specs.Tree.{Tree, link_to};
 ghost use Rattle.sn_logged.specs.declared.moving.NameMoves.TheVariants.{Move};
 ghost use Rattle.sn_model.specs.declared.link.Link.{Link};
 ghost use Rattle.sn_model.specs.declared.change.Change.{Change as TheChange};
+ghost use Rattle.sn_walk.specs.Frame.{Leaves};
 
 use sn_applies::NamedTree;
 use sn_directories::Directories;
@@ -47,9 +48,7 @@ fn renaming<T: NamedTree>(
     new_name: &[u8],
 ) -> Result<NameMoves, T::Fault>
     requires { T.holds tree.old }
-    ensures kept { T.holds tree.new }
-    ensures follows { T.follows tree.old tree.new }
-    ensures same { IsTrue T.is_told → T.shows tree.new ≡ T.shows tree.old }
+    ensures left { Leaves T.holds T.follows T.is_told T.shows tree.old tree.new }
     ensures found { IsTrue T.is_told → IfOk result (λ moves. moves ≡ renaming (T.shows tree.old) (link_to from old_name.now) (link_to to new_name.now)) }
     ensures cause { IfErr result (λ f. T.causes tree.old tree.new f) }
 {
@@ -74,9 +73,7 @@ pub(crate) fn moves_of<T: NamedTree>(
     change: &Change<'_>,
 ) -> Result<NameMoves, T::Fault>
     requires { T.holds tree.old }
-    ensures kept { T.holds tree.new }
-    ensures follows { T.follows tree.old tree.new }
-    ensures same { IsTrue T.is_told → T.shows tree.new ≡ T.shows tree.old }
+    ensures left { Leaves T.holds T.follows T.is_told T.shows tree.old tree.new }
     ensures found { IsTrue T.is_told → IfOk result (λ moves. moves ≡ moves_of (T.shows tree.old) change.now) }
     ensures cause { IfErr result (λ f. T.causes tree.old tree.new f) }
 {

@@ -6,6 +6,7 @@ ghost use Rattle.sn_model.specs.Changes.{apply};
 ghost use Rattle.sn_model.specs.NameTree.{IsHierarchy};
 ghost use Rattle.sn_model.specs.Tree.{Tree};
 ghost use Rattle.sn_overlay_change.specs.Faults.{IfBelow};
+ghost use Rattle.sn_walk.specs.Frame.{Leaves};
 
 use crate::moving::{NameMoves, moves_of};
 use sn_applies::{NamedTree, applies};
@@ -32,9 +33,7 @@ fn prepare_possible<T: NamedTree>(
 ) -> Result<PreparedChange, LayerFault<T::Fault>>
     requires holds { T.holds tree.old }
     requires version { limits_of limits.now.version ≡ Some limits.now }
-    ensures kept { T.holds tree.new }
-    ensures follows { T.follows tree.old tree.new }
-    ensures same { IsTrue T.is_told → T.shows tree.new ≡ T.shows tree.old }
+    ensures left { Leaves T.holds T.follows T.is_told T.shows tree.old tree.new }
     ensures found { IsTrue T.is_told → IsHierarchy (T.shows tree.old) → (after : Tree) → apply limits.now change.now (T.shows tree.old) ≡ Some after
         → IfOk result (λ p. CanBeLaid limits.now p (T.shows tree.old) change.now) }
     ensures cause { IfBelow result (λ f. T.causes tree.old tree.new f) }
@@ -56,9 +55,7 @@ pub(crate) fn prepare<T: NamedTree>(
 ) -> Result<Option<PreparedChange>, LayerFault<T::Fault>>
     requires holds { T.holds tree.old }
     requires version { limits_of limits.now.version ≡ Some limits.now }
-    ensures kept { T.holds tree.new }
-    ensures follows { T.follows tree.old tree.new }
-    ensures same { IsTrue T.is_told → T.shows tree.new ≡ T.shows tree.old }
+    ensures left { Leaves T.holds T.follows T.is_told T.shows tree.old tree.new }
     ensures found { IsTrue T.is_told → IsHierarchy (T.shows tree.old) → IfOk result (λ p. IsPrepared limits.now p (T.shows tree.old) change.now) }
     ensures cause { IfBelow result (λ f. T.causes tree.old tree.new f) }
 {

@@ -13,6 +13,7 @@ pub trait Below {
     ghost use Rattle.std.specs.FinMap as map;
     ghost use Rattle.sn_model.specs.Tree.{Tree};
     ghost use Rattle.sn_overlay.specs.Seen.{seen_node, seen_block};
+    ghost use Rattle.sn_walk.specs.Frame.{Leaves};
 
     type Fault: Drop;
 
@@ -33,27 +34,21 @@ pub trait Below {
     /// The node with this number, without its bytes and names.
     fn node(&mut self, number: u16) -> Result<Option<SeenNode>, Self::Fault>
         requires { holds self.old }
-        ensures kept { holds self.new }
-        ensures follows { follows self.old self.new }
-        ensures same { IsTrue is_told → shows self.new ≡ shows self.old }
+        ensures left { Leaves holds follows is_told shows self.old self.new }
         ensures found { IsTrue is_told → IfOk result (λ n. n ≡ seen_node (shows self.old) number) }
         ensures cause { IfErr result (λ f. causes self.old self.new f) };
 
     /// The number that a name denotes.
     fn link(&mut self, link: &Link) -> Result<Option<u16>, Self::Fault>
         requires { holds self.old }
-        ensures kept { holds self.new }
-        ensures follows { follows self.old self.new }
-        ensures same { IsTrue is_told → shows self.new ≡ shows self.old }
+        ensures left { Leaves holds follows is_told shows self.old self.new }
         ensures found { IsTrue is_told → IfOk result (λ n. n ≡ map.get (shows self.old).links link.now) }
         ensures cause { IfErr result (λ f. causes self.old self.new f) };
 
     /// Reads a block of a file, which is zeros where the file has ended. At `Err` the block may be any.
     fn read_block(&mut self, file_block: FileBlock, block: &mut Block) -> Result<(), Self::Fault>
         requires { holds self.old }
-        ensures kept { holds self.new }
-        ensures follows { follows self.old self.new }
-        ensures same { IsTrue is_told → shows self.new ≡ shows self.old }
+        ensures left { Leaves holds follows is_told shows self.old self.new }
         ensures found { IsTrue is_told → OnOk result (block.new ≡ seen_block (shows self.old) file_block) }
         ensures cause { IfErr result (λ f. causes self.old self.new f) };
 

@@ -11,6 +11,7 @@ ghost use Rattle.sn_overlay.specs.Overlays.{layer_of, no_changes, HasRoom, Takes
 ghost use Rattle.sn_overlay.specs.Pieces.{piece};
 ghost use Rattle.sn_overlay.specs.Seen.{seen_node, seen_block, LiesOver};
 ghost use Rattle.std.specs.FinMap as map;
+ghost use Rattle.sn_walk.specs.Frame.{Leaves};
 
 use crate::LayerFault;
 use crate::made::{add_name, boxed, lose_name, splice, touch, with_room, zero_from};
@@ -30,9 +31,7 @@ fn make<B: Below>(
     ownership: &Ownership,
 ) -> Result<Overlay, LayerFault<B::Fault>>
     requires { B.holds below.old }
-    ensures kept { B.holds below.new }
-    ensures follows { B.follows below.old below.new }
-    ensures same { IsTrue B.is_told → B.shows below.new ≡ B.shows below.old }
+    ensures left { Leaves B.holds B.follows B.is_told B.shows below.old below.new }
     ensures layer { IsTrue B.is_told → IfOk result (λ o. layer_of o ≡ make_layer (B.shows below.old) link number kind ownership.now) }
     ensures cause { IfBelow result (λ f. B.causes below.old below.new f) }
 {
@@ -51,9 +50,7 @@ fn add_link<B: Below>(
     number: u16,
 ) -> Result<Overlay, LayerFault<B::Fault>>
     requires { B.holds below.old }
-    ensures kept { B.holds below.new }
-    ensures follows { B.follows below.old below.new }
-    ensures same { IsTrue B.is_told → B.shows below.new ≡ B.shows below.old }
+    ensures left { Leaves B.holds B.follows B.is_told B.shows below.old below.new }
     ensures layer { IsTrue B.is_told → IfSome (seen_node (B.shows below.old) number) (λ file. file.links + 1 < 2 ^ 16) → IfOk result (λ o. layer_of o ≡ link_layer (B.shows below.old) link number) }
     ensures cause { IfBelow result (λ f. B.causes below.old below.new f) }
 {
@@ -72,9 +69,7 @@ fn remove<B: Below>(
     link: Link,
 ) -> Result<Overlay, LayerFault<B::Fault>>
     requires { B.holds below.old }
-    ensures kept { B.holds below.new }
-    ensures follows { B.follows below.old below.new }
-    ensures same { IsTrue B.is_told → B.shows below.new ≡ B.shows below.old }
+    ensures left { Leaves B.holds B.follows B.is_told B.shows below.old below.new }
     ensures layer { IsTrue B.is_told → IfOk result (λ o. layer_of o ≡ remove_layer (B.shows below.old) link) }
     ensures cause { IfBelow result (λ f. B.causes below.old below.new f) }
 {
@@ -97,9 +92,7 @@ fn own<B: Below>(
     ownership: &Ownership,
 ) -> Result<Overlay, LayerFault<B::Fault>>
     requires { B.holds below.old }
-    ensures kept { B.holds below.new }
-    ensures follows { B.follows below.old below.new }
-    ensures same { IsTrue B.is_told → B.shows below.new ≡ B.shows below.old }
+    ensures left { Leaves B.holds B.follows B.is_told B.shows below.old below.new }
     ensures layer { IsTrue B.is_told → IfOk result (λ o. layer_of o ≡ ownership_layer (B.shows below.old) number ownership.now) }
     ensures cause { IfBelow result (λ f. B.causes below.old below.new f) }
 {
@@ -119,9 +112,7 @@ fn touch_below<B: Below>(
 ) -> Result<(), LayerFault<B::Fault>>
     requires holds { B.holds below.old }
     requires room { HasRoom overlay.old (record { nodes = 1; names = 0; blocks = 0 }) }
-    ensures kept { B.holds below.new }
-    ensures follows { B.follows below.old below.new }
-    ensures same { IsTrue B.is_told → B.shows below.new ≡ B.shows below.old }
+    ensures left { Leaves B.holds B.follows B.is_told B.shows below.old below.new }
     ensures layer { IsTrue B.is_told → OnOk result (layer_of overlay.new ≡ touching (B.shows below.old) number (layer_of overlay.old)) }
     ensures taken { TakesRoom overlay.old overlay.new (record { nodes = 1; names = 0; blocks = 0 }) }
     ensures cause { IfBelow result (λ f. B.causes below.old below.new f) }
@@ -139,9 +130,7 @@ fn replace_below<B: Below>(
 ) -> Result<(), LayerFault<B::Fault>>
     requires holds { B.holds below.old }
     requires room { HasRoom overlay.old (record { nodes = 1; names = 0; blocks = 0 }) }
-    ensures kept { B.holds below.new }
-    ensures follows { B.follows below.old below.new }
-    ensures same { IsTrue B.is_told → B.shows below.new ≡ B.shows below.old }
+    ensures left { Leaves B.holds B.follows B.is_told B.shows below.old below.new }
     ensures layer { IsTrue B.is_told → OnOk result (layer_of overlay.new ≡ replacing (B.shows below.old) (layer_of overlay.old) replaced) }
     ensures taken { TakesRoom overlay.old overlay.new (record { nodes = 1; names = 0; blocks = 0 }) }
     ensures cause { IfBelow result (λ f. B.causes below.old below.new f) }
@@ -163,9 +152,7 @@ fn exchange_nodes<B: Below>(
     replaced: Option<u16>,
 ) -> Result<Overlay, LayerFault<B::Fault>>
     requires { B.holds below.old }
-    ensures kept { B.holds below.new }
-    ensures follows { B.follows below.old below.new }
-    ensures same { IsTrue B.is_told → B.shows below.new ≡ B.shows below.old }
+    ensures left { Leaves B.holds B.follows B.is_told B.shows below.old below.new }
     ensures layer { IsTrue B.is_told → IfOk result (λ o. layer_of o ≡ replacing (B.shows below.old) (touching (B.shows below.old) new_directory (touching (B.shows below.old) old_directory no_changes)) replaced) }
     ensures room { IfOk result (λ o. HasRoom o (record { nodes = 0; names = 2; blocks = 0 })) }
     ensures cause { IfBelow result (λ f. B.causes below.old below.new f) }
@@ -187,9 +174,7 @@ fn exchange<B: Below>(
     replaced: Option<u16>,
 ) -> Result<Overlay, LayerFault<B::Fault>>
     requires { B.holds below.old }
-    ensures kept { B.holds below.new }
-    ensures follows { B.follows below.old below.new }
-    ensures same { IsTrue B.is_told → B.shows below.new ≡ B.shows below.old }
+    ensures left { Leaves B.holds B.follows B.is_told B.shows below.old below.new }
     ensures layer { IsTrue B.is_told → replaced ≡ map.get (B.shows below.old).links new → IfOk result (λ o. layer_of o ≡ exchange_layer (B.shows below.old) old new number) }
     ensures cause { IfBelow result (λ f. B.causes below.old below.new f) }
 {
@@ -206,9 +191,7 @@ fn rename<B: Below>(
     new: Link,
 ) -> Result<Overlay, LayerFault<B::Fault>>
     requires { B.holds below.old }
-    ensures kept { B.holds below.new }
-    ensures follows { B.follows below.old below.new }
-    ensures same { IsTrue B.is_told → B.shows below.new ≡ B.shows below.old }
+    ensures left { Leaves B.holds B.follows B.is_told B.shows below.old below.new }
     ensures layer { IsTrue B.is_told → IfOk result (λ o. layer_of o ≡ rename_layer (B.shows below.old) old new) }
     ensures cause { IfBelow result (λ f. B.causes below.old below.new f) }
 {
@@ -229,9 +212,7 @@ fn old_block<B: Below>(
     count: usize,
 ) -> Result<Block, LayerFault<B::Fault>>
     requires { B.holds below.old }
-    ensures kept { B.holds below.new }
-    ensures follows { B.follows below.old below.new }
-    ensures same { IsTrue B.is_told → B.shows below.new ≡ B.shows below.old }
+    ensures left { Leaves B.holds B.follows B.is_told B.shows below.old below.new }
     ensures long { IfOk result (λ block. length block ≡ 4096) }
     ensures block { IsTrue B.is_told → count < 4096 → IfOk result (λ block. block ≡ seen_block (B.shows below.old) file_block) }
     ensures cause { IfBelow result (λ f. B.causes below.old below.new f) }
@@ -255,9 +236,7 @@ fn written_block<B: Below>(
     requires high { offset < (file_block.index + 1) * 4096 }
     requires low { file_block.index * 4096 < offset + length bytes.now }
     requires fits { file_block.index * 4096 < 2 ^ 64 }
-    ensures kept { B.holds below.new }
-    ensures follows { B.follows below.old below.new }
-    ensures same { IsTrue B.is_told → B.shows below.new ≡ B.shows below.old }
+    ensures left { Leaves B.holds B.follows B.is_told B.shows below.old below.new }
     ensures block { IsTrue B.is_told → IfOk result (λ b. b.value ≡ piece 4096 (overwritten (bytes_of (map.get (B.shows below.old).nodes file_block.file)) offset bytes.now) file_block.index) }
     ensures cause { IfBelow result (λ f. B.causes below.old below.new f) }
 {
@@ -284,9 +263,7 @@ fn write_blocks<B: Below>(
     requires room { HasRoom overlay.old (record { nodes = 0; names = 0; blocks = count }) }
     requires within { (offset / 4096 + count) * 4096 < offset + length bytes.now + 4096 }
     requires fits { (offset / 4096 + count) * 4096 ≤ 2 ^ 64 }
-    ensures kept { B.holds below.new }
-    ensures follows { B.follows below.old below.new }
-    ensures same { IsTrue B.is_told → B.shows below.new ≡ B.shows below.old }
+    ensures left { Leaves B.holds B.follows B.is_told B.shows below.old below.new }
     ensures layer { IsTrue B.is_told → OnOk result (layer_of overlay.new ≡ with_blocks (layer_of overlay.old) number (piece 4096 (overwritten (bytes_of (map.get (B.shows below.old).nodes number)) offset bytes.now)) (offset / 4096) count) }
     ensures cause { IfBelow result (λ f. B.causes below.old below.new f) }
 {
@@ -309,9 +286,7 @@ fn write<B: Below>(
     bytes: &[u8],
 ) -> Result<Overlay, LayerFault<B::Fault>>
     requires { B.holds below.old }
-    ensures kept { B.holds below.new }
-    ensures follows { B.follows below.old below.new }
-    ensures same { IsTrue B.is_told → B.shows below.new ≡ B.shows below.old }
+    ensures left { Leaves B.holds B.follows B.is_told B.shows below.old below.new }
     ensures layer { IsTrue B.is_told → 0 < length bytes.now → offset + length bytes.now < 2 ^ 64 → IfOk result (λ o. layer_of o ≡ write_layer (B.shows below.old) number offset bytes.now) }
     ensures cause { IfBelow result (λ f. B.causes below.old below.new f) }
 {
@@ -336,9 +311,7 @@ fn resize<B: Below>(
     size: u64,
 ) -> Result<Overlay, LayerFault<B::Fault>>
     requires { B.holds below.old }
-    ensures kept { B.holds below.new }
-    ensures follows { B.follows below.old below.new }
-    ensures same { IsTrue B.is_told → B.shows below.new ≡ B.shows below.old }
+    ensures left { Leaves B.holds B.follows B.is_told B.shows below.old below.new }
     ensures layer { IsTrue B.is_told → IfOk result (λ o. layer_of o ≡ size_layer (B.shows below.old) number size) }
     ensures cause { IfBelow result (λ f. B.causes below.old below.new f) }
 {
@@ -379,9 +352,7 @@ fn layered<B: Below>(
     change: &Change<'_>,
 ) -> Result<Overlay, LayerFault<B::Fault>>
     requires { B.holds below.old }
-    ensures kept { B.holds below.new }
-    ensures follows { B.follows below.old below.new }
-    ensures same { IsTrue B.is_told → B.shows below.new ≡ B.shows below.old }
+    ensures left { Leaves B.holds B.follows B.is_told B.shows below.old below.new }
     ensures layer { IsTrue B.is_told → (after : Tree) → apply limits.now change.now (B.shows below.old) ≡ Some after → IfOk result (λ o. layer_of o ≡ layer_of_change (B.shows below.old) change.now) }
     ensures cause { IfBelow result (λ f. B.causes below.old below.new f) }
 {
@@ -447,9 +418,7 @@ pub fn of_change<B: Below>(
     change: &Change<'_>,
 ) -> Result<Overlay, LayerFault<B::Fault>>
     requires { B.holds below.old }
-    ensures kept { B.holds below.new }
-    ensures follows { B.follows below.old below.new }
-    ensures same { IsTrue B.is_told → B.shows below.new ≡ B.shows below.old }
+    ensures left { Leaves B.holds B.follows B.is_told B.shows below.old below.new }
     ensures layer { IsTrue B.is_told → (after : Tree) → apply limits.now change.now (B.shows below.old) ≡ Some after → IfOk result (λ o. layer_of o ≡ layer_of_change (B.shows below.old) change.now) }
     ensures shows { IsTrue B.is_told → (after : Tree) → IsHierarchy (B.shows below.old) → apply limits.now change.now (B.shows below.old) ≡ Some after → IfOk result (λ o. through (layer_of o) (B.shows below.old) ≡ after) }
     ensures lies { IsTrue B.is_told → (after : Tree) → IsHierarchy (B.shows below.old) → apply limits.now change.now (B.shows below.old) ≡ Some after → IfOk result (λ o. LiesOver (layer_of o) (B.shows below.old)) }

@@ -3,6 +3,7 @@ ghost use Rattle.std.specs.Prelude.{◌≡◌, IsTrue, IfOk, OnOk};
 ghost use Rattle.std.specs.FinMap as map;
 ghost use Rattle.sn_overlay.specs.Seen.{seen_node, seen_block};
 ghost use Rattle.sn_overlay_change.specs.Faults.{IfBelow};
+ghost use Rattle.sn_walk.specs.Frame.{Leaves};
 
 use crate::LayerFault;
 use sn_model::Link;
@@ -13,9 +14,7 @@ pub(crate) fn node_of<B: Below>(
     number: u16,
 ) -> Result<Option<SeenNode>, LayerFault<B::Fault>>
     requires { B.holds below.old }
-    ensures kept { B.holds below.new }
-    ensures follows { B.follows below.old below.new }
-    ensures same { IsTrue B.is_told → B.shows below.new ≡ B.shows below.old }
+    ensures left { Leaves B.holds B.follows B.is_told B.shows below.old below.new }
     ensures found { IsTrue B.is_told → IfOk result (λ n. n ≡ seen_node (B.shows below.old) number) }
     ensures cause { IfBelow result (λ f. B.causes below.old below.new f) }
 {
@@ -30,9 +29,7 @@ pub(crate) fn number_of<B: Below>(
     link: &Link,
 ) -> Result<Option<u16>, LayerFault<B::Fault>>
     requires { B.holds below.old }
-    ensures kept { B.holds below.new }
-    ensures follows { B.follows below.old below.new }
-    ensures same { IsTrue B.is_told → B.shows below.new ≡ B.shows below.old }
+    ensures left { Leaves B.holds B.follows B.is_told B.shows below.old below.new }
     ensures found { IsTrue B.is_told → IfOk result (λ n. n ≡ map.get (B.shows below.old).links link.now) }
     ensures cause { IfBelow result (λ f. B.causes below.old below.new f) }
 {
@@ -48,9 +45,7 @@ pub(crate) fn block_of<B: Below>(
     block: &mut Block,
 ) -> Result<(), LayerFault<B::Fault>>
     requires { B.holds below.old }
-    ensures kept { B.holds below.new }
-    ensures follows { B.follows below.old below.new }
-    ensures same { IsTrue B.is_told → B.shows below.new ≡ B.shows below.old }
+    ensures left { Leaves B.holds B.follows B.is_told B.shows below.old below.new }
     ensures found { IsTrue B.is_told → OnOk result (block.new ≡ seen_block (B.shows below.old) file_block) }
     ensures cause { IfBelow result (λ f. B.causes below.old below.new f) }
 {

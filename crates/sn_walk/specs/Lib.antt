@@ -1,4 +1,5 @@
 pub mod Chains
+pub mod Frame
 pub mod Gives
 pub mod LookUps
 pub mod Objects

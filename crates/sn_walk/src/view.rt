@@ -32,6 +32,7 @@ pub trait TreeView {
     ghost use Rattle.std.specs.Prelude.{◌≡◌, Bool, IsTrue, IfOk, IfErr, List, [], ◌∷◌, ◌++◌};
     ghost use Rattle.sn_walk.specs.LookUps.{LookUp, OfDefaultAcl, OfLink, OfNode, OfSnapshot};
     ghost use Rattle.sn_walk.specs.Views.{ViewedTrees};
+    ghost use Rattle.sn_walk.specs.Frame.{Leaves};
 
     type Fault: Drop;
 
@@ -55,40 +56,32 @@ pub trait TreeView {
     /// The attributes of the node of a tree with this number.
     fn node(&mut self, home: &Home, number: u16) -> Result<Option<Attributes>, Self::Fault>
         requires { holds self.old }
-        ensures kept { holds self.new }
-        ensures follows { follows self.old self.new }
+        ensures left { Leaves holds follows is_told shows self.old self.new }
         ensures looked_up { looked_up (OfNode home.now number ∷ []) self.old self.new }
-        ensures same { IsTrue is_told → shows self.new ≡ shows self.old }
         ensures found { IsTrue is_told → IfOk result (λ a. a ≡ ((shows self.old).tree home.now).node number) }
         ensures cause { IfErr result (λ f. causes self.old self.new f) };
 
     /// The number that a name has in a directory of a tree.
     fn link(&mut self, home: &Home, directory: u16, name: &[u8]) -> Result<Option<u16>, Self::Fault>
         requires { holds self.old }
-        ensures kept { holds self.new }
-        ensures follows { follows self.old self.new }
+        ensures left { Leaves holds follows is_told shows self.old self.new }
         ensures looked_up { looked_up (OfLink home.now directory name.now ∷ []) self.old self.new }
-        ensures same { IsTrue is_told → shows self.new ≡ shows self.old }
         ensures found { IsTrue is_told → IfOk result (λ n. n ≡ ((shows self.old).tree home.now).link directory name.now) }
         ensures cause { IfErr result (λ f. causes self.old self.new f) };
 
     /// The default ACL of a directory of a tree.
     fn default_acl(&mut self, home: &Home, number: u16) -> Result<Option<Acl>, Self::Fault>
         requires { holds self.old }
-        ensures kept { holds self.new }
-        ensures follows { follows self.old self.new }
+        ensures left { Leaves holds follows is_told shows self.old self.new }
         ensures looked_up { looked_up (OfDefaultAcl home.now number ∷ []) self.old self.new }
-        ensures same { IsTrue is_told → shows self.new ≡ shows self.old }
         ensures found { IsTrue is_told → IfOk result (λ a. a ≡ ((shows self.old).tree home.now).default_acl number) }
         ensures cause { IfErr result (λ f. causes self.old self.new f) };
 
     /// Whether there is a snapshot with this name.
     fn has_snapshot(&mut self, name: &SnapshotName) -> Result<bool, Self::Fault>
         requires { holds self.old }
-        ensures kept { holds self.new }
-        ensures follows { follows self.old self.new }
+        ensures left { Leaves holds follows is_told shows self.old self.new }
         ensures looked_up { looked_up (OfSnapshot name.now ∷ []) self.old self.new }
-        ensures same { IsTrue is_told → shows self.new ≡ shows self.old }
         ensures found { IsTrue is_told → IfOk result (λ b. b ≡ (shows self.old).has_snapshot name.now) }
         ensures cause { IfErr result (λ f. causes self.old self.new f) };
 

@@ -4,6 +4,7 @@ ghost use Rattle.sn_walk.specs.Gives.{Gives, IfFault};
 ghost use Rattle.sn_walk.specs.LookUps.{Looks, looks_at, looks_for, looks_in, looks_of_walk, looks_to_reach};
 ghost use Rattle.sn_walk.specs.Views.{attributes_at, child_of, hidden_attributes, hides};
 ghost use Rattle.sn_walk.specs.Walks.{EndsAt, admitted, end_of, found_at, passed, walk_of};
+ghost use Rattle.sn_walk.specs.Frame.{Leaves};
 
 use crate::{Attributes, Failure, Home, Object, Path, ROOT_NUMBER, TreeView};
 use sn_acl::{Acl, Cred, Mode, Permissions, Tag, check};
@@ -79,10 +80,8 @@ pub fn attributes_of<T: TreeView>(
     object: &Object,
 ) -> Result<Option<Attributes>, T::Fault>
     requires { T.holds view.old }
-    ensures kept { T.holds view.new }
-    ensures follows { T.follows view.old view.new }
+    ensures left { Leaves T.holds T.follows T.is_told T.shows view.old view.new }
     ensures looked_up { T.looked_up (looks_at object.now) view.old view.new }
-    ensures same { IsTrue T.is_told → T.shows view.new ≡ T.shows view.old }
     ensures found { IsTrue T.is_told → IfOk result (λ a. a ≡ attributes_at (T.shows view.old) object.now) }
     ensures cause { IfErr result (λ f. T.causes view.old view.new f) }
 {
@@ -109,10 +108,8 @@ fn child_in<T: TreeView>(
     name: &[u8],
 ) -> Result<Option<Object>, T::Fault>
     requires { T.holds view.old }
-    ensures kept { T.holds view.new }
-    ensures follows { T.follows view.old view.new }
+    ensures left { Leaves T.holds T.follows T.is_told T.shows view.old view.new }
     ensures looked_up { T.looked_up (looks_for (Node home.now directory) name.now) view.old view.new }
-    ensures same { IsTrue T.is_told → T.shows view.new ≡ T.shows view.old }
     ensures found { IsTrue T.is_told → IfOk result (λ o. o ≡ child_of (T.shows view.old) (Node home.now directory) name.now) }
     ensures cause { IfErr result (λ f. T.causes view.old view.new f) }
 {
@@ -131,10 +128,8 @@ fn child_in<T: TreeView>(
 /// What a name denotes in the directory of snapshots: the root of a frozen tree.
 fn snapshot_root<T: TreeView>(view: &mut T, name: &[u8]) -> Result<Option<Object>, T::Fault>
     requires { T.holds view.old }
-    ensures kept { T.holds view.new }
-    ensures follows { T.follows view.old view.new }
+    ensures left { Leaves T.holds T.follows T.is_told T.shows view.old view.new }
     ensures looked_up { T.looked_up (looks_for Snapshots name.now) view.old view.new }
-    ensures same { IsTrue T.is_told → T.shows view.new ≡ T.shows view.old }
     ensures found { IsTrue T.is_told → IfOk result (λ o. o ≡ child_of (T.shows view.old) Snapshots name.now) }
     ensures cause { IfErr result (λ f. T.causes view.old view.new f) }
 {
@@ -157,10 +152,8 @@ pub fn child_of<T: TreeView>(
     name: &[u8],
 ) -> Result<Option<Object>, T::Fault>
     requires { T.holds view.old }
-    ensures kept { T.holds view.new }
-    ensures follows { T.follows view.old view.new }
+    ensures left { Leaves T.holds T.follows T.is_told T.shows view.old view.new }
     ensures looked_up { T.looked_up (looks_for directory.now name.now) view.old view.new }
-    ensures same { IsTrue T.is_told → T.shows view.new ≡ T.shows view.old }
     ensures found { IsTrue T.is_told → IfOk result (λ o. o ≡ child_of (T.shows view.old) directory.now name.now) }
     ensures cause { IfErr result (λ f. T.causes view.old view.new f) }
 {
@@ -195,10 +188,8 @@ fn pass<T: TreeView>(
     name: &[u8],
 ) -> Result<Option<Object>, Failure<WalkRefusal, T::Fault>>
     requires { T.holds view.old }
-    ensures kept { T.holds view.new }
-    ensures follows { T.follows view.old view.new }
+    ensures left { Leaves T.holds T.follows T.is_told T.shows view.old view.new }
     ensures looked_up { IsTrue T.is_told → Looks result (λ looks. T.looked_up looks view.old view.new) (looks_in (T.shows view.old) cred.now place directory.now name.now) }
-    ensures same { IsTrue T.is_told → T.shows view.new ≡ T.shows view.old }
     ensures exact { IsTrue T.is_told → Gives (λ o. o) result (passed (T.shows view.old) cred.now place directory.now name.now) }
     ensures cause { IfFault result (λ f. T.causes view.old view.new f) }
 {
@@ -231,10 +222,8 @@ pub fn walk<T: TreeView>(
     path: &Path<'_>,
 ) -> Result<Walked, Failure<WalkRefusal, T::Fault>>
     requires { T.holds view.old }
-    ensures kept { T.holds view.new }
-    ensures follows { T.follows view.old view.new }
+    ensures left { Leaves T.holds T.follows T.is_told T.shows view.old view.new }
     ensures looked_up { IsTrue T.is_told → Looks result (λ looks. T.looked_up looks view.old view.new) (looks_of_walk (T.shows view.old) cred.now path.now) }
-    ensures same { IsTrue T.is_told → T.shows view.new ≡ T.shows view.old }
     ensures exact { IsTrue T.is_told → Gives (λ w. w) result (walk_of (T.shows view.old) cred.now path.now) }
     ensures ends { IsTrue T.is_told → IfOk result (λ w. EndsAt (T.shows view.old) path.now w) }
     ensures few { IfOk result (λ w. end_of w ≤ 1023) }
@@ -270,10 +259,8 @@ pub fn walk<T: TreeView>(
 pub fn reached<T: TreeView>(view: &mut T, walked: Walked) -> Result<Option<Found>, T::Fault>
     requires holds { T.holds view.old }
     requires few { end_of walked ≤ 1023 }
-    ensures kept { T.holds view.new }
-    ensures follows { T.follows view.old view.new }
+    ensures left { Leaves T.holds T.follows T.is_told T.shows view.old view.new }
     ensures looked_up { T.looked_up (looks_to_reach walked) view.old view.new }
-    ensures same { IsTrue T.is_told → T.shows view.new ≡ T.shows view.old }
     ensures found { IsTrue T.is_told → IfOk result (λ x. x ≡ found_at (T.shows view.old) walked) }
     ensures cause { IfErr result (λ f. T.causes view.old view.new f) }
 {

@@ -13,15 +13,15 @@ pub returns-then-eq-clause-found : goal.returns-then-eq-clause-found
 returns-then-eq-clause-found g c told h old_name named =
     let tree = g.T.Below.shows c.args.tree.now in
     let new = link_to c.args.to c.args.name.now in
-    let there = sym (c.in_ok-target.ensures.found told ∙ ap (λ (t : Tree). map.get t.links new) (c.in_ok-standing.ensures.same told)) in
+    let there = sym (c.in_ok-target.ensures.found told ∙ ap (λ (t : Tree). map.get t.links new) (c.in_ok-standing.ensures.left.2 told)) in
     renamed_same c.args.limits.now tree (link_to c.args.from old_name) new c.args.number named c.in-Some.standing c.in_ok-target.target (sym (c.in_ok-standing.ensures.found told) ∙ c.in-Some.is) there (sym c.eq.ensures ∙ c.if-eq.true)
 
 pub returns-clause-found : goal.returns-clause-found
 returns-clause-found g c told h old_name named =
     let tree = g.T.Below.shows c.args.tree.now in
     let new = link_to c.args.to c.args.name.now in
-    let there = sym (c.in_ok-target.ensures.found told ∙ ap (λ (t : Tree). map.get t.links new) (c.in_ok-standing.ensures.same told)) in
+    let there = sym (c.in_ok-target.ensures.found told ∙ ap (λ (t : Tree). map.get t.links new) (c.in_ok-standing.ensures.left.2 told)) in
     subst (λ (can : Bool). IfOk c.can_move.result (λ b. b ≡ can))
-    (ap (λ (t : Tree). can_move c.args.limits.now t c.args.from new c.args.number c.in-Some.standing c.in_ok-target.target) (c.in_ok-target.ensures.same told ∙ c.in_ok-standing.ensures.same told)
+    (ap (λ (t : Tree). can_move c.args.limits.now t c.args.from new c.args.number c.in-Some.standing c.in_ok-target.target) (c.in_ok-target.ensures.left.2 told ∙ c.in_ok-standing.ensures.left.2 told)
     ∙ renamed_other c.args.limits.now tree (link_to c.args.from old_name) new c.args.number named c.in-Some.standing c.in_ok-target.target (sym (c.in_ok-standing.ensures.found told) ∙ c.in-Some.is) there h (sym c.eq.ensures ∙ c.if-eq.false))
     (c.can_move.ensures.found told)

@@ -9,4 +9,4 @@ returns-in_default-clause-found g c told h =
 
 pub returns-clause-found : goal.returns-clause-found
 returns-clause-found g c told h =
-    renamed_later c.args.limits.now _ _ c.args.from c.in-Some.number c.args.old_name.now (link_to c.args.to c.args.new_name.now) c.move_number.result (c.in_ok-number.ensures.same told) h (sym (c.in_ok-number.ensures.found told) ∙ c.in-Some.is) (c.move_number.ensures.found told)
+    renamed_later c.args.limits.now _ _ c.args.from c.in-Some.number c.args.old_name.now (link_to c.args.to c.args.new_name.now) c.move_number.result (c.in_ok-number.ensures.left.2 told) h (sym (c.in_ok-number.ensures.found told) ∙ c.in-Some.is) (c.move_number.ensures.found told)

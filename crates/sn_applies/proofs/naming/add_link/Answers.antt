@@ -13,5 +13,5 @@ returns-clause-found g c told =
     let tree = g.T.Below.shows c.args.tree.now in
     let link = link_to c.args.directory c.args.name.now in
     subst (λ (can : Bool). IfOk c.can_get.result (λ b. b ≡ can))
-    (ap (λ (t : Tree). can_get c.args.limits.now t link c.in-Some.links) (c.in_ok-links.ensures.same told) ∙ linked_some c.args.limits.now tree link c.args.number c.in-Some.links (sym (c.in_ok-links.ensures.found told) ∙ c.in-Some.is))
+    (ap (λ (t : Tree). can_get c.args.limits.now t link c.in-Some.links) (c.in_ok-links.ensures.left.2 told) ∙ linked_some c.args.limits.now tree link c.args.number c.in-Some.links (sym (c.in_ok-links.ensures.found told) ∙ c.in-Some.is))
     (c.can_get.ensures.found told)

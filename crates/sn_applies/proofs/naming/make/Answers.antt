@@ -17,6 +17,6 @@ returns-clause-found g c told h =
     let tree = g.T.Below.shows c.args.tree.now in
     let link = link_to c.args.directory c.args.name.now in
     subst (λ (can : Bool). IfOk c.can_get.result (λ b. b ≡ can))
-    (ap (λ (t : Tree). can_get c.args.limits.now t link 0) (c.in_ok-is_free.ensures.same told)
+    (ap (λ (t : Tree). can_get c.args.limits.now t link 0) (c.in_ok-is_free.ensures.left.2 told)
     ∙ made_free c.args.limits.now tree link c.args.number c.args.kind c.args.ownership.now h (sym c.is_ownership.ensures ∙ c.if-not-is_ownership.false) (sym (c.in_ok-is_free.ensures.found told) ∙ c.if-not-is_free.false))
     (c.can_get.ensures.found told)

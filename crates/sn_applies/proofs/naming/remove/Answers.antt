@@ -12,6 +12,6 @@ pub returns-clause-found : goal.returns-clause-found
 returns-clause-found g c told =
     let tree = g.T.Below.shows c.args.tree.now in
     subst (λ (can : Bool). IfOk c.can_lose.result (λ b. b ≡ can))
-    (ap (λ (t : Tree). is_some (losing t c.in-Some.number)) (c.in_ok-number.ensures.same told)
+    (ap (λ (t : Tree). is_some (losing t c.in-Some.number)) (c.in_ok-number.ensures.left.2 told)
     ∙ removed_some tree (link_to c.args.directory c.args.name.now) c.in-Some.number (sym (c.in_ok-number.ensures.found told) ∙ c.in-Some.is))
     (c.can_lose.ensures.found told)

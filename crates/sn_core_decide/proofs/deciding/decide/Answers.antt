@@ -12,14 +12,8 @@ pub returns-clause-refused : goal.returns-clause-refused
 returns-clause-refused g c told world shows =
     subst (λ (w : World). HidesNoRefusal w c.args.session c.args.call.now c.decide_shown.result) (shown_world shows) (c.decide_shown.ensures.refused told world shows.trees_are)
 
-pub returns-clause-kept : goal.returns-clause-kept
-returns-clause-kept g c = c.decide_shown.ensures.kept
-
-pub returns-clause-follows : goal.returns-clause-follows
-returns-clause-follows g c = c.decide_shown.ensures.follows
-
-pub returns-clause-same : goal.returns-clause-same
-returns-clause-same g c told = c.decide_shown.ensures.same told
+pub returns-clause-left : goal.returns-clause-left
+returns-clause-left g c = c.decide_shown.ensures.left
 
 pub returns-clause-cause : goal.returns-clause-cause
 returns-clause-cause g c = c.decide_shown.ensures.cause

@@ -3,9 +3,7 @@ use Rattle.sn_core_decide.proofs.deciding.decide_of_file.Goals as goal
 
 pub returns-in-Open : goal.returns-in-Open
 returns-in-Open g c = record {
-  kept = c.decide_open.ensures.kept;
-  follows = c.decide_open.ensures.follows;
-  same = λ told. c.decide_open.ensures.same told;
+  left = c.decide_open.ensures.left;
   decided = λ told world shows. rw c.in-Open.is (c.decide_open.ensures.decided told world shows);
   cause = c.decide_open.ensures.cause;
   numbers = rw c.in-Open.is (if_any c.decide_open.result);
@@ -13,9 +11,7 @@ returns-in-Open g c = record {
 
 pub returns-in-Read : goal.returns-in-Read
 returns-in-Read g c = record {
-  kept = c.decide_read.ensures.kept;
-  follows = c.decide_read.ensures.follows;
-  same = λ told. c.decide_read.ensures.same told;
+  left = c.decide_read.ensures.left;
   decided = λ told world shows. rw c.in-Read.is (c.decide_read.ensures.decided told world shows);
   cause = c.decide_read.ensures.cause;
   numbers = rw c.in-Read.is (if_any c.decide_read.result);
@@ -23,9 +19,7 @@ returns-in-Read g c = record {
 
 pub returns-in-Write : goal.returns-in-Write
 returns-in-Write g c = record {
-  kept = c.decide_write.ensures.kept;
-  follows = c.decide_write.ensures.follows;
-  same = λ told. c.decide_write.ensures.same told;
+  left = c.decide_write.ensures.left;
   decided = λ told world shows. rw c.in-Write.is (c.decide_write.ensures.decided told world shows);
   cause = c.decide_write.ensures.cause;
   numbers = rw c.in-Write.is (if_any c.decide_write.result);

@@ -3,9 +3,7 @@ use Rattle.sn_core_decide.proofs.deciding.decide_of_names.Goals as goal
 
 pub returns-in-Rmdir : goal.returns-in-Rmdir
 returns-in-Rmdir g c = record {
-  kept = c.decide_rmdir.ensures.kept;
-  follows = c.decide_rmdir.ensures.follows;
-  same = λ told. c.decide_rmdir.ensures.same told;
+  left = c.decide_rmdir.ensures.left;
   decided = λ told world shows. rw c.in-Rmdir.is (c.decide_rmdir.ensures.decided told world shows);
   cause = c.decide_rmdir.ensures.cause;
   numbers = rw c.in-Rmdir.is (if_any c.decide_rmdir.result);
@@ -13,9 +11,7 @@ returns-in-Rmdir g c = record {
 
 pub returns-in-Unlink : goal.returns-in-Unlink
 returns-in-Unlink g c = record {
-  kept = c.decide_unlink.ensures.kept;
-  follows = c.decide_unlink.ensures.follows;
-  same = λ told. c.decide_unlink.ensures.same told;
+  left = c.decide_unlink.ensures.left;
   decided = λ told world shows. rw c.in-Unlink.is (c.decide_unlink.ensures.decided told world shows);
   cause = c.decide_unlink.ensures.cause;
   numbers = rw c.in-Unlink.is (if_any c.decide_unlink.result);
@@ -23,9 +19,7 @@ returns-in-Unlink g c = record {
 
 pub returns-in-Link : goal.returns-in-Link
 returns-in-Link g c = record {
-  kept = c.decide_link.ensures.kept;
-  follows = c.decide_link.ensures.follows;
-  same = λ told. c.decide_link.ensures.same told;
+  left = c.decide_link.ensures.left;
   decided = λ told world shows. rw c.in-Link.is (c.decide_link.ensures.decided told world shows);
   cause = c.decide_link.ensures.cause;
   numbers = rw c.in-Link.is (if_any c.decide_link.result);
@@ -33,9 +27,7 @@ returns-in-Link g c = record {
 
 pub returns-in-Rename : goal.returns-in-Rename
 returns-in-Rename g c = record {
-  kept = c.decide_rename.ensures.kept;
-  follows = c.decide_rename.ensures.follows;
-  same = λ told. c.decide_rename.ensures.same told;
+  left = c.decide_rename.ensures.left;
   decided = λ told world shows. rw c.in-Rename.is (c.decide_rename.ensures.decided told world shows);
   cause = c.decide_rename.ensures.cause;
   numbers = rw c.in-Rename.is (if_any c.decide_rename.result);
@@ -43,9 +35,7 @@ returns-in-Rename g c = record {
 
 pub returns-in-Readdir : goal.returns-in-Readdir
 returns-in-Readdir g c = record {
-  kept = c.decide_readdir.ensures.kept;
-  follows = c.decide_readdir.ensures.follows;
-  same = λ told. c.decide_readdir.ensures.same told;
+  left = c.decide_readdir.ensures.left;
   decided = λ told world shows. rw c.in-Readdir.is (c.decide_readdir.ensures.decided told world shows);
   cause = c.decide_readdir.ensures.cause;
   numbers = rw c.in-Readdir.is (if_any c.decide_readdir.result);

@@ -3,9 +3,7 @@ use Rattle.sn_core_decide.proofs.deciding.decide_of_node.Goals as goal
 
 pub returns-in-Mkdir : goal.returns-in-Mkdir
 returns-in-Mkdir g c = record {
-  kept = c.decide_mkdir.ensures.kept;
-  follows = c.decide_mkdir.ensures.follows;
-  same = λ told. c.decide_mkdir.ensures.same told;
+  left = c.decide_mkdir.ensures.left;
   decided = λ told world shows. rw c.in-Mkdir.is (c.decide_mkdir.ensures.decided told world shows);
   cause = c.decide_mkdir.ensures.cause;
   numbers = rw c.in-Mkdir.is (if_any c.decide_mkdir.result);
@@ -13,9 +11,7 @@ returns-in-Mkdir g c = record {
 
 pub returns-in-Chmod : goal.returns-in-Chmod
 returns-in-Chmod g c = record {
-  kept = c.decide_chmod.ensures.kept;
-  follows = c.decide_chmod.ensures.follows;
-  same = λ told. c.decide_chmod.ensures.same told;
+  left = c.decide_chmod.ensures.left;
   decided = λ told world shows. rw c.in-Chmod.is (c.decide_chmod.ensures.decided told world shows);
   cause = c.decide_chmod.ensures.cause;
   numbers = rw c.in-Chmod.is (if_any c.decide_chmod.result);
@@ -23,9 +19,7 @@ returns-in-Chmod g c = record {
 
 pub returns-in-Chown : goal.returns-in-Chown
 returns-in-Chown g c = record {
-  kept = c.decide_chown.ensures.kept;
-  follows = c.decide_chown.ensures.follows;
-  same = λ told. c.decide_chown.ensures.same told;
+  left = c.decide_chown.ensures.left;
   decided = λ told world shows. rw c.in-Chown.is (c.decide_chown.ensures.decided told world shows);
   cause = c.decide_chown.ensures.cause;
   numbers = rw c.in-Chown.is (if_any c.decide_chown.result);
@@ -33,9 +27,7 @@ returns-in-Chown g c = record {
 
 pub returns-in-Stat : goal.returns-in-Stat
 returns-in-Stat g c = record {
-  kept = c.decide_stat.ensures.kept;
-  follows = c.decide_stat.ensures.follows;
-  same = λ told. c.decide_stat.ensures.same told;
+  left = c.decide_stat.ensures.left;
   decided = λ told world shows. rw c.in-Stat.is (c.decide_stat.ensures.decided told world shows);
   cause = c.decide_stat.ensures.cause;
   numbers = rw c.in-Stat.is (if_any c.decide_stat.result);
@@ -43,9 +35,7 @@ returns-in-Stat g c = record {
 
 pub returns-in-Access : goal.returns-in-Access
 returns-in-Access g c = record {
-  kept = c.decide_access.ensures.kept;
-  follows = c.decide_access.ensures.follows;
-  same = λ told. c.decide_access.ensures.same told;
+  left = c.decide_access.ensures.left;
   decided = λ told world shows. rw c.in-Access.is (c.decide_access.ensures.decided told world shows);
   cause = c.decide_access.ensures.cause;
   numbers = rw c.in-Access.is (if_any c.decide_access.result);
@@ -53,9 +43,7 @@ returns-in-Access g c = record {
 
 pub returns-in-GetAcl : goal.returns-in-GetAcl
 returns-in-GetAcl g c = record {
-  kept = c.decide_getacl.ensures.kept;
-  follows = c.decide_getacl.ensures.follows;
-  same = λ told. c.decide_getacl.ensures.same told;
+  left = c.decide_getacl.ensures.left;
   decided = λ told world shows. rw c.in-GetAcl.is (c.decide_getacl.ensures.decided told world shows);
   cause = c.decide_getacl.ensures.cause;
   numbers = rw c.in-GetAcl.is (if_any c.decide_getacl.result);
@@ -63,9 +51,7 @@ returns-in-GetAcl g c = record {
 
 pub returns-in-SetAcl : goal.returns-in-SetAcl
 returns-in-SetAcl g c = record {
-  kept = c.decide_setacl.ensures.kept;
-  follows = c.decide_setacl.ensures.follows;
-  same = λ told. c.decide_setacl.ensures.same told;
+  left = c.decide_setacl.ensures.left;
   decided = λ told world shows. rw c.in-SetAcl.is (c.decide_setacl.ensures.decided told world shows);
   cause = c.decide_setacl.ensures.cause;
   numbers = rw c.in-SetAcl.is (if_any c.decide_setacl.result);

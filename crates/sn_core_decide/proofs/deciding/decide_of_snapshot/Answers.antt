@@ -6,9 +6,7 @@ use Rattle.sn_core_decide.proofs.deciding.decide_of_snapshot.Goals as goal
 
 pub returns-in-SnapCreate : goal.returns-in-SnapCreate
 returns-in-SnapCreate g c = record {
-  kept = c.decide_snap_create.ensures.kept;
-  follows = c.decide_snap_create.ensures.follows;
-  same = λ told. c.decide_snap_create.ensures.same told;
+  left = c.decide_snap_create.ensures.left;
   decided = λ told world shows. rw c.in-SnapCreate.is (c.decide_snap_create.ensures.decided told world shows);
   refused = λ told world shown. rw c.in-SnapCreate.is (λ asked. absurd asked);
   cause = c.decide_snap_create.ensures.cause;
@@ -17,9 +15,7 @@ returns-in-SnapCreate g c = record {
 
 pub returns-in-SnapDelete : goal.returns-in-SnapDelete
 returns-in-SnapDelete g c = record {
-  kept = c.requires.holds;
-  follows = g.met.V.TreeView.follows_itself _;
-  same = λ told. refl;
+  left = (c.requires.holds, g.met.V.TreeView.follows_itself _, λ told. refl);
   decided = λ told world shows. c.unviewed.ensures.decided (in_world (in_use_of c.args.sessions.now) world) c.args.session c.args.call.now (rw c.in-SnapDelete.is (c.decide_snap_delete.ensures told world shows.trees_are));
   refused = λ told world shown. c.unviewed.ensures.refused (in_world (in_use_of c.args.sessions.now) world) c.args.session c.args.call.now (rw c.in-SnapDelete.is (c.decide_snap_delete.ensures told world shown));
   cause = if_never _ c.unviewed.result c.unviewed.ensures.cause;
@@ -28,9 +24,7 @@ returns-in-SnapDelete g c = record {
 
 pub returns-in-SnapRestore : goal.returns-in-SnapRestore
 returns-in-SnapRestore g c = record {
-  kept = c.decide_snap_restore.ensures.kept;
-  follows = c.decide_snap_restore.ensures.follows;
-  same = λ told. c.decide_snap_restore.ensures.same told;
+  left = c.decide_snap_restore.ensures.left;
   decided = λ told world shows. rw c.in-SnapRestore.is (c.decide_snap_restore.ensures.decided told world shows);
   refused = λ told world shown. rw c.in-SnapRestore.is (c.decide_snap_restore.ensures.refused told world shown);
   cause = c.decide_snap_restore.ensures.cause;
@@ -39,9 +33,7 @@ returns-in-SnapRestore g c = record {
 
 pub returns-in-SnapList : goal.returns-in-SnapList
 returns-in-SnapList g c = record {
-  kept = c.decide_snap_list.ensures.kept;
-  follows = c.decide_snap_list.ensures.follows;
-  same = λ told. c.decide_snap_list.ensures.same told;
+  left = c.decide_snap_list.ensures.left;
   decided = λ told world shows. rw c.in-SnapList.is (c.decide_snap_list.ensures.decided told world shows);
   refused = λ told world shown. rw c.in-SnapList.is (λ asked. absurd asked);
   cause = c.decide_snap_list.ensures.cause;

@@ -22,8 +22,8 @@ pub returns-clause-exact : goal.returns-clause-exact
 unfolding chmod_outcome
 returns-clause-exact g c = search rules
 
-pub returns-in-Err-clause-follows : goal.returns-in-Err-clause-follows
-returns-in-Err-clause-follows g c = g.met.V.TreeView.follows_on _ _ _ c.full.ensures.follows c.ownership_at.ensures.follows
+pub returns-in-Err-clause-left : goal.returns-in-Err-clause-left
+returns-in-Err-clause-left g c = (c.ownership_at.ensures.left.0, g.met.V.TreeView.follows_on _ _ _ c.full.ensures.left.1 c.ownership_at.ensures.left.1, λ told. c.ownership_at.ensures.left.2 told ∙ c.full.ensures.left.2 told)
 
-pub returns-clause-follows : goal.returns-clause-follows
-returns-clause-follows g c = g.met.V.TreeView.follows_on _ _ _ c.full.ensures.follows c.ownership_at.ensures.follows
+pub returns-clause-left : goal.returns-clause-left
+returns-clause-left g c = (c.ownership_at.ensures.left.0, g.met.V.TreeView.follows_on _ _ _ c.full.ensures.left.1 c.ownership_at.ensures.left.1, λ told. c.ownership_at.ensures.left.2 told ∙ c.full.ensures.left.2 told)

@@ -15,9 +15,7 @@ pub returns-in_err-caller : goal.returns-in_err-caller
 returns-in_err-caller g c =
     let p = err_from_is_err_and c.from_residual.result c.from_residual.ensures.1 in
     record {
-      kept = c.requires;
-      follows = g.met.V.TreeView.follows_itself _;
-      same = λ told. refl;
+      left = (c.requires, g.met.V.TreeView.follows_itself _, λ told. refl);
       decided = λ told world shows. rw (p.1, p.2, c.in_err-caller.ensures) (refl {a = Err c.in_err-caller.field-0.0});
       cause = rw (p.1, p.2) tt;
     }
@@ -26,9 +24,7 @@ pub returns-in_err-path : goal.returns-in_err-path
 returns-in_err-path g c =
     let p = err_from_is_err_and c.from_residual-in_err-path.result c.from_residual-in_err-path.ensures.1 in
     record {
-      kept = c.requires;
-      follows = g.met.V.TreeView.follows_itself _;
-      same = λ told. refl;
+      left = (c.requires, g.met.V.TreeView.follows_itself _, λ told. refl);
       decided = λ told world shows. rw (p.1, p.2, c.in_ok-caller.ensures, c.in_err-path.ensures) (refl {a = Err c.in_err-path.field-0.0});
       cause = rw (p.1, p.2) tt;
     }
@@ -37,9 +33,7 @@ pub returns-in_err-flags : goal.returns-in_err-flags
 returns-in_err-flags g c =
     let p = err_from_is_err_and c.from_residual-in_err-flags.result c.from_residual-in_err-flags.ensures.1 in
     record {
-      kept = c.requires;
-      follows = g.met.V.TreeView.follows_itself _;
-      same = λ told. refl;
+      left = (c.requires, g.met.V.TreeView.follows_itself _, λ told. refl);
       decided = λ told world shows. rw (p.1, p.2, c.in_ok-caller.ensures, c.in_ok-path.ensures, ← c.in_err-flags.ensures) (refl {a = Err c.in_err-flags.field-0.0});
       cause = rw (p.1, p.2) tt;
     }
@@ -48,9 +42,7 @@ pub returns-in_err-mode : goal.returns-in_err-mode
 returns-in_err-mode g c =
     let p = err_from_is_err_and c.from_residual-in_err-mode.result c.from_residual-in_err-mode.ensures.1 in
     record {
-      kept = c.requires;
-      follows = g.met.V.TreeView.follows_itself _;
-      same = λ told. refl;
+      left = (c.requires, g.met.V.TreeView.follows_itself _, λ told. refl);
       decided = λ told world shows. rw (p.1, p.2, c.in_ok-caller.ensures, c.in_ok-path.ensures, ← c.in_ok-flags.ensures, ← c.in_err-mode.ensures) (refl {a = Err c.in_err-mode.field-0.0});
       cause = rw (p.1, p.2) tt;
     }
@@ -60,21 +52,13 @@ unfolding open_outcome
 returns-in_err-fd g c =
     let p = err_from_is_err_and c.from_residual-in_err-fd.result c.from_residual-in_err-fd.ensures.1 in
     record {
-      kept = c.requires;
-      follows = g.met.V.TreeView.follows_itself _;
-      same = λ told. refl;
+      left = (c.requires, g.met.V.TreeView.follows_itself _, λ told. refl);
       decided = λ told world shows. rw (p.1, p.2, c.in_ok-caller.ensures, c.in_ok-path.ensures, ← c.in_ok-flags.ensures, ← c.in_ok-mode.ensures, ← c.in_err-fd.ensures.next) (refl {a = Err c.in_err-fd.field-0.0});
       cause = rw (p.1, p.2) tt;
     }
 
-pub returns-clause-kept : goal.returns-clause-kept
-returns-clause-kept g c = c.open.ensures.kept
-
-pub returns-clause-follows : goal.returns-clause-follows
-returns-clause-follows g c = c.open.ensures.follows
-
-pub returns-clause-same : goal.returns-clause-same
-returns-clause-same g c told = c.open.ensures.same told
+pub returns-clause-left : goal.returns-clause-left
+returns-clause-left g c = c.open.ensures.left
 
 pub returns-clause-decided : goal.returns-clause-decided
 unfolding open_outcome

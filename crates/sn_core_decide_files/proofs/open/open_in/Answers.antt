@@ -10,8 +10,8 @@ returns-in_err-attributes-clause-exact g c = search rules
 pub returns-clause-exact : goal.returns-clause-exact
 returns-clause-exact g c = search rules
 
-pub returns-in_err-default_acl-clause-follows : goal.returns-in_err-default_acl-clause-follows
-returns-in_err-default_acl-clause-follows g c = g.met.V.TreeView.follows_on _ _ _ c.writable_parent.ensures.follows c.given_in.ensures.follows
+pub returns-in_err-default_acl-clause-left : goal.returns-in_err-default_acl-clause-left
+returns-in_err-default_acl-clause-left g c = (c.given_in.ensures.left.0, g.met.V.TreeView.follows_on _ _ _ c.writable_parent.ensures.left.1 c.given_in.ensures.left.1, λ told. c.given_in.ensures.left.2 told ∙ c.writable_parent.ensures.left.2 told)
 
-pub returns-clause-follows : goal.returns-clause-follows
-returns-clause-follows g c = g.met.V.TreeView.follows_on _ _ _ c.writable_parent.ensures.follows c.given_in.ensures.follows
+pub returns-clause-left : goal.returns-clause-left
+returns-clause-left g c = (c.given_in.ensures.left.0, g.met.V.TreeView.follows_on _ _ _ c.writable_parent.ensures.left.1 c.given_in.ensures.left.1, λ told. c.given_in.ensures.left.2 told ∙ c.writable_parent.ensures.left.2 told)

@@ -13,9 +13,7 @@ pub returns-in_err-logged_in : goal.returns-in_err-logged_in
 returns-in_err-logged_in g c =
     let p = err_from_is_err_and c.from_residual.result c.from_residual.ensures.1 in
     record {
-      kept = c.requires;
-      follows = g.met.V.TreeView.follows_itself _;
-      same = λ told. refl;
+      left = (c.requires, g.met.V.TreeView.follows_itself _, λ told. refl);
       decided = λ told world shows. rw (p.1, p.2, c.in_err-logged_in.ensures) (refl {a = Err c.in_err-logged_in.field-0.0});
       cause = rw (p.1, p.2) tt;
     }
@@ -24,9 +22,7 @@ pub returns-in_err-count : goal.returns-in_err-count
 returns-in_err-count g c =
     let p = err_from_is_err_and c.from_residual-in_err-count.result c.from_residual-in_err-count.ensures.1 in
     record {
-      kept = c.requires;
-      follows = g.met.V.TreeView.follows_itself _;
-      same = λ told. refl;
+      left = (c.requires, g.met.V.TreeView.follows_itself _, λ told. refl);
       decided = λ told world shows. rw (p.1, p.2, c.in_ok-logged_in.ensures, ← c.in_err-count.ensures) (refl {a = Err c.in_err-count.field-0.0});
       cause = rw (p.1, p.2) tt;
     }
@@ -36,9 +32,7 @@ unfolding read_outcome
 returns-in_err-file g c =
     let p = err_from_is_err_and c.from_residual-in_err-file.result c.from_residual-in_err-file.ensures.1 in
     record {
-      kept = c.requires;
-      follows = g.met.V.TreeView.follows_itself _;
-      same = λ told. refl;
+      left = (c.requires, g.met.V.TreeView.follows_itself _, λ told. refl);
       decided = λ told world shows. rw (p.1, p.2, c.in_ok-logged_in.ensures, ← c.in_ok-count.ensures, c.in_err-file.ensures) (refl {a = Err c.in_err-file.field-0.0});
       cause = rw (p.1, p.2) tt;
     }
@@ -61,23 +55,11 @@ returns-clause-decided g c told world shows =
     let is = c.in_ok-reads.ensures.found told ∙ ap (λ (bytes : Home → ℕ → List ℕ). reads c.args.fd d (take c.in_ok-count.count (drop file.offset (bytes file.home file.number)))) shows.bytes_are in
     rw (c.in_ok-logged_in.ensures, ← c.in_ok-count.ensures, c.in_ok-file.ensures) (ap (λ (o : Outcome). Ok o) (sym is))
 
-pub returns-in_err-reads-clause-kept : goal.returns-in_err-reads-clause-kept
-returns-in_err-reads-clause-kept g c = c.reads.ensures.kept
+pub returns-in_err-reads-clause-left : goal.returns-in_err-reads-clause-left
+returns-in_err-reads-clause-left g c = c.reads.ensures.left
 
-pub returns-in_err-reads-clause-follows : goal.returns-in_err-reads-clause-follows
-returns-in_err-reads-clause-follows g c = c.reads.ensures.follows
-
-pub returns-in_err-reads-clause-same : goal.returns-in_err-reads-clause-same
-returns-in_err-reads-clause-same g c told = c.reads.ensures.same told
-
-pub returns-clause-kept : goal.returns-clause-kept
-returns-clause-kept g c = c.reads.ensures.kept
-
-pub returns-clause-follows : goal.returns-clause-follows
-returns-clause-follows g c = c.reads.ensures.follows
-
-pub returns-clause-same : goal.returns-clause-same
-returns-clause-same g c told = c.reads.ensures.same told
+pub returns-clause-left : goal.returns-clause-left
+returns-clause-left g c = c.reads.ensures.left
 
 pub returns-clause-cause : goal.returns-clause-cause
 returns-clause-cause g c = tt

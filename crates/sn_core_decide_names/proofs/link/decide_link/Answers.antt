@@ -10,9 +10,7 @@ pub returns-in_err-caller : goal.returns-in_err-caller
 returns-in_err-caller g c =
     let p = err_from_is_err_and c.from_residual.result c.from_residual.ensures.1 in
     record {
-      kept = c.requires;
-      follows = g.met.V.TreeView.follows_itself _;
-      same = λ told. refl;
+      left = (c.requires, g.met.V.TreeView.follows_itself _, λ told. refl);
       decided = λ told world shows. rw (p.1, p.2, c.in_err-caller.ensures) (refl {a = Err c.in_err-caller.field-0.0});
       cause = rw (p.1, p.2) tt;
     }
@@ -21,9 +19,7 @@ pub returns-in_err-old : goal.returns-in_err-old
 returns-in_err-old g c =
     let p = err_from_is_err_and c.from_residual-in_err-old.result c.from_residual-in_err-old.ensures.1 in
     record {
-      kept = c.requires;
-      follows = g.met.V.TreeView.follows_itself _;
-      same = λ told. refl;
+      left = (c.requires, g.met.V.TreeView.follows_itself _, λ told. refl);
       decided = λ told world shows. rw (p.1, p.2, c.in_ok-caller.ensures, c.in_err-old.ensures) (refl {a = Err c.in_err-old.field-0.0});
       cause = rw (p.1, p.2) tt;
     }
@@ -32,21 +28,13 @@ pub returns-in_err-new : goal.returns-in_err-new
 returns-in_err-new g c =
     let p = err_from_is_err_and c.from_residual-in_err-new.result c.from_residual-in_err-new.ensures.1 in
     record {
-      kept = c.requires;
-      follows = g.met.V.TreeView.follows_itself _;
-      same = λ told. refl;
+      left = (c.requires, g.met.V.TreeView.follows_itself _, λ told. refl);
       decided = λ told world shows. rw (p.1, p.2, c.in_ok-caller.ensures, c.in_ok-old.ensures, c.in_err-new.ensures) (refl {a = Err c.in_err-new.field-0.0});
       cause = rw (p.1, p.2) tt;
     }
 
-pub returns-clause-kept : goal.returns-clause-kept
-returns-clause-kept g c = c.link.ensures.kept
-
-pub returns-clause-follows : goal.returns-clause-follows
-returns-clause-follows g c = c.link.ensures.follows
-
-pub returns-clause-same : goal.returns-clause-same
-returns-clause-same g c told = c.link.ensures.same told
+pub returns-clause-left : goal.returns-clause-left
+returns-clause-left g c = c.link.ensures.left
 
 pub returns-clause-decided : goal.returns-clause-decided
 returns-clause-decided g c told world shows =

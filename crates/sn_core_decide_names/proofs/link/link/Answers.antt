@@ -26,14 +26,14 @@ pub returns-in_err-parent-clause-exact : goal.returns-in_err-parent-clause-exact
 unfolding link_outcome
 returns-in_err-parent-clause-exact g c = search rules
 
-pub returns-in_err-one_tree-clause-follows : goal.returns-in_err-one_tree-clause-follows
-returns-in_err-one_tree-clause-follows g c = g.met.V.TreeView.follows_on _ _ _ c.full.ensures.follows c.prefix.ensures.follows
+pub returns-in_err-one_tree-clause-left : goal.returns-in_err-one_tree-clause-left
+returns-in_err-one_tree-clause-left g c = (c.prefix.ensures.left.0, g.met.V.TreeView.follows_on _ _ _ c.full.ensures.left.1 c.prefix.ensures.left.1, λ told. c.prefix.ensures.left.2 told ∙ c.full.ensures.left.2 told)
 
-pub returns-in_err-number-clause-follows : goal.returns-in_err-number-clause-follows
-returns-in_err-number-clause-follows g c = g.met.V.TreeView.follows_on _ _ _ c.full.ensures.follows c.prefix.ensures.follows
+pub returns-in_err-number-clause-left : goal.returns-in_err-number-clause-left
+returns-in_err-number-clause-left g c = (c.prefix.ensures.left.0, g.met.V.TreeView.follows_on _ _ _ c.full.ensures.left.1 c.prefix.ensures.left.1, λ told. c.prefix.ensures.left.2 told ∙ c.full.ensures.left.2 told)
 
-pub returns-in_err-parent-clause-follows : goal.returns-in_err-parent-clause-follows
-returns-in_err-parent-clause-follows g c = g.met.V.TreeView.follows_on _ _ _ c.full.ensures.follows c.prefix.ensures.follows
+pub returns-in_err-parent-clause-left : goal.returns-in_err-parent-clause-left
+returns-in_err-parent-clause-left g c = (c.prefix.ensures.left.0, g.met.V.TreeView.follows_on _ _ _ c.full.ensures.left.1 c.prefix.ensures.left.1, λ told. c.prefix.ensures.left.2 told ∙ c.full.ensures.left.2 told)
 
-pub returns-clause-follows : goal.returns-clause-follows
-returns-clause-follows g c = g.met.V.TreeView.follows_on _ _ _ (g.met.V.TreeView.follows_on _ _ _ c.full.ensures.follows c.prefix.ensures.follows) c.link_in.ensures.follows
+pub returns-clause-left : goal.returns-clause-left
+returns-clause-left g c = (c.link_in.ensures.left.0, g.met.V.TreeView.follows_on _ _ _ (g.met.V.TreeView.follows_on _ _ _ c.full.ensures.left.1 c.prefix.ensures.left.1) c.link_in.ensures.left.1, λ told. c.link_in.ensures.left.2 told ∙ c.prefix.ensures.left.2 told ∙ c.full.ensures.left.2 told)

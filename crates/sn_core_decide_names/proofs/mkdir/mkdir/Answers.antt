@@ -22,11 +22,11 @@ pub returns-clause-exact : goal.returns-clause-exact
 unfolding mkdir_outcome
 returns-clause-exact g c = search rules
 
-pub returns-in_err-attributes-clause-follows : goal.returns-in_err-attributes-clause-follows
-returns-in_err-attributes-clause-follows g c = g.met.V.TreeView.follows_on _ _ _ c.prefix.ensures.follows c.writable_parent.ensures.follows
+pub returns-in_err-attributes-clause-left : goal.returns-in_err-attributes-clause-left
+returns-in_err-attributes-clause-left g c = (c.writable_parent.ensures.left.0, g.met.V.TreeView.follows_on _ _ _ c.prefix.ensures.left.1 c.writable_parent.ensures.left.1, λ told. c.writable_parent.ensures.left.2 told ∙ c.prefix.ensures.left.2 told)
 
-pub returns-in_err-default_acl-clause-follows : goal.returns-in_err-default_acl-clause-follows
-returns-in_err-default_acl-clause-follows g c = g.met.V.TreeView.follows_on _ _ _ (g.met.V.TreeView.follows_on _ _ _ c.prefix.ensures.follows c.writable_parent.ensures.follows) c.given_in.ensures.follows
+pub returns-in_err-default_acl-clause-left : goal.returns-in_err-default_acl-clause-left
+returns-in_err-default_acl-clause-left g c = (c.given_in.ensures.left.0, g.met.V.TreeView.follows_on _ _ _ (g.met.V.TreeView.follows_on _ _ _ c.prefix.ensures.left.1 c.writable_parent.ensures.left.1) c.given_in.ensures.left.1, λ told. c.given_in.ensures.left.2 told ∙ c.writable_parent.ensures.left.2 told ∙ c.prefix.ensures.left.2 told)
 
-pub returns-clause-follows : goal.returns-clause-follows
-returns-clause-follows g c = g.met.V.TreeView.follows_on _ _ _ (g.met.V.TreeView.follows_on _ _ _ c.prefix.ensures.follows c.writable_parent.ensures.follows) c.given_in.ensures.follows
+pub returns-clause-left : goal.returns-clause-left
+returns-clause-left g c = (c.given_in.ensures.left.0, g.met.V.TreeView.follows_on _ _ _ (g.met.V.TreeView.follows_on _ _ _ c.prefix.ensures.left.1 c.writable_parent.ensures.left.1) c.given_in.ensures.left.1, λ told. c.given_in.ensures.left.2 told ∙ c.writable_parent.ensures.left.2 told ∙ c.prefix.ensures.left.2 told)

@@ -14,9 +14,7 @@ pub returns-in_err-caller : goal.returns-in_err-caller
 returns-in_err-caller g c =
     let p = err_from_is_err_and c.from_residual.result c.from_residual.ensures.1 in
     record {
-      kept = c.requires;
-      follows = g.met.V.TreeView.follows_itself _;
-      same = λ told. refl;
+      left = (c.requires, g.met.V.TreeView.follows_itself _, λ told. refl);
       decided = λ told world shows. rw (p.1, p.2, c.in_err-caller.ensures) (refl {a = Err c.in_err-caller.field-0.0});
       cause = rw (p.1, p.2) tt;
     }
@@ -25,9 +23,7 @@ pub returns-in_err-path : goal.returns-in_err-path
 returns-in_err-path g c =
     let p = err_from_is_err_and c.from_residual-in_err-path.result c.from_residual-in_err-path.ensures.1 in
     record {
-      kept = c.requires;
-      follows = g.met.V.TreeView.follows_itself _;
-      same = λ told. refl;
+      left = (c.requires, g.met.V.TreeView.follows_itself _, λ told. refl);
       decided = λ told world shows. rw (p.1, p.2, c.in_ok-caller.ensures, c.in_err-path.ensures) (refl {a = Err c.in_err-path.field-0.0});
       cause = rw (p.1, p.2) tt;
     }
@@ -51,41 +47,23 @@ returns-in_err-names-clause-decided g c told world shows =
 pub returns-in_err-names-clause-cause : goal.returns-in_err-names-clause-cause
 returns-in_err-names-clause-cause g c =
     let p = err_from_is_err_and c.from_residual-in_err-names.result c.from_residual-in_err-names.ensures.1 in
-    rw (p.1, p.2) (view_later c.in_err-names.field-0.0 (λ f. g.V.TreeView.causes c.readdir.new.view c.listed.new.self f) (λ f. g.V.TreeView.causes c.args.view.now c.listed.new.self f) (λ f h. g.met.V.TreeView.causes_later _ _ _ f c.readdir.ensures.follows h) c.in_err-names.ensures.cause)
+    rw (p.1, p.2) (view_later c.in_err-names.field-0.0 (λ f. g.V.TreeView.causes c.readdir.new.view c.listed.new.self f) (λ f. g.V.TreeView.causes c.args.view.now c.listed.new.self f) (λ f h. g.met.V.TreeView.causes_later _ _ _ f c.readdir.ensures.left.1 h) c.in_err-names.ensures.cause)
 
-pub returns-in_err-names-clause-follows : goal.returns-in_err-names-clause-follows
-returns-in_err-names-clause-follows g c = g.met.V.TreeView.follows_on _ _ _ c.readdir.ensures.follows c.listed.ensures.follows
+pub returns-in_err-names-clause-left : goal.returns-in_err-names-clause-left
+returns-in_err-names-clause-left g c = (c.listed.ensures.left.0, g.met.V.TreeView.follows_on _ _ _ c.readdir.ensures.left.1 c.listed.ensures.left.1, λ told. c.listed.ensures.left.2 told ∙ c.readdir.ensures.left.2 told)
 
-pub returns-clause-follows : goal.returns-clause-follows
-returns-clause-follows g c = g.met.V.TreeView.follows_on _ _ _ c.readdir.ensures.follows c.listed.ensures.follows
+pub returns-clause-left : goal.returns-clause-left
+returns-clause-left g c = (c.listed.ensures.left.0, g.met.V.TreeView.follows_on _ _ _ c.readdir.ensures.left.1 c.listed.ensures.left.1, λ told. c.listed.ensures.left.2 told ∙ c.readdir.ensures.left.2 told)
 
 pub returns-clause-decided : goal.returns-clause-decided
 returns-clause-decided g c told world shows =
     let given = rw (shown_seen shows) at (c.in_ok-directory.ensures.exact told) in
-    let stay = g.met.V.CallView.names_stay _ _ told c.readdir.ensures.follows in
+    let stay = g.met.V.CallView.names_stay _ _ told c.readdir.ensures.left.1 in
     let names = c.in_ok-names.ensures.found told ∙ ap (λ (s : SeenNames). s.listed c.in_ok-directory.directory) stay in
     rw (c.in_ok-caller.ensures, c.in_ok-path.ensures) (given ∙ ap (λ (n : List (List ℕ)). Ok (tells (Names n))) (sym names) ∙ ap (λ (o : Outcome). Ok o) (sym c.asks.ensures))
 
-pub returns-in_err-directory-clause-kept : goal.returns-in_err-directory-clause-kept
-returns-in_err-directory-clause-kept g c = c.readdir.ensures.kept
-
-pub returns-in_err-directory-clause-follows : goal.returns-in_err-directory-clause-follows
-returns-in_err-directory-clause-follows g c = c.readdir.ensures.follows
-
-pub returns-in_err-directory-clause-same : goal.returns-in_err-directory-clause-same
-returns-in_err-directory-clause-same g c told = c.readdir.ensures.same told
-
-pub returns-in_err-names-clause-kept : goal.returns-in_err-names-clause-kept
-returns-in_err-names-clause-kept g c = c.listed.ensures.kept
-
-pub returns-in_err-names-clause-same : goal.returns-in_err-names-clause-same
-returns-in_err-names-clause-same g c told = c.listed.ensures.same told ∙ c.readdir.ensures.same told
-
-pub returns-clause-kept : goal.returns-clause-kept
-returns-clause-kept g c = c.listed.ensures.kept
-
-pub returns-clause-same : goal.returns-clause-same
-returns-clause-same g c told = c.listed.ensures.same told ∙ c.readdir.ensures.same told
+pub returns-in_err-directory-clause-left : goal.returns-in_err-directory-clause-left
+returns-in_err-directory-clause-left g c = c.readdir.ensures.left
 
 pub returns-clause-cause : goal.returns-clause-cause
 returns-clause-cause g c = tt

@@ -18,11 +18,11 @@ pub returns-in_err-is_listable-clause-exact : goal.returns-in_err-is_listable-cl
 unfolding rmdir_outcome
 returns-in_err-is_listable-clause-exact g c = search rules
 
-pub returns-in_err-found-clause-follows : goal.returns-in_err-found-clause-follows
-returns-in_err-found-clause-follows g c = g.met.V.TreeView.follows_on _ _ _ c.prefix.ensures.follows c.there.ensures.follows
+pub returns-in_err-found-clause-left : goal.returns-in_err-found-clause-left
+returns-in_err-found-clause-left g c = (c.there.ensures.left.0, g.met.V.TreeView.follows_on _ _ _ c.prefix.ensures.left.1 c.there.ensures.left.1, λ told. c.there.ensures.left.2 told ∙ c.prefix.ensures.left.2 told)
 
-pub returns-in_err-is_listable-clause-follows : goal.returns-in_err-is_listable-clause-follows
-returns-in_err-is_listable-clause-follows g c = g.met.V.TreeView.follows_on _ _ _ c.prefix.ensures.follows c.there.ensures.follows
+pub returns-in_err-is_listable-clause-left : goal.returns-in_err-is_listable-clause-left
+returns-in_err-is_listable-clause-left g c = (c.there.ensures.left.0, g.met.V.TreeView.follows_on _ _ _ c.prefix.ensures.left.1 c.there.ensures.left.1, λ told. c.there.ensures.left.2 told ∙ c.prefix.ensures.left.2 told)
 
-pub returns-clause-follows : goal.returns-clause-follows
-returns-clause-follows g c = g.met.V.TreeView.follows_on _ _ _ (g.met.V.TreeView.follows_on _ _ _ c.prefix.ensures.follows c.there.ensures.follows) c.rmdir_in.ensures.follows
+pub returns-clause-left : goal.returns-clause-left
+returns-clause-left g c = (c.rmdir_in.ensures.left.0, g.met.V.TreeView.follows_on _ _ _ (g.met.V.TreeView.follows_on _ _ _ c.prefix.ensures.left.1 c.there.ensures.left.1) c.rmdir_in.ensures.left.1, λ told. c.rmdir_in.ensures.left.2 told ∙ c.there.ensures.left.2 told ∙ c.prefix.ensures.left.2 told)

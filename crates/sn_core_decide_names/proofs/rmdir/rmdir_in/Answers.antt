@@ -13,8 +13,8 @@ returns-in_err-sticky-clause-exact g c = search rules
 pub returns-clause-exact : goal.returns-clause-exact
 returns-clause-exact g c = search rules
 
-pub returns-in_err-empty-clause-follows : goal.returns-in_err-empty-clause-follows
-returns-in_err-empty-clause-follows g c = g.met.V.TreeView.follows_on _ _ _ c.writable_parent.ensures.follows c.empty.ensures.follows
+pub returns-in_err-empty-clause-left : goal.returns-in_err-empty-clause-left
+returns-in_err-empty-clause-left g c = (c.empty.ensures.left.0, g.met.V.TreeView.follows_on _ _ _ c.writable_parent.ensures.left.1 c.empty.ensures.left.1, λ told. c.empty.ensures.left.2 told ∙ c.writable_parent.ensures.left.2 told)
 
-pub returns-clause-follows : goal.returns-clause-follows
-returns-clause-follows g c = g.met.V.TreeView.follows_on _ _ _ c.writable_parent.ensures.follows c.empty.ensures.follows
+pub returns-clause-left : goal.returns-clause-left
+returns-clause-left g c = (c.empty.ensures.left.0, g.met.V.TreeView.follows_on _ _ _ c.writable_parent.ensures.left.1 c.empty.ensures.left.1, λ told. c.empty.ensures.left.2 told ∙ c.writable_parent.ensures.left.2 told)

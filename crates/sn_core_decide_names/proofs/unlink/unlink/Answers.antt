@@ -22,17 +22,17 @@ pub returns-in_err-parent-clause-exact : goal.returns-in_err-parent-clause-exact
 unfolding unlink_outcome
 returns-in_err-parent-clause-exact g c = search rules
 
-pub returns-in_err-found-clause-follows : goal.returns-in_err-found-clause-follows
-returns-in_err-found-clause-follows g c = g.met.V.TreeView.follows_on _ _ _ c.prefix.ensures.follows c.there.ensures.follows
+pub returns-in_err-found-clause-left : goal.returns-in_err-found-clause-left
+returns-in_err-found-clause-left g c = (c.there.ensures.left.0, g.met.V.TreeView.follows_on _ _ _ c.prefix.ensures.left.1 c.there.ensures.left.1, λ told. c.there.ensures.left.2 told ∙ c.prefix.ensures.left.2 told)
 
-pub returns-in_err-no_directory-clause-follows : goal.returns-in_err-no_directory-clause-follows
-returns-in_err-no_directory-clause-follows g c = g.met.V.TreeView.follows_on _ _ _ c.prefix.ensures.follows c.there.ensures.follows
+pub returns-in_err-no_directory-clause-left : goal.returns-in_err-no_directory-clause-left
+returns-in_err-no_directory-clause-left g c = (c.there.ensures.left.0, g.met.V.TreeView.follows_on _ _ _ c.prefix.ensures.left.1 c.there.ensures.left.1, λ told. c.there.ensures.left.2 told ∙ c.prefix.ensures.left.2 told)
 
-pub returns-in_err-live-clause-follows : goal.returns-in_err-live-clause-follows
-returns-in_err-live-clause-follows g c = g.met.V.TreeView.follows_on _ _ _ c.prefix.ensures.follows c.there.ensures.follows
+pub returns-in_err-live-clause-left : goal.returns-in_err-live-clause-left
+returns-in_err-live-clause-left g c = (c.there.ensures.left.0, g.met.V.TreeView.follows_on _ _ _ c.prefix.ensures.left.1 c.there.ensures.left.1, λ told. c.there.ensures.left.2 told ∙ c.prefix.ensures.left.2 told)
 
-pub returns-in_err-parent-clause-follows : goal.returns-in_err-parent-clause-follows
-returns-in_err-parent-clause-follows g c = g.met.V.TreeView.follows_on _ _ _ c.prefix.ensures.follows c.there.ensures.follows
+pub returns-in_err-parent-clause-left : goal.returns-in_err-parent-clause-left
+returns-in_err-parent-clause-left g c = (c.there.ensures.left.0, g.met.V.TreeView.follows_on _ _ _ c.prefix.ensures.left.1 c.there.ensures.left.1, λ told. c.there.ensures.left.2 told ∙ c.prefix.ensures.left.2 told)
 
-pub returns-clause-follows : goal.returns-clause-follows
-returns-clause-follows g c = g.met.V.TreeView.follows_on _ _ _ (g.met.V.TreeView.follows_on _ _ _ c.prefix.ensures.follows c.there.ensures.follows) c.unlink_in.ensures.follows
+pub returns-clause-left : goal.returns-clause-left
+returns-clause-left g c = (c.unlink_in.ensures.left.0, g.met.V.TreeView.follows_on _ _ _ (g.met.V.TreeView.follows_on _ _ _ c.prefix.ensures.left.1 c.there.ensures.left.1) c.unlink_in.ensures.left.1, λ told. c.unlink_in.ensures.left.2 told ∙ c.there.ensures.left.2 told ∙ c.prefix.ensures.left.2 told)

@@ -14,11 +14,11 @@ pub returns-in_err-to-clause-exact : goal.returns-in_err-to-clause-exact
 unfolding moved_outcome
 returns-in_err-to-clause-exact g c = search rules
 
-pub returns-in_err-from-clause-follows : goal.returns-in_err-from-clause-follows
-returns-in_err-from-clause-follows g c = g.met.V.TreeView.follows_on _ _ _ c.not_below.ensures.follows c.writable_parent.ensures.follows
+pub returns-in_err-from-clause-left : goal.returns-in_err-from-clause-left
+returns-in_err-from-clause-left g c = (c.writable_parent.ensures.left.0, g.met.V.TreeView.follows_on _ _ _ c.not_below.ensures.left.1 c.writable_parent.ensures.left.1, λ told. c.writable_parent.ensures.left.2 told ∙ c.not_below.ensures.left.2 told)
 
-pub returns-in_err-to-clause-follows : goal.returns-in_err-to-clause-follows
-returns-in_err-to-clause-follows g c = g.met.V.TreeView.follows_on _ _ _ (g.met.V.TreeView.follows_on _ _ _ c.not_below.ensures.follows c.writable_parent.ensures.follows) c.writable_parent-2.ensures.follows
+pub returns-in_err-to-clause-left : goal.returns-in_err-to-clause-left
+returns-in_err-to-clause-left g c = (c.writable_parent-2.ensures.left.0, g.met.V.TreeView.follows_on _ _ _ (g.met.V.TreeView.follows_on _ _ _ c.not_below.ensures.left.1 c.writable_parent.ensures.left.1) c.writable_parent-2.ensures.left.1, λ told. c.writable_parent-2.ensures.left.2 told ∙ c.writable_parent.ensures.left.2 told ∙ c.not_below.ensures.left.2 told)
 
-pub returns-clause-follows : goal.returns-clause-follows
-returns-clause-follows g c = g.met.V.TreeView.follows_on _ _ _ (g.met.V.TreeView.follows_on _ _ _ (g.met.V.TreeView.follows_on _ _ _ c.not_below.ensures.follows c.writable_parent.ensures.follows) c.writable_parent-2.ensures.follows) c.moved_in.ensures.follows
+pub returns-clause-left : goal.returns-clause-left
+returns-clause-left g c = (c.moved_in.ensures.left.0, g.met.V.TreeView.follows_on _ _ _ (g.met.V.TreeView.follows_on _ _ _ (g.met.V.TreeView.follows_on _ _ _ c.not_below.ensures.left.1 c.writable_parent.ensures.left.1) c.writable_parent-2.ensures.left.1) c.moved_in.ensures.left.1, λ told. c.moved_in.ensures.left.2 told ∙ c.writable_parent-2.ensures.left.2 told ∙ c.writable_parent.ensures.left.2 told ∙ c.not_below.ensures.left.2 told)

@@ -10,8 +10,8 @@ returns-in_err-gives_way-clause-exact g c = search rules
 pub returns-clause-exact : goal.returns-clause-exact
 returns-clause-exact g c = search rules
 
-pub returns-in_err-room_to_move-clause-follows : goal.returns-in_err-room_to_move-clause-follows
-returns-in_err-room_to_move-clause-follows g c = g.met.V.TreeView.follows_on _ _ _ c.gives_way.ensures.follows c.room_to_move.ensures.follows
+pub returns-in_err-room_to_move-clause-left : goal.returns-in_err-room_to_move-clause-left
+returns-in_err-room_to_move-clause-left g c = (c.room_to_move.ensures.left.0, g.met.V.TreeView.follows_on _ _ _ c.gives_way.ensures.left.1 c.room_to_move.ensures.left.1, λ told. c.room_to_move.ensures.left.2 told ∙ c.gives_way.ensures.left.2 told)
 
-pub returns-clause-follows : goal.returns-clause-follows
-returns-clause-follows g c = g.met.V.TreeView.follows_on _ _ _ c.gives_way.ensures.follows c.room_to_move.ensures.follows
+pub returns-clause-left : goal.returns-clause-left
+returns-clause-left g c = (c.room_to_move.ensures.left.0, g.met.V.TreeView.follows_on _ _ _ c.gives_way.ensures.left.1 c.room_to_move.ensures.left.1, λ told. c.room_to_move.ensures.left.2 told ∙ c.gives_way.ensures.left.2 told)

@@ -22,14 +22,14 @@ pub returns-clause-exact : goal.returns-clause-exact
 unfolding moving_of
 returns-clause-exact g c = search rules
 
-pub returns-in_err-found-clause-follows : goal.returns-in_err-found-clause-follows
-returns-in_err-found-clause-follows g c = g.met.V.TreeView.follows_on _ _ _ c.prefix.ensures.follows c.there.ensures.follows
+pub returns-in_err-found-clause-left : goal.returns-in_err-found-clause-left
+returns-in_err-found-clause-left g c = (c.there.ensures.left.0, g.met.V.TreeView.follows_on _ _ _ c.prefix.ensures.left.1 c.there.ensures.left.1, λ told. c.there.ensures.left.2 told ∙ c.prefix.ensures.left.2 told)
 
-pub returns-in_err-old_directory-clause-follows : goal.returns-in_err-old_directory-clause-follows
-returns-in_err-old_directory-clause-follows g c = g.met.V.TreeView.follows_on _ _ _ c.prefix.ensures.follows c.there.ensures.follows
+pub returns-in_err-old_directory-clause-left : goal.returns-in_err-old_directory-clause-left
+returns-in_err-old_directory-clause-left g c = (c.there.ensures.left.0, g.met.V.TreeView.follows_on _ _ _ c.prefix.ensures.left.1 c.there.ensures.left.1, λ told. c.there.ensures.left.2 told ∙ c.prefix.ensures.left.2 told)
 
-pub returns-in_err-new_directory-clause-follows : goal.returns-in_err-new_directory-clause-follows
-returns-in_err-new_directory-clause-follows g c = g.met.V.TreeView.follows_on _ _ _ (g.met.V.TreeView.follows_on _ _ _ c.prefix.ensures.follows c.there.ensures.follows) c.moving_to.ensures.follows
+pub returns-in_err-new_directory-clause-left : goal.returns-in_err-new_directory-clause-left
+returns-in_err-new_directory-clause-left g c = (c.moving_to.ensures.left.0, g.met.V.TreeView.follows_on _ _ _ (g.met.V.TreeView.follows_on _ _ _ c.prefix.ensures.left.1 c.there.ensures.left.1) c.moving_to.ensures.left.1, λ told. c.moving_to.ensures.left.2 told ∙ c.there.ensures.left.2 told ∙ c.prefix.ensures.left.2 told)
 
-pub returns-clause-follows : goal.returns-clause-follows
-returns-clause-follows g c = g.met.V.TreeView.follows_on _ _ _ (g.met.V.TreeView.follows_on _ _ _ c.prefix.ensures.follows c.there.ensures.follows) c.moving_to.ensures.follows
+pub returns-clause-left : goal.returns-clause-left
+returns-clause-left g c = (c.moving_to.ensures.left.0, g.met.V.TreeView.follows_on _ _ _ (g.met.V.TreeView.follows_on _ _ _ c.prefix.ensures.left.1 c.there.ensures.left.1) c.moving_to.ensures.left.1, λ told. c.moving_to.ensures.left.2 told ∙ c.there.ensures.left.2 told ∙ c.prefix.ensures.left.2 told)

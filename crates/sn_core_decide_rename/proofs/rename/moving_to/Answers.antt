@@ -1,7 +1,7 @@
 use Rattle.sn_core_decide_rename.proofs.rename.moving_to.Goals as goal
 
-pub returns-in-Ok-clause-follows : goal.returns-in-Ok-clause-follows
-returns-in-Ok-clause-follows g c = g.met.V.TreeView.follows_on _ _ _ c.prefix.ensures.follows c.reached.ensures.follows
+pub returns-in-Ok-clause-left : goal.returns-in-Ok-clause-left
+returns-in-Ok-clause-left g c = (c.reached.ensures.left.0, g.met.V.TreeView.follows_on _ _ _ c.prefix.ensures.left.1 c.reached.ensures.left.1, λ told. c.reached.ensures.left.2 told ∙ c.prefix.ensures.left.2 told)
 
-pub returns-in-Err-clause-follows : goal.returns-in-Err-clause-follows
-returns-in-Err-clause-follows g c = g.met.V.TreeView.follows_on _ _ _ c.prefix.ensures.follows c.reached.ensures.follows
+pub returns-in-Err-clause-left : goal.returns-in-Err-clause-left
+returns-in-Err-clause-left g c = (c.reached.ensures.left.0, g.met.V.TreeView.follows_on _ _ _ c.prefix.ensures.left.1 c.reached.ensures.left.1, λ told. c.reached.ensures.left.2 told ∙ c.prefix.ensures.left.2 told)

@@ -14,5 +14,5 @@ pub returns-in_err-moving-clause-exact : goal.returns-in_err-moving-clause-exact
 unfolding rename_outcome
 returns-in_err-moving-clause-exact g c = search rules
 
-pub returns-clause-follows : goal.returns-clause-follows
-returns-clause-follows g c = g.met.V.TreeView.follows_on _ _ _ c.moving_of.ensures.follows c.moved.ensures.follows
+pub returns-clause-left : goal.returns-clause-left
+returns-clause-left g c = (c.moved.ensures.left.0, g.met.V.TreeView.follows_on _ _ _ c.moving_of.ensures.left.1 c.moved.ensures.left.1, λ told. c.moved.ensures.left.2 told ∙ c.moving_of.ensures.left.2 told)

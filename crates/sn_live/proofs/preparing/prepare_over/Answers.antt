@@ -9,5 +9,5 @@ use Rattle.sn_live.proofs.preparing.prepare_over.Goals as goal
 pub returns-in-Ok-clause-prepared : goal.returns-in-Ok-clause-prepared
 returns-in-Ok-clause-prepared g c told = record {
   laid = subst (λ (o : Option PreparedChange). laid.IsPrepared c.args.limits.now o (through (layer_of c.args.overlay.now) (g.B.Below.shows c.args.below.now)) c.args.change.now) c.in-Some.is (c.in_ok-laid.ensures.prepared told);
-  nodes = c.in-Ok.ensures.found told ∙ (λ i. node_moves_of (through (c.prepare_change.ensures.layer i) (c.prepare_change.ensures.same told i)) c.args.change.now);
+  nodes = c.in-Ok.ensures.found told ∙ (λ i. node_moves_of (through (c.prepare_change.ensures.layer i) (c.prepare_change.ensures.left.2 told i)) c.args.change.now);
 }

@@ -14,9 +14,9 @@ loop-bytes-preserved g c =
     let step = c.count_within-step.result in
     let part = λ (t : Tree). take step (drop ((c.args.offset + so_far) % 4096) (seen_block t (file_block_at c.args.number ((c.args.offset + so_far) / 4096)))) in
     record {
-      kept = c.push_part.ensures.kept;
-      follows = g.met.B.Below.follows_on _ _ _ c.loop-bytes.invariant.follows c.push_part.ensures.follows;
-      same = λ told. c.push_part.ensures.same told ∙ c.loop-bytes.invariant.same told;
+      kept = c.push_part.ensures.left.0;
+      follows = g.met.B.Below.follows_on _ _ _ c.loop-bytes.invariant.follows c.push_part.ensures.left.1;
+      same = λ told. c.push_part.ensures.left.2 told ∙ c.loop-bytes.invariant.same told;
       few = omega (arith, c.in_ok-push_part.ensures.longer, c.count_within-step.ensures.most);
       read = λ told.
           let within : c.args.offset + so_far + step ≤ length bytes = omega (arith, c.requires.within told, c.count_within-step.ensures.most, c.len-in-loop-bytes.ensures) in

@@ -26,9 +26,9 @@ loop-i-preserved g c =
     let number = c.args.number in
     let new = λ (t : Tree). overwritten (bytes_of (map.get t.nodes number)) c.args.offset c.args.bytes.now in
     record {
-      kept = c.written_block.ensures.kept;
-      follows = g.met.B.Below.follows_on _ _ _ c.loop-i.invariant.follows c.written_block.ensures.follows;
-      same = λ told. c.written_block.ensures.same told ∙ c.loop-i.invariant.same told;
+      kept = c.written_block.ensures.left.0;
+      follows = g.met.B.Below.follows_on _ _ _ c.loop-i.invariant.follows c.written_block.ensures.left.1;
+      same = λ told. c.written_block.ensures.left.2 told ∙ c.loop-i.invariant.same told;
       layer = λ told.
           c.set_block.ensures.layer
           ∙ ap (λ layer. with_block layer (file_block_at number (first + c.loop-i.i)) c.in_ok-block.block.value) (c.loop-i.invariant.layer told)

@@ -25,9 +25,9 @@ returns-in_default-2-clause-exact g c told =
 
 pub loop-next-preserved : goal.loop-next-preserved
 loop-next-preserved g c = record {
-  kept = c.pass.ensures.kept;
-  follows = g.met.T.TreeView.follows_on _ _ _ c.loop-next.invariant.follows c.pass.ensures.follows;
-  same = λ told. c.pass.ensures.same told ∙ c.loop-next.invariant.same told;
+  kept = c.pass.ensures.left.0;
+  follows = g.met.T.TreeView.follows_on _ _ _ c.loop-next.invariant.follows c.pass.ensures.left.1;
+  same = λ told. c.pass.ensures.left.2 told ∙ c.loop-next.invariant.same told;
   rest = λ told.
       let same = c.loop-next.invariant.same told in
       let here = rw same at c.in_ok-child.ensures.exact told in
