@@ -14,10 +14,10 @@ pub returns-clause-left : goal.returns-clause-left
 returns-clause-left g c = (
   search rules,
   (
-  looks_behind g.D.Device.tells_bytes _ _ _ _ _ _ _ c.link-answer.result c.in_default.is c.fault_of-self.ensures c.link-answer.ensures.counts c.link-answer.ensures.same
-      (λ told. c.link-answer.ensures.damaged told (frozen_sound (store_on c.args.self.now.blocks.now) c.args.self.now.root.now c.args.snapshot.now c.frozen_file.result c.frozen_file.ensures c.in-Some-frozen_file.file c.in-Some-frozen_file.is _ (c.requires.holds told) (c.requires.frozen told))),
-  refl,
-),
+    looks_behind g.D.Device.tells_bytes _ _ _ _ _ _ _ c.link-answer.result c.in_default.is c.fault_of-self.ensures c.link-answer.ensures.counts c.link-answer.ensures.same
+        (λ told. c.link-answer.ensures.damaged told (frozen_sound (store_on c.args.self.now.blocks.now) c.args.self.now.root.now c.args.snapshot.now c.frozen_file.result c.frozen_file.ensures c.in-Some-frozen_file.file c.in-Some-frozen_file.is _ (c.requires.holds told) (c.requires.frozen told))),
+    refl,
+  ),
   search rules,
 )
 

@@ -31,9 +31,9 @@ pub returns-in-Err-clause-left : goal.returns-in-Err-clause-left
 returns-in-Err-clause-left g c = (
   search rules,
   (
-  looks_behind g.D.Device.tells_bytes _ _ _ _ _ _ _ c.seen_node-answer.result c.in_default.is c.fault_of-self.ensures c.seen_node-answer.ensures.counts c.seen_node-answer.ensures.same
-      (λ told. c.seen_node-answer.ensures.damaged told (frozen_sound (store_on c.args.self.now.blocks.now) c.args.self.now.root.now c.args.snapshot.now c.frozen_file.result c.frozen_file.ensures c.in-Some-frozen_file.file c.in-Some-frozen_file.is _ (c.requires.holds told) (c.requires.frozen told))),
-  refl,
-),
+    looks_behind g.D.Device.tells_bytes _ _ _ _ _ _ _ c.seen_node-answer.result c.in_default.is c.fault_of-self.ensures c.seen_node-answer.ensures.counts c.seen_node-answer.ensures.same
+        (λ told. c.seen_node-answer.ensures.damaged told (frozen_sound (store_on c.args.self.now.blocks.now) c.args.self.now.root.now c.args.snapshot.now c.frozen_file.result c.frozen_file.ensures c.in-Some-frozen_file.file c.in-Some-frozen_file.is _ (c.requires.holds told) (c.requires.frozen told))),
+    refl,
+  ),
   search rules,
 )
