@@ -1,6 +1,6 @@
 -- What is served is a machine over a world, and an export keeps its trees.
-use Rattle.std.proofs.Common.{◌≡◌, ◌∙◌, ℕ, Bool, List, [], ◌∷◌, ap, subst}
-use Rattle.std.specs.Prelude.{IfErr, IsTrue, Result, Ok, Err, OnOk}
+use Rattle.std.proofs.Common.{◌≡◌, ◌∙◌, ℕ, Bool, List, [], ◌∷◌, ap, refl, subst}
+use Rattle.std.specs.Prelude.{IfErr, IsErr, IsTrue, Result, Ok, Err, OnOk}
 use Rattle.sn_device.specs.Disk.{Disk, reads}
 use Rattle.sn_device.specs.Sectors.{Contents}
 use Rattle.sn_device.proofs.CrashLemmas.{LeavesOnly-now}
@@ -66,6 +66,14 @@ on_written X ending.Clean (Err why) x = tt
 on_written X ending.Memory written x = tt
 on_written X ending.Stopped written x = tt
 on_written X (ending.Mount why) written x = tt
+
+-- a fault stays one
+pub refused : (end : End) (written : Result (Unit {0}) ExportFault) → IsErr written → IsErr (outcome_of end written)
+refused ending.Clean (Ok done) is = is
+refused ending.Clean (Err why) is = is
+refused ending.Memory written is = refl
+refused ending.Stopped written is = refl
+refused (ending.Mount why) written is = refl
 
 -- no unmount ends with the fault of a path
 no_path : {X : Type 0} (why : ImageFault) → (why ≡ fault.Export export.Path → ⊥) → why ≡ fault.Export export.Path → X
