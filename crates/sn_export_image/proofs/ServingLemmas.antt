@@ -52,8 +52,8 @@ trees_settled c world after image same =
 pub keeps_trees : (told : Bool) (end : End) (written : Result (Unit {0}) ExportFault) (s : Served) (c : Contents) (world : World) (last : Disk) → IsImage c world
     → OnOk written (Reads (trees_of world) (RunsOver told s)) → Unmounts end s last → OnOk (outcome_of end written) (HasTreesOf world last)
 keeps_trees told ending.Clean (Ok done) s c world last image read unmounts =
-    let u = unmounts (Running read.world) read.serves.1 in
-    λ left may. (settle read.world, LeavesOnly-now s.disk last (ShowsState (Running read.world)) u.lasts left may, trees_settled c world read.world image read.same)
+    let u = unmounts (Running read.runs.world) read.runs.serves.1 in
+    λ left may. (settle read.runs.world, LeavesOnly-now s.disk last (ShowsState (Running read.runs.world)) u.lasts left may, trees_settled c world read.runs.world image read.runs.same)
 keeps_trees told ending.Clean (Err why) s c world last image read unmounts = tt
 keeps_trees told ending.Memory written s c world last image read unmounts = tt
 keeps_trees told ending.Stopped written s c world last image read unmounts = tt
