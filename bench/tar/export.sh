@@ -4,12 +4,17 @@
 #     bench/tar/export.sh [PROGRAM]
 #
 # GNU tar lists and extracts the stream, Python's tarfile reads it, two exports of one snapshot are compared by cmp, and bsdtar lists
-# it where it is there. By root, `tar --acls -xp` gives what getfacl and find tell. It prints a line for each part.
+# it where it is there. By root, `tar --acls -xp` gives what getfacl and find tell, and where there is /dev/fuse, and the program is the
+# wrapper, what getfacl -R, find -printf and diff -r say of the mounted tree. It prints a line for each part.
 set -euo pipefail
 top=$(cd "$(dirname "$0")/../.." && pwd)
 program=${1-$top/snapfs}
 work=$(mktemp -d)
-trap 'rm -rf "$work"' EXIT
+leave() {
+    if mountpoint -q "$work/mounted" 2>/dev/null; then umount -l "$work/mounted"; fi
+    rm -rf "$work"
+}
+trap leave EXIT
 cd "$work"
 
 hexed() { printf '%s' "$1" | od -An -v -tx1 | tr -d ' \n'; }
@@ -75,4 +80,20 @@ if [ "$(id -u)" = 0 ] && command -v getfacl >/dev/null; then
     mkdir owned && tar --acls -xpf one.tar -C owned --numeric-owner
     (cd owned && getfacl -n -c -p shared) | grep -q '^user:1002:r-x' && echo "tar --acls: gives the ACLs"
     (cd owned && find shared -maxdepth 0 -printf '%U %G %m\n') | grep -qx '1001 100 3770' && echo "tar -p: gives owners and modes"
+fi
+
+# told_of DIR: the rights, kinds, modes, owners, sizes and numbers of links below it
+told_of() {
+    (cd "$1" && getfacl -R -n -p . | awk 'BEGIN { RS = "" } { gsub("\n", " "); print }' | sort &&
+        find . -type d -printf '%p %y %m %U %G\n' -o -printf '%p %y %m %U %G %n %s\n' | sort)
+}
+if [ "$(id -u)" = 0 ] && [ -c /dev/fuse ] && command -v getfacl >/dev/null && head -n 1 "$program" | grep -q '^#!' 2>/dev/null; then
+    "$program" export disk.img /home >live.tar
+    mkdir live mounted && tar --acls -xpf live.tar -C live --numeric-owner
+    "$program" mount disk.img mounted
+    told_of live >one && told_of mounted/home >two
+    cmp one two
+    diff -r live mounted/home
+    "$program" unmount mounted
+    echo "tar --acls -xp: $(wc -l <one) lines as getfacl -R and find -printf tell the mounted tree; diff -r: the same"
 fi

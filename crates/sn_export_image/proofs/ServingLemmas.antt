@@ -1,6 +1,6 @@
 -- What is served is a machine over a world, and an export keeps its trees.
-use Rattle.std.proofs.Common.{◌≡◌, ◌∙◌, ℕ, Bool, List, [], ◌∷◌, ap, subst}
-use Rattle.std.specs.Prelude.{IfErr, IsTrue, Result, Ok, Err, OnOk}
+use Rattle.std.proofs.Common.{◌≡◌, ◌∙◌, ℕ, Bool, List, [], ◌∷◌, ap, refl, subst}
+use Rattle.std.specs.Prelude.{IfErr, IsErr, IsTrue, Result, Ok, Err, OnOk}
 use Rattle.sn_device.specs.Disk.{Disk, reads}
 use Rattle.sn_device.specs.Sectors.{Contents}
 use Rattle.sn_device.proofs.CrashLemmas.{LeavesOnly-now}
@@ -52,8 +52,8 @@ trees_settled c world after image same =
 pub keeps_trees : (told : Bool) (end : End) (written : Result (Unit {0}) ExportFault) (s : Served) (c : Contents) (world : World) (last : Disk) → IsImage c world
     → OnOk written (Reads (trees_of world) (RunsOver told s)) → Unmounts end s last → OnOk (outcome_of end written) (HasTreesOf world last)
 keeps_trees told ending.Clean (Ok done) s c world last image read unmounts =
-    let u = unmounts (Running read.world) read.serves.1 in
-    λ left may. (settle read.world, LeavesOnly-now s.disk last (ShowsState (Running read.world)) u.lasts left may, trees_settled c world read.world image read.same)
+    let u = unmounts (Running read.runs.world) read.runs.serves.1 in
+    λ left may. (settle read.runs.world, LeavesOnly-now s.disk last (ShowsState (Running read.runs.world)) u.lasts left may, trees_settled c world read.runs.world image read.runs.same)
 keeps_trees told ending.Clean (Err why) s c world last image read unmounts = tt
 keeps_trees told ending.Memory written s c world last image read unmounts = tt
 keeps_trees told ending.Stopped written s c world last image read unmounts = tt
@@ -66,6 +66,14 @@ on_written X ending.Clean (Err why) x = tt
 on_written X ending.Memory written x = tt
 on_written X ending.Stopped written x = tt
 on_written X (ending.Mount why) written x = tt
+
+-- a fault stays one
+pub refused : (end : End) (written : Result (Unit {0}) ExportFault) → IsErr written → IsErr (outcome_of end written)
+refused ending.Clean (Ok done) is = is
+refused ending.Clean (Err why) is = is
+refused ending.Memory written is = refl
+refused ending.Stopped written is = refl
+refused (ending.Mount why) written is = refl
 
 -- no unmount ends with the fault of a path
 no_path : {X : Type 0} (why : ImageFault) → (why ≡ fault.Export export.Path → ⊥) → why ≡ fault.Export export.Path → X

@@ -1,10 +1,10 @@
-ghost use Rattle.std.specs.Prelude.{◌≡◌, IfErr, IsErrOf, IsTrue, OnOk};
+ghost use Rattle.std.specs.Prelude.{◌≡◌, IfErr, IsErr, IsErrOf, IsTrue, OnOk};
 ghost use Rattle.sn_check.specs.Verdicts.{IsCause};
 ghost use Rattle.sn_device.specs.Disk.{reads};
 ghost use Rattle.sn_export_image.specs.declared.fault.ImageFault.TheVariants as fault;
 ghost use Rattle.sn_export_image.specs.Worlds.{HasTreesOf};
 ghost use Rattle.sn_export_reading.specs.Faults.{Goes, Tells};
-ghost use Rattle.sn_export_walk.specs.Untold.{IsUntold};
+ghost use Rattle.sn_export_walk.specs.Untold.{IsNoTree, IsUntold};
 ghost use Rattle.sn_export_walk.specs.Archives.{BeginsArchive, WritesArchive};
 ghost use Rattle.sn_export_reading.specs.Serving.{Reads};
 ghost use Rattle.sn_export_writing.specs.Streams.{BeginsStream, WritesStream};
@@ -39,6 +39,8 @@ fn write_tree<C: Calls, W: Write>(
     ensures kept { (world : World) → C.serves calls.old world → IsFound limits_written world → OnOk result (Reads (trees_of world) (C.serves calls.new)) }
     ensures told { Goes (C.last calls.old) → Tells (C.last calls.new) result }
     ensures path { (world : World) → C.serves calls.old world → IsFound limits_written world → IfErr result (λ why. why ≡ export.Path → IsUntold (trees_of world) path.now) }
+    ensures refused { (world : World) → C.serves calls.old world → IsFound limits_written world → IsNoTree (trees_of world) path.now → IsErr result }
+    ensures nothing { (world : World) → C.serves calls.old world → IsFound limits_written world → IsNoTree (trees_of world) path.now → out.new ≡ out.old }
 {
     export(alloc, calls, path, out)?;
     match out.flush() {
@@ -61,7 +63,8 @@ pub struct Exported<D: Device + Drop> {
 /// the device's disk is an image of, or after a fault the front of it. After an export without a fault the disk is an image of the same
 /// trees, whatever a crash leaves.
 /// Proved: Over each device that tells its bytes, `Path` is told only where the path leads to no tree of that world, or a name below it
-/// has a path that leads nowhere, as one of more bytes than a call takes.
+/// has a path that leads nowhere, as one of more bytes than a call takes. Where the path leads to no tree, that is a fault, and nothing is
+/// written.
 /// Proved: Over any device what is written is a stream of members and its end, or after a fault the front of one; nothing where there
 /// was no mount, for which the cause is that of a check.
 pub fn export_image<D: Device + Drop, W: Write>(
@@ -79,6 +82,8 @@ pub fn export_image<D: Device + Drop, W: Write>(
     ensures kept { IsTrue D.tells_bytes → (world : World) → IsImage (reads (D.disk device)) world → OnOk result.outcome (HasTreesOf world (D.disk result.device)) }
     ensures path { IsTrue D.tells_bytes → (world : World) → IsImage (reads (D.disk device)) world
         → IfErr result.outcome (λ why. why ≡ fault.Export export.Path → IsUntold (trees_of world) path.now) }
+    ensures refused { IsTrue D.tells_bytes → (world : World) → IsImage (reads (D.disk device)) world → IsNoTree (trees_of world) path.now → IsErr result.outcome }
+    ensures nothing { IsTrue D.tells_bytes → (world : World) → IsImage (reads (D.disk device)) world → IsNoTree (trees_of world) path.now → out.new ≡ out.old }
     ensures unmounted { (why : Why) → IsErrOf result.outcome (fault.Mount why) → out.new ≡ out.old }
     ensures cause { IsTrue D.tells_bytes → (why : Why) → IsErrOf result.outcome (fault.Mount why)
         → IsCause (D.status device).sectors (reads (D.disk device)) why }

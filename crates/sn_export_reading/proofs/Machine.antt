@@ -1,5 +1,5 @@
 -- What the machine's replies say, and what it runs over after them.
-use Rattle.std.proofs.Common.{◌≡◌, ◌+◌, ◌<◌, ℕ, Bool, true, false, cond, Option, Some, None, Result, Ok, Err, List, [], ◌∷◌, length, inl, inr, refl, sym, ap, subst, ◌∙◌, true≢false, arith}
+use Rattle.std.proofs.Common.{◌≡◌, ◌≢◌, ◌⊎◌, ◌+◌, ◌<◌, ℕ, Bool, true, false, cond, Option, Some, None, Result, Ok, Err, List, [], ◌∷◌, length, inl, inr, refl, sym, ap, subst, ◌∙◌, true≢false, arith}
 use Rattle.std.specs.Prelude.{nat_le, slice_get, slice_set, take, drop, ok_or}
 use Rattle.std.specs.Option.{option_flatten}
 use Rattle.std.specs.FinMap as map
@@ -33,7 +33,7 @@ use Rattle.sn_model.specs.declared.reply.Reply.TheVariants as answer
 use Rattle.sn_model.specs.declared.session.Session.{Session}
 use Rattle.sn_model.specs.AccessCalls.{acl_at, getacl_outcome, has_acl}
 use Rattle.sn_model.specs.Calls.{Ready, new_session, outcome_of, stat_outcome, status_of}
-use Rattle.sn_model.specs.Descriptors.{Descriptors, descriptor_at, descriptor_for, moved_if, moved_to, next_descriptor, opened, readable_at}
+use Rattle.sn_model.specs.Descriptors.{Descriptors, closed, descriptor_at, descriptor_for, moved_if, moved_to, next_descriptor, opened, readable_at}
 use Rattle.sn_model.specs.FileCalls.{close_outcome, count_argument, file, file_of, open_absent, open_as, open_bytes, open_found, open_outcome, open_there, opens_there, read_outcome, reads}
 use Rattle.sn_model.specs.Machine.{CallStep, EventStep, MayWrite, Memory, Mishap, Read, Running, Space, Age, State, Write, refused}
 use Rattle.sn_model.specs.NameCalls.{is_listable, read, readdir_outcome}
@@ -47,15 +47,15 @@ use Rattle.sn_model.specs.Settling.{dropped}
 use Rattle.sn_model.specs.Steps.{Becomes, Comes, decision, filled, with_caller, with_live}
 use Rattle.sn_model.specs.Tests.{full, granted, logged_in, logged_out, mode_from_bits, path_argument, plain, prefix, read_path, there}
 use Rattle.sn_model.specs.Tree.{Tree, names_for}
-use Rattle.sn_model.specs.World.{Descriptor, Trees, World, trees_of, viewed_trees}
+use Rattle.sn_model.specs.World.{Descriptor, Trees, World, descriptor_cmp, trees_of, viewed_trees}
 use Rattle.sn_model.specs.Worlds.{IsFound}
 use Rattle.sn_model.proofs.ChainLemmas.{some_same}
 use Rattle.sn_model.proofs.DecisionLemmas.{called, ok, same_ok}
 use Rattle.sn_model.proofs.DroppedLemmas.{dropped_same}
-use Rattle.sn_model.proofs.HeldLemmas.{descriptors_total}
-use Rattle.sn_model.proofs.MapLemmas.{get_inserted}
+use Rattle.sn_model.proofs.HeldLemmas.{descriptors_total, exact_descriptors}
+use Rattle.sn_model.proofs.MapLemmas.{get_inserted, get_left, get_other, get_removed, same_or_apart}
 use Rattle.sn_export_reading.specs.Faults.{LeadsNowhere, OfCall, OfMemory, OfMount, reason_of, refusal_in}
-use Rattle.sn_export_reading.specs.Serving.{AreFound, HasStatus, InState, IsStepOf, LeadsTo, Reads, ReadsFile, bytes_at, reader, to_read}
+use Rattle.sn_export_reading.specs.Serving.{AreFound, HasNoneBeside, HasNoneOpen, HasStatus, InState, IsStepOf, LeadsTo, Reads, ReadsFile, Runs, bytes_at, reader, to_read}
 use Rattle.sn_export_reading.proofs.Faults.{IsOwn}
 
 -- ---- a reply that refuses nothing
@@ -120,6 +120,24 @@ module _ (trees : Trees) (are : AreFound trees) (world : World) (same : trees_of
       c.world ∙ ap (λ (t : Tree). dropped (with_caller (with_live world t) 0 (filled c.number caller))) tree
       ∙ ap (λ (x : Caller). dropped (with_caller world 0 x)) (full c.number) ∙ none_dropped (with_caller world 0 caller) live
 
+-- ---- what is open
+
+-- another descriptor is as it was where one is opened
+beside : (table : Descriptors) (fd other : ℕ) (d : Descriptor) → (other ≡ fd → ⊥) → map.get (opened table 0 fd d) (0, other) ≡ map.get table (0, other)
+beside table fd other d apart = get_other descriptors_total exact_descriptors table (0, fd) d (0, other) (λ same. apart (ap (λ (k : ℕ × ℕ). k.1) same))
+
+-- the key of a descriptor of session 0
+abbrev key_of : ℕ → ℕ × ℕ
+key_of fd = (0, fd)
+
+-- none is left where the only one is closed
+none_left : (table : Descriptors) (fd : ℕ) → ((other : ℕ) → (other ≡ fd → ⊥) → map.get table (0, other) ≡ None) → (other : ℕ) → map.get (closed table 0 fd) (0, other) ≡ None
+none_left table fd alone other = told (same_or_apart descriptors_total exact_descriptors (key_of other) (key_of fd))
+  where
+    told : (key_of other ≡ key_of fd) ⊎ (key_of other ≢ key_of fd) → map.get (closed table 0 fd) (key_of other) ≡ None
+    told (inl same) = ap (map.get (closed table 0 fd)) same ∙ get_removed descriptors_total table (key_of fd)
+    told (inr apart) = get_left descriptors_total exact_descriptors table (key_of fd) (key_of other) apart ∙ alone other (λ same. apart (ap key_of same))
+
 -- ---- calls of the reader
 
 read_is : (r : Result (List (List ℕ)) PathFault) (names : List (List ℕ)) → read_path r ≡ Ok names → r ≡ Ok names
@@ -145,7 +163,12 @@ record IsOpening (trees : Trees) (path : List ℕ) (o : Outcome) : Type 0 where
   object : found.object ≡ Node home number
   is : o ≡ asks (Opens fd home number to_read) (answer.Number fd)
 
-module _ {Serves : World → Type 0} (trees : Trees) (r : Reads trees Serves) where
+-- it runs on, and these descriptors are open
+pub record RunsOn (trees : Trees) (table : Descriptors) (Next : World → Type 0) : Type 0 where
+  pub runs : Runs trees Next
+  pub table_is : runs.world.descriptors ≡ table
+
+module _ {Serves : World → Type 0} (trees : Trees) (r : Runs trees Serves) where
   by_reader : (path : List ℕ) (more : Session → List (List ℕ) → Ready) (o : Outcome)
       → ((logged_in r.world 0 >>= (λ s. path_argument path >>= (λ names. ok (more s names)))) >>= outcome_of limits_written r.world) ≡ Ok o → IsRead trees r.world path more o
   by_reader path more o e =
@@ -170,22 +193,26 @@ module _ {Serves : World → Type 0} (trees : Trees) (r : Reads trees Serves) wh
   }
 
   -- a call that only tells leaves all as it was
-  reads_on : {Next : World → Type 0} (o : Outcome) (caller : Caller) (told : Reply) (next : World) → o ≡ asks caller told → ((number : ℕ) → filled number caller ≡ caller)
-      → trees_of (with_caller r.world 0 caller) ≡ trees_of r.world → logged_in (with_caller r.world 0 caller) 0 ≡ logged_in r.world 0 → Comes limits_written r.world 0 o next → Next next → Reads trees Next
-  reads_on o caller told next e full kept seat comes serves =
+  runs_on : {Next : World → Type 0} (o : Outcome) (caller : Caller) (told : Reply) (next : World) → o ≡ asks caller told → ((number : ℕ) → filled number caller ≡ caller)
+      → trees_of (with_caller r.world 0 caller) ≡ trees_of r.world → logged_in (with_caller r.world 0 caller) 0 ≡ logged_in r.world 0 → Comes limits_written r.world 0 o next → Next next
+      → RunsOn trees (with_caller r.world 0 caller).descriptors Next
+  runs_on o caller told next e full kept seat comes serves =
       let is = asked trees r.are_found r.world r.same o caller told next e full (ap (λ (t : Trees). t.live) kept) comes in
       record {
-        are_found = r.are_found;
-        world = next;
-        serves = serves;
-        same = ap trees_of is ∙ kept ∙ r.same;
-        session = r.session;
-        seat = ap (λ (w : World). logged_in w 0) is ∙ seat ∙ r.seat;
-        is_reader = r.is_reader;
+        runs = record {
+          are_found = r.are_found;
+          world = next;
+          serves = serves;
+          same = ap trees_of is ∙ kept ∙ r.same;
+          session = r.session;
+          seat = ap (λ (w : World). logged_in w 0) is ∙ seat ∙ r.seat;
+          is_reader = r.is_reader;
+        };
+        table_is = ap (λ (w : World). w.descriptors) is;
       }
 
   pub stat_told : {Next : World → Type 0} (path : List ℕ) (reply : Reply) (status : FileStatus) → IsStepOf r.world 0 (call.Stat path) reply Next → reply ≡ answer.Status status
-      → HasStatus trees path status × Reads trees Next
+      → HasStatus trees path status × RunsOn trees r.world.descriptors Next
   unfolding stat_outcome
   stat_told {Next} path reply status step is =
       let t = is_told r.world (call.Stat path) reply Next step (ap is_refusal is) in
@@ -194,7 +221,7 @@ module _ {Serves : World → Type 0} (trees : Trees) (r : Reads trees Serves) wh
       let e : t.outcome ≡ tells (answer.Status (status_of (number_of x.0.object) x.0.attributes)) = sym (same_ok _ _ x.2) in
       let said : answer.Status status ≡ answer.Status (status_of (number_of x.0.object) x.0.attributes) = sym is ∙ t.told ∙ ap (λ (o : Outcome). o.told) e in
       let same : status ≡ status_of (number_of x.0.object) x.0.attributes = cc in
-      ((x.0, leads_to path d.names d.caller.cred x.0 d.spelled d.is_reader x.1, same), reads_on t.outcome Stays _ t.next e (λ n. refl) refl refl t.comes t.serves)
+      ((x.0, leads_to path d.names d.caller.cred x.0 d.spelled d.is_reader x.1, same), runs_on t.outcome Stays _ t.next e (λ n. refl) refl refl t.comes t.serves)
 
   -- what a lookup of a path that leads somewhere is decided to tell
   looked_up : (path : List ℕ) (found : Found) → LeadsTo trees path found → decision limits_written r.world 0 (call.Stat path) ≡ Ok (tells (answer.Status (status_of (number_of found.object) found.attributes)))
@@ -237,7 +264,7 @@ module _ {Serves : World → Type 0} (trees : Trees) (r : Reads trees Serves) wh
           writes (inr for_point) = let never : false ≡ true = for_point in cc
 
   pub readdir_told : {Next : World → Type 0} (path : List ℕ) (reply : Reply) (names : List (List ℕ)) → IsStepOf r.world 0 (call.Readdir path) reply Next → reply ≡ answer.Names names
-      → (found : Found) × LeadsTo trees path found × (names ≡ listed trees found.object) × Reads trees Next
+      → (found : Found) × LeadsTo trees path found × (names ≡ listed trees found.object) × RunsOn trees r.world.descriptors Next
   unfolding readdir_outcome
   readdir_told {Next} path reply names step is =
       let t = is_told r.world (call.Readdir path) reply Next step (ap is_refusal is) in
@@ -250,10 +277,10 @@ module _ {Serves : World → Type 0} (trees : Trees) (r : Reads trees Serves) wh
       let e : t.outcome ≡ tells (answer.Names (listed (trees_of r.world) x.0.object)) = sym (same_ok _ _ g.2) in
       let said : answer.Names names ≡ answer.Names (listed (trees_of r.world) x.0.object) = sym is ∙ t.told ∙ ap (λ (o : Outcome). o.told) e in
       let same : names ≡ listed (trees_of r.world) x.0.object = cc in
-      (x.0, leads_to path d.names d.caller.cred x.0 d.spelled d.is_reader x.1, same ∙ ap (λ (t : Trees). listed t x.0.object) r.same, reads_on t.outcome Stays _ t.next e (λ n. refl) refl refl t.comes t.serves)
+      (x.0, leads_to path d.names d.caller.cred x.0 d.spelled d.is_reader x.1, same ∙ ap (λ (t : Trees). listed t x.0.object) r.same, runs_on t.outcome Stays _ t.next e (λ n. refl) refl refl t.comes t.serves)
 
   pub getacl_told : {Next : World → Type 0} (path : List ℕ) (kind : AclKind) (reply : Reply) (acl : Option (List Entry)) → IsStepOf r.world 0 (call.GetAcl path kind) reply Next → reply ≡ answer.Acl acl
-      → (found : Found) × LeadsTo trees path found × (acl ≡ acl_at (viewed_trees trees) kind found) × Reads trees Next
+      → (found : Found) × LeadsTo trees path found × (acl ≡ acl_at (viewed_trees trees) kind found) × RunsOn trees r.world.descriptors Next
   unfolding getacl_outcome
   getacl_told {Next} path kind reply acl step is =
       let t = is_told r.world (call.GetAcl path kind) reply Next step (ap is_refusal is) in
@@ -264,9 +291,9 @@ module _ {Serves : World → Type 0} (trees : Trees) (r : Reads trees Serves) wh
       let e : t.outcome ≡ tells (answer.Acl (acl_at views kind x.0)) = sym (same_ok _ _ h.2) in
       let said : answer.Acl acl ≡ answer.Acl (acl_at views kind x.0) = sym is ∙ t.told ∙ ap (λ (o : Outcome). o.told) e in
       let same : acl ≡ acl_at views kind x.0 = cc in
-      (x.0, leads_to path d.names d.caller.cred x.0 d.spelled d.is_reader x.1, same ∙ ap (λ (t : Trees). acl_at (viewed_trees t) kind x.0) r.same, reads_on t.outcome Stays _ t.next e (λ n. refl) refl refl t.comes t.serves)
+      (x.0, leads_to path d.names d.caller.cred x.0 d.spelled d.is_reader x.1, same ∙ ap (λ (t : Trees). acl_at (viewed_trees t) kind x.0) r.same, runs_on t.outcome Stays _ t.next e (λ n. refl) refl refl t.comes t.serves)
 
-  pub close_told : {Next : World → Type 0} (fd : ℕ) (reply : Reply) → IsStepOf r.world 0 (call.Close fd) reply Next → reply ≡ answer.Done → Reads trees Next
+  pub close_told : {Next : World → Type 0} (fd : ℕ) (reply : Reply) → IsStepOf r.world 0 (call.Close fd) reply Next → reply ≡ answer.Done → RunsOn trees (closed r.world.descriptors 0 fd) Next
   unfolding close_outcome
   close_told {Next} fd reply step is =
       let t = is_told r.world (call.Close fd) reply Next step (ap is_refusal is) in
@@ -274,7 +301,7 @@ module _ {Serves : World → Type 0} (trees : Trees) (r : Reads trees Serves) wh
       let l = bind_ok (logged_in r.world 0) (λ _. ok (λ limits w. close_outcome w.descriptors 0 fd)) x.0 x.1 in
       let f : close_outcome r.world.descriptors 0 fd ≡ Ok t.outcome = ap (λ (g : Ready). g limits_written r.world) (same_ok _ _ l.2) ∙ x.2 in
       let d = bind_ok (descriptor_at r.world.descriptors 0 fd) (λ _. ok (asks (Closes fd) answer.Done)) t.outcome f in
-      reads_on t.outcome (Closes fd) answer.Done t.next (sym (same_ok _ _ d.2)) (λ n. refl) refl refl t.comes t.serves
+      runs_on t.outcome (Closes fd) answer.Done t.next (sym (same_ok _ _ d.2)) (λ n. refl) refl refl t.comes t.serves
 
   -- what is opened is what the path leads to
   file_is : (found : Found) (o : Object) (at : Home × ℕ) → file_of found o ≡ Ok at → o ≡ Node at.0 at.1
@@ -303,46 +330,42 @@ module _ {Serves : World → Type 0} (trees : Trees) (r : Reads trees Serves) wh
       opening_there path s fd found o (leads_to path names s.cred found spelled is leads) e
 
   -- what was opened is read from its start
-  opened_reads : {Next : World → Type 0} (o : Outcome) (fd : ℕ) (home : Home) (number : ℕ) (told : Reply) (next : World) (content : List ℕ) → o ≡ asks (Opens fd home number to_read) told
+  opened_reads : {Next : World → Type 0} (o : Outcome) (fd : ℕ) (home : Home) (number : ℕ) (told : Reply) (next : World) (content : List ℕ) → HasNoneOpen r.world → o ≡ asks (Opens fd home number to_read) told
       → Comes limits_written r.world 0 o next → Next next → content ≡ bytes_at trees (Node home number) → ReadsFile trees fd content 0 Next
-  unfolding reads_on
-  opened_reads o fd home number told next content e comes serves has =
-      let caller = Opens fd home number to_read in
-      let made = asked trees r.are_found r.world r.same o caller told next e (λ n. refl) refl comes in
-      let got : map.get (with_caller r.world 0 caller).descriptors (0, fd) ≡ Some (descriptor_for to_read home number) =
-      get_inserted descriptors_total r.world.descriptors (0, fd) (descriptor_for to_read home number) in
+  opened_reads o fd home number told next content none e comes serves has =
+      let on = runs_on o (Opens fd home number to_read) told next e (λ n. refl) refl refl comes serves in
+      let d = descriptor_for to_read home number in
       record {
-        reads = reads_on o caller told next e (λ n. refl) refl refl comes serves;
+        runs = on.runs;
         home = home;
         number = number;
-        is_open = ap (λ (w : World). map.get w.descriptors (0, fd)) made ∙ got;
+        is_open = ap (λ (table : Descriptors). map.get table (0, fd)) on.table_is ∙ get_inserted descriptors_total r.world.descriptors (0, fd) d;
+        alone = λ other apart. ap (λ (table : Descriptors). map.get table (0, other)) on.table_is ∙ beside r.world.descriptors fd other d apart ∙ none other;
         content_is = has;
       }
 
   -- what is read moves the offset on
-  moved_reads : {Next : World → Type 0} (o : Outcome) (fd : ℕ) (home : Home) (number offset to : ℕ) (told : Reply) (next : World) (content : List ℕ)
+  moved_reads : {Next : World → Type 0} (o : Outcome) (fd : ℕ) (home : Home) (number offset to : ℕ) (told : Reply) (next : World) (content : List ℕ) → HasNoneBeside r.world fd
       → map.get r.world.descriptors (0, fd) ≡ Some (at_offset offset (descriptor_for to_read home number)) → o ≡ asks (Moves fd to) told → Comes limits_written r.world 0 o next → Next next
       → content ≡ bytes_at trees (Node home number) → ReadsFile trees fd content to Next
-  unfolding reads_on
-  moved_reads o fd home number offset to told next content at e comes serves has =
-      let caller = Moves fd to in
-      let made = asked trees r.are_found r.world r.same o caller told next e (λ n. refl) refl comes in
+  moved_reads o fd home number offset to told next content alone at e comes serves has =
+      let on = runs_on o (Moves fd to) told next e (λ n. refl) refl refl comes serves in
       let d : Descriptor = at_offset to (descriptor_for to_read home number) in
       let moved : moved_to r.world.descriptors 0 fd to ≡ opened r.world.descriptors 0 fd d = ap (λ (o : Option Descriptor). moved_if r.world.descriptors 0 fd to o) at in
-      let got : map.get (with_caller r.world 0 caller).descriptors (0, fd) ≡ Some d =
-      ap (λ (table : Descriptors). map.get table (0, fd)) moved ∙ get_inserted descriptors_total r.world.descriptors (0, fd) d in
+      let table : on.runs.world.descriptors ≡ opened r.world.descriptors 0 fd d = on.table_is ∙ moved in
       record {
-        reads = reads_on o caller told next e (λ n. refl) refl refl comes serves;
+        runs = on.runs;
         home = home;
         number = number;
-        is_open = ap (λ (w : World). map.get w.descriptors (0, fd)) made ∙ got;
+        is_open = ap (λ (t : Descriptors). map.get t (0, fd)) table ∙ get_inserted descriptors_total r.world.descriptors (0, fd) d;
+        alone = λ other apart. ap (λ (t : Descriptors). map.get t (0, other)) table ∙ beside r.world.descriptors fd other d apart ∙ alone other apart;
         content_is = has;
       }
 
-  pub open_told : {Next : World → Type 0} (path : List ℕ) (reply : Reply) (fd : ℕ) → IsStepOf r.world 0 (call.Open path to_read 0) reply Next → reply ≡ answer.Number fd
+  pub open_told : {Next : World → Type 0} (path : List ℕ) (reply : Reply) (fd : ℕ) → HasNoneOpen r.world → IsStepOf r.world 0 (call.Open path to_read 0) reply Next → reply ≡ answer.Number fd
       → (found : Found) × LeadsTo trees path found × ReadsFile trees fd (bytes_at trees found.object) 0 Next
   unfolding open_outcome
-  open_told {Next} path reply fd step is =
+  open_told {Next} path reply fd none step is =
       let t = is_told r.world (call.Open path to_read 0) reply Next step (ap is_refusal is) in
       let all = seen limits_written r.world in
       let d = by_reader path (λ s names limits w. open_outcome limits (seen limits w) w.descriptors 0 s names to_read (mode_from_bits 0)) t.outcome t.decided in
@@ -351,14 +374,14 @@ module _ {Serves : World → Type 0} (trees : Trees) (r : Reads trees Serves) wh
       let x = opening_found path d.names d.caller n.0 w.0 (found_at all.trees w.0) t.outcome d.spelled d.is_reader w.1 refl w.2 in
       let said : answer.Number fd ≡ answer.Number x.fd = sym is ∙ t.told ∙ ap (λ (o : Outcome). o.told) x.is in
       let same : fd ≡ x.fd = cc in
-      let file = opened_reads t.outcome x.fd x.home x.number _ t.next (bytes_at trees x.found.object) x.is t.comes t.serves (ap (bytes_at trees) x.object) in
+      let file = opened_reads t.outcome x.fd x.home x.number _ t.next (bytes_at trees x.found.object) none x.is t.comes t.serves (ap (bytes_at trees) x.object) in
       (x.found, x.leads, subst (λ (n : ℕ). ReadsFile trees n (bytes_at trees x.found.object) 0 Next) (sym same) file)
 
-  pub read_told : {Next : World → Type 0} (fd count offset : ℕ) (home : Home) (number : ℕ) (content : List ℕ) (reply : Reply) (bytes : List ℕ)
+  pub read_told : {Next : World → Type 0} (fd count offset : ℕ) (home : Home) (number : ℕ) (content : List ℕ) (reply : Reply) (bytes : List ℕ) → HasNoneBeside r.world fd
       → map.get r.world.descriptors (0, fd) ≡ Some (at_offset offset (descriptor_for to_read home number)) → content ≡ bytes_at trees (Node home number)
       → IsStepOf r.world 0 (call.Read fd count) reply Next → reply ≡ answer.Content bytes → (bytes ≡ take count (drop offset content)) × ReadsFile trees fd content (offset + length bytes) Next
   unfolding read_outcome
-  read_told {Next} fd count offset home number content reply bytes at has step is =
+  read_told {Next} fd count offset home number content reply bytes alone at has step is =
       let t = is_told r.world (call.Read fd count) reply Next step (ap is_refusal is) in
       let x = bind_ok (logged_in r.world 0 >>= (λ _. count_argument count >>= (λ many. ok (λ limits w. read_outcome w 0 fd many)))) (outcome_of limits_written r.world) t.outcome t.decided in
       let l = bind_ok (logged_in r.world 0) (λ _. count_argument count >>= (λ many. ok (λ limits w. read_outcome w 0 fd many))) x.0 x.1 in
@@ -371,7 +394,7 @@ module _ {Serves : World → Type 0} (trees : Trees) (r : Reads trees Serves) wh
       let e : t.outcome ≡ reads fd d all = sym (same_ok _ _ (ap (λ (x : Result Descriptor Refusal). x >>= (λ (d : Descriptor). ok (reads fd d (take m.0 (drop d.offset (open_bytes r.world d)))))) (sym readable) ∙ f)) in
       let said : answer.Content bytes ≡ answer.Content all = sym is ∙ t.told ∙ ap (λ (o : Outcome). o.told) e in
       let same : bytes ≡ all = cc in
-      let moved = moved_reads t.outcome fd home number offset (offset + length all) _ t.next content at e t.comes t.serves has in (
+      let moved = moved_reads t.outcome fd home number offset (offset + length all) _ t.next content alone at e t.comes t.serves has in (
         same ∙ ap (λ (n : ℕ). take n (drop offset (open_bytes r.world d))) many ∙ ap (λ (s : List ℕ). take count (drop offset s)) (ap (λ (t : Trees). bytes_at t (Node home number)) r.same ∙ sym has),
         subst (λ (s : List ℕ). ReadsFile trees fd content (offset + length s) Next) (sym same) moved,
       )
@@ -379,6 +402,14 @@ module _ {Serves : World → Type 0} (trees : Trees) (r : Reads trees Serves) wh
       counted : (b : Bool) {n : ℕ} → cond b (ok count) (Err (plain Einval)) ≡ Ok n → count ≡ n
       counted true e = same_ok _ _ e
       counted false e = cc
+
+-- where no file is open, or one that is closed, none is after it
+pub reads_on : {Serves Next : World → Type 0} (trees : Trees) (r : Reads trees Serves) → RunsOn trees r.runs.world.descriptors Next → Reads trees Next
+reads_on trees r on = record { runs = on.runs; none_open = λ fd. ap (λ (table : Descriptors). map.get table (0, fd)) on.table_is ∙ r.none_open fd }
+
+pub closed_reads : {Serves Next : World → Type 0} (trees : Trees) (fd : ℕ) (content : List ℕ) (offset : ℕ) (f : ReadsFile trees fd content offset Serves) → RunsOn trees (closed f.runs.world.descriptors 0 fd) Next → Reads trees Next
+closed_reads trees fd content offset f on =
+    record { runs = on.runs; none_open = λ other. ap (λ (table : Descriptors). map.get table (0, other)) on.table_is ∙ none_left f.runs.world.descriptors fd f.alone other }
 
 -- ---- login
 
@@ -399,12 +430,17 @@ login_told {Next} world reply found step is =
     let made = asked (trees_of world) (found_trees world found) world refl t.outcome (LogsIn s) answer.Done t.next (sym (same_ok _ _ f)) (λ n. refl) refl t.comes in
     let some : 0 < length world.sessions = omega (arith, found.whole.count) in
     let seat : logged_in (with_caller world 0 (LogsIn s)) 0 ≡ Ok s = ap (λ (o : Option (Option Session)). ok_or (option_flatten o) (plain Ebadf)) (seated world.sessions s some) in
+    let none : (fd : ℕ) → map.get t.next.descriptors (0, fd) ≡ None =
+    λ fd. ap (λ (w : World). map.get w.descriptors (0, fd)) made ∙ ap (λ (table : Descriptors). map.get table (0, fd)) found.settled.closed ∙ map.get-empty descriptor_cmp (0, fd) in
     record {
-      are_found = found_trees world found;
-      world = t.next;
-      serves = t.serves;
-      same = ap trees_of made;
-      session = s;
-      seat = ap (λ (w : World). logged_in w 0) made ∙ seat;
-      is_reader = refl;
+      runs = record {
+        are_found = found_trees world found;
+        world = t.next;
+        serves = t.serves;
+        same = ap trees_of made;
+        session = s;
+        seat = ap (λ (w : World). logged_in w 0) made ∙ seat;
+        is_reader = refl;
+      };
+      none_open = none;
     }

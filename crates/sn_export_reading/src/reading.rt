@@ -84,7 +84,8 @@ fn fault_of(reply: &Reply) -> ExportFault
 /// call here, but that [`status_of`] tells `Path` where it was refused for another reason.
 ///
 /// Proved, also of `status_of`, `names_of`, `file_acls`, `directory_acls`, `open`, `read` and `close`: Over a world that a mount may find, what
-/// is read is what the path leads user 0 to in its trees, and these are the same after it.
+/// is read is what the path leads user 0 to in its trees, and these are the same after it. User 0 has a file open from `open` to `close`, and
+/// none before and after them.
 /// Proved, also of the same: `Stopped` is told only where the last call was refused since the device failed or the mount has stopped, and `Path`
 /// by none but `status_of`.
 pub fn log_in<C: Calls>(alloc: Global, calls: &mut C) -> Result<(), ExportFault>
@@ -267,7 +268,7 @@ pub fn read<C: Calls>(calls: &mut C, fd: u32, count: u64) -> Result<FileData, Ex
 
 /// Closes a file. The faults are those of [`log_in`], though the machine refuses no close of an open file.
 pub fn close<C: Calls>(calls: &mut C, fd: u32) -> Result<(), ExportFault>
-    ensures closed { (trees : Trees) → Reads trees (C.serves calls.old) → OnOk result (Reads trees (C.serves calls.new)) }
+    ensures closed { (trees : Trees) (content : List ℕ) (offset : ℕ) → ReadsFile trees fd content offset (C.serves calls.old) → OnOk result (Reads trees (C.serves calls.new)) }
     ensures told { Goes (C.last calls.old) → Tells (C.last calls.new) result }
     ensures path { IfErr result (λ fault. is_of_path fault ≡ false) }
 {

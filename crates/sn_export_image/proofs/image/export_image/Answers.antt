@@ -1,5 +1,5 @@
 use Rattle.std.proofs.Common.{◌≡◌, sym, subst}
-use Rattle.std.specs.Prelude.{IfErr, OnOk, Result}
+use Rattle.std.specs.Prelude.{IfErr, IsErr, OnOk, Result}
 use Rattle.sn_device.specs.Disk.{reads}
 use Rattle.sn_model.specs.World.{trees_of}
 use Rattle.sn_serving.specs.Served.{Served}
@@ -12,7 +12,7 @@ use Rattle.sn_export_walk.proofs.Ends.{begins_nothing}
 use Rattle.sn_export_image.specs.Worlds.{HasTreesOf, RunsOver}
 use Rattle.sn_export_image.specs.declared.fault.ImageFault.{ImageFault}
 use Rattle.sn_export_image.specs.declared.fault.ImageFault.TheVariants as fault
-use Rattle.sn_export_image.proofs.ServingLemmas.{keeps_trees, on_written, untold}
+use Rattle.sn_export_image.proofs.ServingLemmas.{keeps_trees, on_written, refused, untold}
 use Rattle.sn_export_image.proofs.image.export_image.Goals as goal
 
 pub returns-in-Err-clause-front : goal.returns-in-Err-clause-front
@@ -48,3 +48,14 @@ returns-clause-path g c = λ told world image.
     (let m = c.in-Ok.ensures.mounted told world image in
     subst (λ (r : Result (Unit {0}) ImageFault). IfErr r (λ why. why ≡ fault.Export export.Path → IsUntold (trees_of world) c.args.path.now)) (sym c.of_end.ensures)
     (untold _ c.finish-end.result.0 c.write_tree-written.result (c.write_tree-written.ensures.path world (told, m.is_in) m.found)))
+
+pub returns-clause-refused : goal.returns-clause-refused
+returns-clause-refused g c = λ told world image none.
+    (let m = c.in-Ok.ensures.mounted told world image in
+    subst (λ (r : Result (Unit {0}) ImageFault). IsErr r) (sym c.of_end.ensures)
+    (refused c.finish-end.result.0 c.write_tree-written.result (c.write_tree-written.ensures.refused world (told, m.is_in) m.found none)))
+
+pub returns-clause-nothing : goal.returns-clause-nothing
+returns-clause-nothing g c = λ told world image none.
+    (let m = c.in-Ok.ensures.mounted told world image in
+    c.write_tree-written.ensures.nothing world (told, m.is_in) m.found none)

@@ -1,5 +1,5 @@
 use Rattle.sn_output.proofs.OutputLemmas.{front_kept}
-use Rattle.std.proofs.Common.{refl}
+use Rattle.std.proofs.Common.{◌≡◌, true, false, refl}
 use Rattle.sn_export_reading.proofs.Faults.{err_tells, error_as, never_path}
 use Rattle.sn_export_image.proofs.StreamLemmas.{begins_kept}
 use Rattle.sn_export_image.proofs.image.write_tree.Goals as goal
@@ -30,3 +30,12 @@ returns-in-Err-clause-told g c = λ goes. c.in_ok-export.ensures.told goes
 
 pub returns-in-Err-clause-path : goal.returns-in-Err-clause-path
 returns-in-Err-clause-path g c = λ world serves found. never_path _ refl
+
+pub returns-in-Ok-clause-refused : goal.returns-in-Ok-clause-refused
+returns-in-Ok-clause-refused g c = λ world serves found none. (let never : false ≡ true = c.in_ok-export.ensures.refused world serves found none in cc)
+
+pub returns-in-Ok-clause-nothing : goal.returns-in-Ok-clause-nothing
+returns-in-Ok-clause-nothing g c = λ world serves found none. (let never : false ≡ true = c.in_ok-export.ensures.refused world serves found none in cc)
+
+pub returns-in-Err-clause-nothing : goal.returns-in-Err-clause-nothing
+returns-in-Err-clause-nothing g c = λ world serves found none. (let never : false ≡ true = c.in_ok-export.ensures.refused world serves found none in cc)

@@ -2,11 +2,13 @@ use Rattle.sn_export_reading.specs.Faults.{refusal_in}
 use Rattle.sn_export_reading.proofs.Faults.{granted, told_of, never_of_path}
 use Rattle.std.proofs.Common.{◌≡◌, ap}
 use Rattle.sn_model.specs.declared.reply.Reply.TheVariants as answer
-use Rattle.sn_export_reading.proofs.Machine.{close_told}
+use Rattle.sn_export_reading.proofs.Machine.{close_told, closed_reads}
 use Rattle.sn_export_reading.proofs.reading.close.Goals as goal
 
 pub returns-in-Done-clause-closed : goal.returns-in-Done-clause-closed
-returns-in-Done-clause-closed g c = λ trees r. (let is : c.call.result ≡ answer.Done = c.in-Done.is in close_told trees r c.args.fd _ (c.call.ensures.step r.world r.serves) is)
+returns-in-Done-clause-closed g c = λ trees content offset f.
+    (let is : c.call.result ≡ answer.Done = c.in-Done.is in
+    closed_reads trees c.args.fd content offset f (close_told trees f.runs c.args.fd _ (c.call.ensures.step f.runs.world f.runs.serves) is))
 
 pub returns-in-Done-clause-told : goal.returns-in-Done-clause-told
 returns-in-Done-clause-told g c = λ goes. (let is : c.call.result ≡ answer.Done = c.in-Done.is in granted (g.C.Calls.last c.args.calls.now) _ c.call.result c.call.ensures.last goes (ap refusal_in is))

@@ -4,14 +4,15 @@ use Rattle.std.proofs.Common.{◌≡◌, List, ℕ, subst, ap, inr}
 use Rattle.sn_model.specs.declared.call.Call.TheVariants as call
 use Rattle.sn_model.specs.declared.reply.Reply.TheVariants as answer
 use Rattle.sn_export_reading.specs.Serving.{IsStepOf}
-use Rattle.sn_export_reading.proofs.Machine.{readdir_told}
+use Rattle.sn_export_reading.proofs.Machine.{readdir_told, reads_on}
 use Rattle.sn_export_reading.proofs.reading.names_of.Goals as goal
 
 pub returns-in-Names-clause-names : goal.returns-in-Names-clause-names
 returns-in-Names-clause-names g c = λ trees r.
     (let is : c.call.result ≡ answer.Names c.in-Names.names = c.in-Names.is in
-    let step = subst (λ (p : List ℕ). IsStepOf r.world 0 (call.Readdir p) c.call.result (g.C.Calls.serves c.call.new.self)) c.in_ok-new.ensures (c.call.ensures.step r.world r.serves) in
-    readdir_told trees r c.args.path.now _ _ step is)
+    let step = subst (λ (p : List ℕ). IsStepOf r.runs.world 0 (call.Readdir p) c.call.result (g.C.Calls.serves c.call.new.self)) c.in_ok-new.ensures (c.call.ensures.step r.runs.world r.runs.serves) in
+    let k = readdir_told trees r.runs c.args.path.now _ _ step is in
+    (k.0, k.1, k.2, reads_on trees r k.3))
 
 pub returns-in_err-new-clause-told : goal.returns-in_err-new-clause-told
 returns-in_err-new-clause-told g c = λ goes. err_tells _ _ c.from_residual.result c.from_residual.ensures.1 (inr goes)

@@ -11,8 +11,8 @@ pub returns-in-Ok-clause-file : goal.returns-in-Ok-clause-file
 returns-in-Ok-clause-file g c = λ trees r.
     (let same : c.in-Number.fd ≡ c.in-Ok.fd = sym c.in-Ok.ensures.1 in
     let is : c.call.result ≡ answer.Number c.in-Ok.fd = c.in-Number.is ∙ ap (λ (n : ℕ). answer.Number n) same in
-    let step = subst (λ (p : List ℕ). IsStepOf r.world 0 (call.Open p to_read 0) c.call.result (g.C.Calls.serves c.call.new.self)) c.in_ok-new.ensures (c.call.ensures.step r.world r.serves) in
-    open_told trees r c.args.path.now _ _ step is)
+    let step = subst (λ (p : List ℕ). IsStepOf r.runs.world 0 (call.Open p to_read 0) c.call.result (g.C.Calls.serves c.call.new.self)) c.in_ok-new.ensures (c.call.ensures.step r.runs.world r.runs.serves) in
+    open_told trees r.runs c.args.path.now _ _ r.none_open step is)
 
 pub returns-in_err-new-clause-told : goal.returns-in_err-new-clause-told
 returns-in_err-new-clause-told g c = λ goes. err_tells _ _ c.from_residual.result c.from_residual.ensures.1 (inr goes)

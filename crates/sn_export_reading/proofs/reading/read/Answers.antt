@@ -8,7 +8,7 @@ use Rattle.sn_export_reading.proofs.reading.read.Goals as goal
 pub returns-in-Content-clause-bytes : goal.returns-in-Content-clause-bytes
 returns-in-Content-clause-bytes g c = λ trees content offset f.
     (let is : c.call.result ≡ answer.Content c.in-Content.bytes = c.in-Content.is in
-    read_told trees f.reads c.args.fd c.args.count offset f.home f.number content _ _ f.is_open f.content_is (c.call.ensures.step f.reads.world f.reads.serves) is)
+    read_told trees f.runs c.args.fd c.args.count offset f.home f.number content _ _ f.alone f.is_open f.content_is (c.call.ensures.step f.runs.world f.runs.serves) is)
 
 pub returns-in-Content-clause-told : goal.returns-in-Content-clause-told
 returns-in-Content-clause-told g c = λ goes. (let is : c.call.result ≡ answer.Content c.in-Content.bytes = c.in-Content.is in granted (g.C.Calls.last c.args.calls.now) _ c.call.result c.call.ensures.last goes (ap refusal_in is))

@@ -6,14 +6,15 @@ use Rattle.std.proofs.Common.{◌≡◌, List, ℕ, subst, ◌∙◌, ap, inr, r
 use Rattle.sn_model.specs.declared.call.Call.TheVariants as call
 use Rattle.sn_model.specs.declared.reply.Reply.TheVariants as answer
 use Rattle.sn_export_reading.specs.Serving.{IsStepOf}
-use Rattle.sn_export_reading.proofs.Machine.{stat_told, stat_nowhere}
+use Rattle.sn_export_reading.proofs.Machine.{reads_on, stat_told, stat_nowhere}
 use Rattle.sn_export_reading.proofs.reading.status_of.Goals as goal
 
 pub returns-in-Status-clause-status : goal.returns-in-Status-clause-status
 returns-in-Status-clause-status g c = λ trees r.
     (let is : c.call.result ≡ answer.Status c.in-Status.status = c.in-Status.is in
-    let step = subst (λ (p : List ℕ). IsStepOf r.world 0 (call.Stat p) c.call.result (g.C.Calls.serves c.call.new.self)) c.in_ok-new.ensures (c.call.ensures.step r.world r.serves) in
-    stat_told trees r c.args.path.now _ _ step is)
+    let step = subst (λ (p : List ℕ). IsStepOf r.runs.world 0 (call.Stat p) c.call.result (g.C.Calls.serves c.call.new.self)) c.in_ok-new.ensures (c.call.ensures.step r.runs.world r.runs.serves) in
+    let k = stat_told trees r.runs c.args.path.now _ _ step is in
+    (k.0, reads_on trees r k.1))
 
 pub returns-in_err-new-clause-told : goal.returns-in_err-new-clause-told
 returns-in_err-new-clause-told g c = λ goes. err_tells _ _ c.from_residual.result c.from_residual.ensures.1 (inr goes)
@@ -29,8 +30,8 @@ returns-in_err-new-clause-nowhere g c = λ trees r. error_as _ _ c.from_residual
 
 pub returns-clause-nowhere : goal.returns-clause-nowhere
 returns-clause-nowhere g c = λ trees r e.
-    (let step = subst (λ (p : List ℕ). IsStepOf r.world 0 (call.Stat p) c.call.result (g.C.Calls.serves c.call.new.self)) c.in_ok-new.ensures (c.call.ensures.step r.world r.serves) in
-    stat_nowhere trees r c.args.path.now c.call.result step (lookup_is_own (refusal_in c.call.result) (sym c.fault_by.ensures ∙ e)))
+    (let step = subst (λ (p : List ℕ). IsStepOf r.runs.world 0 (call.Stat p) c.call.result (g.C.Calls.serves c.call.new.self)) c.in_ok-new.ensures (c.call.ensures.step r.runs.world r.runs.serves) in
+    stat_nowhere trees r.runs c.args.path.now c.call.result step (lookup_is_own (refusal_in c.call.result) (sym c.fault_by.ensures ∙ e)))
 
 pub returns-in-Status-clause-last : goal.returns-in-Status-clause-last
 returns-in-Status-clause-last g c = λ goes. (let is : c.call.result ≡ answer.Status c.in-Status.status = c.in-Status.is in subst (λ (reply : Reply). g.C.Calls.last c.call.new.self (Some reply)) is (c.call.ensures.last goes.0 goes.1))

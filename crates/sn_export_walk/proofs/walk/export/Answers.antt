@@ -79,3 +79,15 @@ returns-in_err-walk-clause-path g c = λ world serves found.
 
 pub returns-clause-path : goal.returns-clause-path
 returns-clause-path g c = λ world serves found. all_never _ c.put_end.result (all_no_path c.put_end.result (all_own c.put_end.result c.put_end.ensures.fault))
+
+pub returns-in_err-vec-clause-nothing : goal.returns-in_err-vec-clause-nothing
+returns-in_err-vec-clause-nothing g c = λ world serves found none. absurd (c.in_ok-paths.ensures.tree world serves found none)
+
+pub returns-in_err-walk-clause-nothing : goal.returns-in_err-walk-clause-nothing
+returns-in_err-walk-clause-nothing g c = λ world serves found none. absurd (c.in_ok-paths.ensures.tree world serves found none)
+
+pub returns-clause-refused : goal.returns-clause-refused
+returns-clause-refused g c = λ world serves found none. absurd (c.in_ok-paths.ensures.tree world serves found none)
+
+pub returns-clause-nothing : goal.returns-clause-nothing
+returns-clause-nothing g c = λ world serves found none. absurd (c.in_ok-paths.ensures.tree world serves found none)

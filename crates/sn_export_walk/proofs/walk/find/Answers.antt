@@ -7,6 +7,7 @@ use Rattle.sn_export_reading.proofs.Leads.{leads_once}
 use Rattle.sn_model.specs.World.{trees_of}
 use Rattle.sn_export_walk.proofs.Archived.{begins_at}
 use Rattle.sn_export_walk.proofs.Placed.{if_ok_pair, if_ok_two}
+use Rattle.sn_export_writing.proofs.Files.{on_ok_always}
 use Rattle.sn_export_walk.proofs.walk.find.Goals as goal
 
 pub returns-clause-begins : goal.returns-clause-begins
@@ -41,3 +42,9 @@ returns-then-is_of_snapshots-clause-nowhere g c = λ world serves found e at lea
     (let s = c.in_ok-status.ensures.status (trees_of world) (c.in_ok-log_in.ensures.session world serves found) in
     let one : c.in_ok-status.status.number ≡ 1 = grind arith in
     ap (λ (f : Found). number_of f.object) (leads_once (trees_of world) c.args.path.now at s.0.0 leads s.0.1) ∙ sym (ap (λ (x : FileStatus). x.number) s.0.2) ∙ one)
+
+pub returns-clause-tree : goal.returns-clause-tree
+returns-clause-tree g c = λ world serves found. on_ok_always c.start.result (λ none.
+    (let s = c.in_ok-status.ensures.status (trees_of world) (c.in_ok-log_in.ensures.session world serves found) in
+    let one : c.in_ok-status.status.number ≡ 1 = ap (λ (x : FileStatus). x.number) s.0.2 ∙ none s.0.0 s.0.1 in
+    grind arith))

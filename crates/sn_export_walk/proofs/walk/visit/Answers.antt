@@ -75,7 +75,7 @@ returns-in_ok-acls-in-File-clause-visited g c = λ trees home tree seen pending 
     let placed = subst (λ (p : List ℕ). IsAt trees at p c.as_slice-told.result.now c.in_ok-status.status) (sym c.as_slice-image.ensures.value) (subst (λ (p : List ℕ). IsAt trees at c.args.paths.image.items p c.in_ok-status.status) (sym c.as_slice-told.ensures.value) a.2) in
     let seen_before = keeps.met c.in_ok-status.status.number c.in_ok-was_met.was_met (ap (λ (m : List Bool). slice_get m c.in_ok-status.status.number) (sym c.as_mut_slice.ensures.value) ∙ c.in_ok-was_met.ensures.was) in
     let fresh : IsSeen c.in_ok-was_met.was_met visit.number seen = subst (λ (n : ℕ). IsSeen c.in_ok-was_met.was_met n seen) (sym number) seen_before in
-    let empty = none_in_it trees at c.args.paths.image.items c.args.paths.told.items c.in_ok-status.status a.2 kind s.1.are_found in
+    let empty = none_in_it trees at c.args.paths.image.items c.args.paths.told.items c.in_ok-status.status a.2 kind s.1.runs.are_found in
     on_ok_weaker c.put_name.result (λ w. (
       wrote_at tree seen visit a.1 _ _ _ _ a.2.node_is w.0,
       subst (λ (vs : List Visit). AreLevels trees home tree c.args.levels.now.items (vs ++ pending)) (sym empty) levels,

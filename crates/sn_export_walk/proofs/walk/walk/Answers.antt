@@ -39,7 +39,7 @@ returns-in_err-visit-2-clause-front g c = let w = c.loop-turn.invariant.0 in beg
 pub returns-in_err-visit-2-clause-begun : goal.returns-in_err-visit-2-clause-begun
 returns-in_err-visit-2-clause-begun g c = λ trees home tree first r here.
     (let v = c.loop-turn.invariant.2 trees home tree first r here in
-    let n = subst (λ (o : Option Paths). IsNext trees home tree o v.1 c.enter_next.new.levels.items) c.in-Some.is (c.in_ok-next.ensures.next trees home tree v.1 v.5.are_found v.3) in
+    let n = subst (λ (o : Option Paths). IsNext trees home tree o v.1 c.enter_next.new.levels.items) c.in-Some.is (c.in_ok-next.ensures.next trees home tree v.1 v.5.runs.are_found v.3) in
     let h = subst (λ (vs : List Visit). HasVisited tree first v.0 vs c.loop-turn.written.past (g.W.Write.contents c.args.out.now) (g.W.Write.contents c.loop-turn.out)) n.2 v.2 in
     visit_begun tree first v.0 n.0 n.1 c.loop-turn.written.past (g.W.Write.contents c.args.out.now) (g.W.Write.contents c.loop-turn.out) (g.W.Write.contents c.visit-in-loop-turn.new.out) h (c.in_err-visit-2.ensures.begun trees home tree v.0 n.0 v.5 n.3 v.4))
 
@@ -50,7 +50,7 @@ loop-turn-preserved g c =
       c.in_ok-visit-2.ensures.past,
       λ trees home tree first r here.
           (let v = c.loop-turn.invariant.2 trees home tree first r here in
-          let n = subst (λ (o : Option Paths). IsNext trees home tree o v.1 c.enter_next.new.levels.items) c.in-Some.is (c.in_ok-next.ensures.next trees home tree v.1 v.5.are_found v.3) in
+          let n = subst (λ (o : Option Paths). IsNext trees home tree o v.1 c.enter_next.new.levels.items) c.in-Some.is (c.in_ok-next.ensures.next trees home tree v.1 v.5.runs.are_found v.3) in
           let h = subst (λ (vs : List Visit). HasVisited tree first v.0 vs c.loop-turn.written.past (g.W.Write.contents c.args.out.now) (g.W.Write.contents c.loop-turn.out)) n.2 v.2 in
           let k = c.in_ok-visit-2.ensures.visited trees home tree v.0 n.1 n.0 v.5 n.3 n.4 v.4 in
           (v.0 ++ n.0 ∷ [], _, visited_more tree first v.0 n.0 n.1 c.loop-turn.written.past c.visit-in-loop-turn.new.written.past (g.W.Write.contents c.args.out.now) (g.W.Write.contents c.loop-turn.out) (g.W.Write.contents c.visit-in-loop-turn.new.out) h k.0, k.1, k.2, k.3)),
@@ -69,7 +69,7 @@ returns-in_default-clause-front g c = has_begun _ _ [] [] _ _ c.loop-turn.invari
 pub returns-in_default-clause-visited : goal.returns-in_default-clause-visited
 returns-in_default-clause-visited g c = λ trees home tree first r here.
     (let v = c.loop-turn.invariant.2 trees home tree first r here in
-    let n = subst (λ (o : Option Paths). IsNext trees home tree o v.1 c.enter_next.new.levels.items) c.in_default.is (c.in_ok-next.ensures.next trees home tree v.1 v.5.are_found v.3) in
+    let n = subst (λ (o : Option Paths). IsNext trees home tree o v.1 c.enter_next.new.levels.items) c.in_default.is (c.in_ok-next.ensures.next trees home tree v.1 v.5.runs.are_found v.3) in
     (visited_all tree first v.0 v.1 c.loop-turn.written.past (g.W.Write.contents c.args.out.now) (g.W.Write.contents c.loop-turn.out) n v.2, v.5))
 
 pub returns-in_default-clause-begun : goal.returns-in_default-clause-begun
@@ -99,7 +99,7 @@ returns-in_err-next-clause-nowhere g c = λ trees home tree first r here. error_
 pub returns-in_err-visit-2-clause-nowhere : goal.returns-in_err-visit-2-clause-nowhere
 returns-in_err-visit-2-clause-nowhere g c = λ trees home tree first r here.
     (let v = c.loop-turn.invariant.2 trees home tree first r here in
-    let n = subst (λ (o : Option Paths). IsNext trees home tree o v.1 c.enter_next.new.levels.items) c.in-Some.is (c.in_ok-next.ensures.next trees home tree v.1 v.5.are_found v.3) in
+    let n = subst (λ (o : Option Paths). IsNext trees home tree o v.1 c.enter_next.new.levels.items) c.in-Some.is (c.in_ok-next.ensures.next trees home tree v.1 v.5.runs.are_found v.3) in
     error_as _ _ c.from_residual-in_err-visit-2.result c.from_residual-in_err-visit-2.ensures.1 (λ e. inr (_, n.5, c.in_err-visit-2.ensures.nowhere trees v.5 e)))
 
 pub returns-clause-nowhere : goal.returns-clause-nowhere
