@@ -5,9 +5,10 @@ use crate::words::{stamps_text, time_of};
 use anyhow::{Context, Result, bail, ensure};
 use hex::encode as digits_of;
 use sn_fuse::Time;
-use sn_times::{Mark, Times};
+use sn_times::{Mark, Times, TreeName};
 use sn_times_file::{Unwritable, Writer, keep, restore};
 use std::alloc::Global;
+use std::str;
 
 /// Bytes of a root, at most.
 const ROOT_MAX: usize = 4_096;
@@ -49,8 +50,10 @@ impl<'a> Step<'a> {
     pub fn answer(self, session: &mut Session) -> Result<String> {
         match self.word(0)? {
             "times" => stamps_text(self.alloc, session.times.stamps(self.number(1)?)),
+            "names" => self.names(&session.times),
             "file" => self.file(&session.times),
             "left" => self.leave(session),
+            "kept" => self.kept(&session.times),
             "mount" => self.mount(session),
             _ => {
                 session.times.mark(self.time(1)?, self.mark()?);
@@ -87,7 +90,29 @@ impl<'a> Step<'a> {
         Ok(String::from_str(self.alloc, word)?)
     }
 
-    fn mark(self) -> Result<Mark> {
+    fn name(self, at: usize) -> Result<TreeName<'a>> {
+        Ok(TreeName::new(self.word(at)?.as_bytes()))
+    }
+
+    fn mark(self) -> Result<Mark<'a>> {
+        Ok(match self.word(0)? {
+            "frozen" => Mark::Frozen {
+                home: self.number(2)?,
+                name: self.name(3)?,
+            },
+            "thawed" => Mark::Thawed {
+                name: self.name(2)?,
+            },
+            "met" => Mark::Met {
+                home: self.number(2)?,
+                name: self.name(3)?,
+            },
+            _ => self.object_mark()?,
+        })
+    }
+
+    /// The mark of an object.
+    fn object_mark(self) -> Result<Mark<'a>> {
         let number = self.number(2)?;
         Ok(match self.word(0)? {
             "made" => Mark::Made { number },
@@ -98,8 +123,6 @@ impl<'a> Step<'a> {
                 accessed: self.given(3)?,
                 modified: self.given(4)?,
             },
-            "frozen" => Mark::Frozen { home: number },
-            "thawed" => Mark::Thawed { home: number },
             verb => bail!("no such verb: {verb}"),
         })
     }
@@ -112,14 +135,45 @@ impl<'a> Step<'a> {
         Ok(root)
     }
 
+    /// The bytes that keep times for the next mount, `None` where they can't be kept.
+    fn bytes_kept(self, times: &Times) -> Result<Option<Vec<u8>>> {
+        match keep(self.alloc, self.root(1)?, times) {
+            Ok(bytes) => Ok(Some(bytes)),
+            Err(Unwritable::Memory) => bail!("no memory for the file"),
+            Err(_) => Ok(None),
+        }
+    }
+
     /// The mount ends well.
     fn leave(self, session: &mut Session) -> Result<String> {
-        match keep(self.alloc, self.root(1)?, &session.times) {
-            Ok(bytes) => session.file = bytes,
-            Err(Unwritable::Time) => return self.told("unwritable"),
-            Err(Unwritable::Memory) => bail!("no memory for the file"),
+        match self.bytes_kept(&session.times)? {
+            Some(bytes) => session.file = bytes,
+            None => return self.told("unwritable"),
         }
         self.told("-")
+    }
+
+    /// What a mount that ends well leaves, in hexadecimal.
+    fn kept(self, times: &Times) -> Result<String> {
+        match self.bytes_kept(times)? {
+            Some(bytes) => Ok(digits_of(self.alloc, bytes.as_slice())?),
+            None => self.told("unwritable"),
+        }
+    }
+
+    /// The names of the snapshots that are known.
+    fn names(self, times: &Times) -> Result<String> {
+        let mut text = String::new(self.alloc);
+        for name in times.names() {
+            if !text.is_empty() {
+                text.push(',')?;
+            }
+            text.push_str(str::from_utf8(name.as_slice())?)?;
+        }
+        if text.is_empty() {
+            return self.told("none");
+        }
+        Ok(text)
     }
 
     /// The next mount.
@@ -134,7 +188,7 @@ impl<'a> Step<'a> {
     fn file(self, times: &Times) -> Result<String> {
         let mut writer = Writer::new(self.alloc, self.root(1)?)?;
         for (home, tree) in times.trees() {
-            let name = self.name(*home)?;
+            let name = self.number_name(*home)?;
             ensure!(name.len() <= NAME_MAX, "the name is too long");
             writer = match writer.section(name.as_bytes(), tree) {
                 Ok(writer) => writer,
@@ -145,7 +199,7 @@ impl<'a> Step<'a> {
         Ok(digits_of(self.alloc, bytes.as_slice())?)
     }
 
-    fn name(self, home: u64) -> Result<String> {
+    fn number_name(self, home: u64) -> Result<String> {
         if home == 0 {
             return Ok(String::new(self.alloc));
         }
