@@ -13,7 +13,7 @@ returns-clause-live g c told =
     let change = c.args.change.now in
     let alike = c.prepare.ensures.alike in
     let before = subst (λ (o : Option PreparedLive). IsPrepared limits o (shown_of c.args.live.now (g.B.Below.shows c.charge.new.below)) change) c.in-Some.is (c.in_ok-prepared.ensures.prepared told) in
-    let here = subst (λ (b : Tree). CanBeMade limits c.in-Some.prepared (shown_of c.args.live.now b) change) (c.in-Ok.ensures.same told) before in
+    let here = subst (λ (b : Tree). CanBeMade limits c.in-Some.prepared (shown_of c.args.live.now b) change) (c.in-Ok.ensures.left.2 told) before in
     let can = subst (λ (t : Tree). CanBeMade limits c.in-Some.prepared t change) (sym (alike.shows below)) here in
     c.make_change.ensures.live limits below change c.requires.version (alike.live below (c.requires.live told)) can
 
@@ -24,7 +24,7 @@ returns-clause-tries g c told =
     let change = c.args.change.now in
     let alike = c.prepare.ensures.alike in
     let before = subst (λ (o : Option PreparedLive). IsPrepared limits o (shown_of c.args.live.now (g.B.Below.shows c.charge.new.below)) change) c.in-Some.is (c.in_ok-prepared.ensures.prepared told) in
-    let here = subst (λ (b : Tree). CanBeMade limits c.in-Some.prepared (shown_of c.args.live.now b) change) (c.in-Ok.ensures.same told) before in
+    let here = subst (λ (b : Tree). CanBeMade limits c.in-Some.prepared (shown_of c.args.live.now b) change) (c.in-Ok.ensures.left.2 told) before in
     let can = subst (λ (t : Tree). CanBeMade limits c.in-Some.prepared t change) (sym (alike.shows below)) here in
     same_change limits c.in-Ok.charge c.args.live.now c.prepare.new.self c.make_change.new.live below change (alike.shows below) c.prepare.ensures.changes (c.in-Ok.ensures.exact told)
     (c.make_change.ensures.made limits below change c.requires.version (alike.live below (c.requires.live told)) can)

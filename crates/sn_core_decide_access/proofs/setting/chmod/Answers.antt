@@ -1,4 +1,4 @@
-use Rattle.std.proofs.Common.{rules}
+use Rattle.std.proofs.Common.{rules, ◌∙◌}
 use Rattle.sn_model.specs.AccessCalls.{chmod_outcome}
 use Rattle.sn_core_decide_access.proofs.setting.chmod.Goals as goal
 

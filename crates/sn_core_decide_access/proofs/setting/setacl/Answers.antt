@@ -1,4 +1,4 @@
-use Rattle.std.proofs.Common.{rules}
+use Rattle.std.proofs.Common.{rules, ◌∙◌}
 use Rattle.sn_model.specs.AccessCalls.{setacl_outcome}
 use Rattle.sn_core_decide_access.proofs.setting.setacl.Goals as goal
 

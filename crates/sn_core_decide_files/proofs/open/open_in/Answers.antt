@@ -1,4 +1,4 @@
-use Rattle.std.proofs.Common.{rules}
+use Rattle.std.proofs.Common.{rules, ◌∙◌}
 use Rattle.sn_core_decide_files.proofs.open.open_in.Goals as goal
 
 pub returns-in_err-directory-clause-exact : goal.returns-in_err-directory-clause-exact

@@ -1,4 +1,4 @@
-use Rattle.std.proofs.Common.{rules}
+use Rattle.std.proofs.Common.{rules, ◌∙◌}
 use Rattle.sn_model.specs.Calls.{mkdir_outcome}
 use Rattle.sn_core_decide_names.proofs.mkdir.mkdir.Goals as goal
 

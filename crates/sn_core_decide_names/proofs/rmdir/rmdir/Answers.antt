@@ -1,4 +1,4 @@
-use Rattle.std.proofs.Common.{rules}
+use Rattle.std.proofs.Common.{rules, ◌∙◌}
 use Rattle.sn_model.specs.NameCalls.{rmdir_outcome}
 use Rattle.sn_core_decide_names.proofs.rmdir.rmdir.Goals as goal
 

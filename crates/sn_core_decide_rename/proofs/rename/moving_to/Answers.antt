@@ -1,3 +1,4 @@
+use Rattle.std.proofs.Common.{◌∙◌}
 use Rattle.sn_core_decide_rename.proofs.rename.moving_to.Goals as goal
 
 pub returns-in-Ok-clause-left : goal.returns-in-Ok-clause-left

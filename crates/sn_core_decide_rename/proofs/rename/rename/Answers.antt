@@ -1,4 +1,4 @@
-use Rattle.std.proofs.Common.{rules}
+use Rattle.std.proofs.Common.{rules, ◌∙◌}
 use Rattle.sn_model.specs.NameCalls.{rename_outcome}
 use Rattle.sn_core_decide_rename.proofs.rename.rename.Goals as goal
 

@@ -1,4 +1,4 @@
-use Rattle.std.proofs.Common.{refl, sym, ap, ◌∙◌}
+use Rattle.std.proofs.Common.{rules, refl, sym, ap, ◌∙◌}
 use Rattle.std.proofs.lemmas.Result.{IfOk-weaker}
 use Rattle.sn_model.specs.World.{viewed_if}
 use Rattle.sn_rooted.specs.Roots.{store_on}
@@ -10,11 +10,15 @@ pub returns-in_default-frozen_file-clause-found : goal.returns-in_default-frozen
 returns-in_default-frozen_file-clause-found g c told =
     sym (ap (λ tree. (viewed_if tree).default_acl c.args.number) (none_frozen (store_on c.args.self.now.blocks.now) c.args.self.now.root.now c.args.snapshot.now c.frozen_file.result c.frozen_file.ensures c.in_default-frozen_file.is))
 
-pub returns-clause-follows : goal.returns-clause-follows
-returns-clause-follows g c = (
+pub returns-clause-left : goal.returns-clause-left
+returns-clause-left g c = (
+  search rules,
+  (
   looks_behind g.D.Device.tells_bytes _ _ _ _ _ _ _ c.default_acl-answer.result c.in_default.is c.fault_of-self.ensures c.default_acl-answer.ensures.counts c.default_acl-answer.ensures.same
       (λ told. c.default_acl-answer.ensures.damaged told (frozen_sound (store_on c.args.self.now.blocks.now) c.args.self.now.root.now c.args.snapshot.now c.frozen_file.result c.frozen_file.ensures c.in-Some-frozen_file.file c.in-Some-frozen_file.is _ (c.requires.holds told) (c.requires.frozen told))),
   refl,
+),
+  search rules,
 )
 
 pub returns-clause-found : goal.returns-clause-found

@@ -1,4 +1,4 @@
-use Rattle.std.proofs.Common.{Option, take, drop, refl, sym, ap, ◌∙◌}
+use Rattle.std.proofs.Common.{rules, Option, take, drop, refl, sym, ap, ◌∙◌}
 use Rattle.std.specs.FinMap as fin
 use Rattle.std.specs.Option.{option_and_then}
 use Rattle.sn_model.specs.FileCalls.{bytes_of}
@@ -22,9 +22,13 @@ returns-in-Ok-clause-found g c told =
     (rw c.in-Ok.is at (c.read-answer.ensures.bytes told sound))
     ∙ sym (ap (λ (tree : Option Tree). take c.args.most (drop c.args.offset (bytes_of (option_and_then (λ (t : Tree). fin.get t.nodes c.args.number) tree)))) tree)
 
-pub returns-in-Err-clause-follows : goal.returns-in-Err-clause-follows
-returns-in-Err-clause-follows g c = (
+pub returns-in-Err-clause-left : goal.returns-in-Err-clause-left
+returns-in-Err-clause-left g c = (
+  search rules,
+  (
   looks_behind g.D.Device.tells_bytes _ _ _ _ _ _ _ c.read-answer.result c.in_default.is c.fault_of-self.ensures c.read-answer.ensures.counts c.read-answer.ensures.same
       (λ told. c.read-answer.ensures.damaged told (frozen_sound (store_on c.args.self.now.blocks.now) c.args.self.now.root.now c.args.snapshot.now c.frozen_file.result c.frozen_file.ensures c.in-Some-frozen_file.file c.in-Some-frozen_file.is _ (c.requires.holds told) (c.requires.frozen told))),
   refl,
+),
+  search rules,
 )

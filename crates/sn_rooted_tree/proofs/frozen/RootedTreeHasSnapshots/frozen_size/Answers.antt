@@ -1,4 +1,4 @@
-use Rattle.std.proofs.Common.{Option, length, refl, sym, ap, ◌∙◌}
+use Rattle.std.proofs.Common.{rules, Option, length, refl, sym, ap, ◌∙◌}
 use Rattle.std.specs.FinMap as fin
 use Rattle.std.specs.Option.{option_and_then}
 use Rattle.sn_model.specs.FileCalls.{bytes_of}
@@ -27,9 +27,13 @@ returns-in-Ok-None-clause-found g c told =
     let seen = sym c.in-Ok-None.field-0-is ∙ (rw c.in-Ok-None.is at (c.seen_node-answer.ensures.found told sound)) in
     none_long (tree_on c.args.self.now.blocks.now c.in-Some-frozen_file.file) c.args.number seen ∙ sym (ap (λ (tree : Option Tree). length (bytes_of (option_and_then (λ (t : Tree). fin.get t.nodes c.args.number) tree))) frozen)
 
-pub returns-in-Err-clause-follows : goal.returns-in-Err-clause-follows
-returns-in-Err-clause-follows g c = (
+pub returns-in-Err-clause-left : goal.returns-in-Err-clause-left
+returns-in-Err-clause-left g c = (
+  search rules,
+  (
   looks_behind g.D.Device.tells_bytes _ _ _ _ _ _ _ c.seen_node-answer.result c.in_default.is c.fault_of-self.ensures c.seen_node-answer.ensures.counts c.seen_node-answer.ensures.same
       (λ told. c.seen_node-answer.ensures.damaged told (frozen_sound (store_on c.args.self.now.blocks.now) c.args.self.now.root.now c.args.snapshot.now c.frozen_file.result c.frozen_file.ensures c.in-Some-frozen_file.file c.in-Some-frozen_file.is _ (c.requires.holds told) (c.requires.frozen told))),
   refl,
+),
+  search rules,
 )
