@@ -56,7 +56,7 @@ impl<'a> Step<'a> {
             "kept" => self.kept(&session.times),
             "mount" => self.mount(session),
             _ => {
-                session.times.mark(self.time(1)?, self.mark()?);
+                self.mark(&mut session.times)?;
                 self.told("-")
             }
         }
@@ -90,41 +90,50 @@ impl<'a> Step<'a> {
         Ok(String::from_str(self.alloc, word)?)
     }
 
-    fn name(self, at: usize) -> Result<TreeName<'a>> {
-        Ok(TreeName::new(self.word(at)?.as_bytes()))
+    /// Marks times, or tells of a snapshot.
+    fn mark(self, times: &mut Times) -> Result<()> {
+        let now = self.time(1)?;
+        match self.word(0)? {
+            "frozen" => {
+                let (home, name) = (self.number(2)?, self.word(3)?.as_bytes());
+                let name = TreeName::new(name);
+                times.mark(now, Mark::Frozen { home, name });
+            }
+            "thawed" => {
+                let name = TreeName::new(self.word(2)?.as_bytes());
+                times.mark(now, Mark::Thawed { name });
+            }
+            "met" => {
+                let (home, name) = (self.number(2)?, self.word(3)?.as_bytes());
+                let name = TreeName::new(name);
+                times.mark(now, Mark::Met { home, name });
+            }
+            verb => self.mark_object(times, now, verb)?,
+        }
+        Ok(())
     }
 
-    fn mark(self) -> Result<Mark<'a>> {
-        Ok(match self.word(0)? {
-            "frozen" => Mark::Frozen {
-                home: self.number(2)?,
-                name: self.name(3)?,
-            },
-            "thawed" => Mark::Thawed {
-                name: self.name(2)?,
-            },
-            "met" => Mark::Met {
-                home: self.number(2)?,
-                name: self.name(3)?,
-            },
-            _ => self.object_mark()?,
-        })
-    }
-
-    /// The mark of an object.
-    fn object_mark(self) -> Result<Mark<'a>> {
+    /// Marks the times of an object.
+    fn mark_object(self, times: &mut Times, now: Time, verb: &str) -> Result<()> {
         let number = self.number(2)?;
-        Ok(match self.word(0)? {
-            "made" => Mark::Made { number },
-            "modified" => Mark::Modified { number },
-            "changed" => Mark::Changed { number },
-            "dated" => Mark::Dated {
-                number,
-                accessed: self.given(3)?,
-                modified: self.given(4)?,
-            },
-            verb => bail!("no such verb: {verb}"),
-        })
+        match verb {
+            "made" => times.mark(now, Mark::Made { number }),
+            "modified" => times.mark(now, Mark::Modified { number }),
+            "changed" => times.mark(now, Mark::Changed { number }),
+            "dated" => {
+                let (accessed, modified) = (self.given(3)?, self.given(4)?);
+                times.mark(
+                    now,
+                    Mark::Dated {
+                        number,
+                        accessed,
+                        modified,
+                    },
+                );
+            }
+            _ => bail!("no such verb: {verb}"),
+        }
+        Ok(())
     }
 
     fn root(self, at: usize) -> Result<&'a [u8]>
@@ -188,7 +197,7 @@ impl<'a> Step<'a> {
     fn file(self, times: &Times) -> Result<String> {
         let mut writer = Writer::new(self.alloc, self.root(1)?)?;
         for (home, tree) in times.trees() {
-            let name = self.number_name(*home)?;
+            let name = self.name(*home)?;
             ensure!(name.len() <= NAME_MAX, "the name is too long");
             writer = match writer.section(name.as_bytes(), tree) {
                 Ok(writer) => writer,
@@ -199,7 +208,7 @@ impl<'a> Step<'a> {
         Ok(digits_of(self.alloc, bytes.as_slice())?)
     }
 
-    fn number_name(self, home: u64) -> Result<String> {
+    fn name(self, home: u64) -> Result<String> {
         if home == 0 {
             return Ok(String::new(self.alloc));
         }

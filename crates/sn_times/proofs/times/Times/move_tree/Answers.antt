@@ -12,8 +12,8 @@ returns-in_ok-insert-in-Some c =
     let other = c.args.other in
     let tree = c.in-Some.tree in
     let gone : kept inside.base c.remove.new.self.entries inside.homes ≡ with_tree c.args.self.now home None =
-        kept-removed inside.base inside.trees.entries c.remove.new.self.entries inside.homes home c.remove.ensures.updates.0
-        ∙ ap (λ (d : Dates). with_tree d home None) c.self.view_is in
+    kept-removed inside.base inside.trees.entries c.remove.new.self.entries inside.homes home c.remove.ensures.updates.0
+    ∙ ap (λ (d : Dates). with_tree d home None) c.self.view_is in
     let put =
     kept-inserted inside.base c.remove.new.self.entries c.insert.new.self.entries inside.homes other tree c.in_ok-insert-in-Some.ensures.updates.0
     ∙ ap (λ (d : Dates). with_tree d other (Some tree)) gone
@@ -26,8 +26,8 @@ returns-in-None c =
     let home = c.args.home in
     let other = c.args.other in
     let gone : kept inside.base c.remove.new.self.entries inside.homes ≡ with_tree c.args.self.now home None =
-        kept-removed inside.base inside.trees.entries c.remove.new.self.entries inside.homes home c.remove.ensures.updates.0
-        ∙ ap (λ (d : Dates). with_tree d home None) c.self.view_is in
+    kept-removed inside.base inside.trees.entries c.remove.new.self.entries inside.homes home c.remove.ensures.updates.0
+    ∙ ap (λ (d : Dates). with_tree d home None) c.self.view_is in
     let none =
     kept-removed inside.base c.remove.new.self.entries c.remove-in-None.new.self.entries inside.homes other c.remove-in-None.ensures.updates.0
     ∙ ap (λ (d : Dates). with_tree d other None) gone
