@@ -161,12 +161,7 @@ fn by_truncating<'a>(flags: OpenFlags, number: Option<u64>) -> Marks<'a>
 }
 
 /// A file that had the name before wasn't made.
-fn by_creating<'a>(
-    subjects: &Subjects,
-    flags: OpenFlags,
-    name: &'a [u8],
-    told: &Told,
-) -> Marks<'a>
+fn by_creating<'a>(subjects: &Subjects, flags: OpenFlags, name: &'a [u8], told: &Told) -> Marks<'a>
     ensures { result ≡ dating.by_creating subjects.now flags name.now told.now }
 {
     match entry_in(told) {
