@@ -8,10 +8,12 @@ reading here has to give them too. A case is a list of steps with a space betwee
 
     made:NOW:NUMBER, modified:NOW:NUMBER, changed:NOW:NUMBER    -
     dated:NOW:NUMBER:ACCESSED:MODIFIED    -, where a time that isn't set is -
-    frozen:NOW:HOME, thawed:NOW:HOME      -
+    frozen:NOW:HOME:NAME, thawed:NOW:NAME, met:NOW:HOME:NAME      -
     times:NUMBER      access, modification and change time
+    names             the names of the snapshots that are known, with a comma between two, or none
     file:ROOT         the bytes that keep all trees, in hexadecimal, or unwritable. A home's name is its number, and the live tree's is empty
     left:ROOT         - or unwritable: the mount ends well, and leaves its times with this root
+    kept:ROOT         the bytes that a left leaves, in hexadecimal, or unwritable
     mount:NOW:ROOT    - : the next mount, of this root, takes what was left. After a left it comes at once; else the mount before it was killed
 
 A time is SECONDS or SECONDS/NANOSECONDS. A case of files.txt is bytes in hexadecimal, and its answer what they say, or misspelt.
@@ -24,6 +26,8 @@ from pathlib import Path
 
 TABLES = Path(__file__).resolve().parent.parent / "crates/sn_tests_messages/data/times"
 NUMBERS = 65536
+WAITING = 2**48
+SNAPSHOTS = 31
 
 
 def time_of(word):
@@ -60,10 +64,11 @@ def sealed(body):
 
 
 class Times:
-    """The times of each tree of which some are kept, by its home: that of all objects without times of their own, and these by number."""
+    """The times of each tree of which some are kept, by its home: that of all objects without times of their own, and these by number. A snapshot
+    that is known has a home by its name, from WAITING on where this mount hasn't met it."""
 
     def __init__(self):
-        self.mounted, self.trees, self.left = (1, 0), {}, None
+        self.mounted, self.trees, self.homes, self.left = (1, 0), {}, {}, None
 
     def tree(self, home):
         return self.trees.get(home, (self.mounted, {}))
@@ -76,11 +81,25 @@ class Times:
         base, own = self.tree(number // NUMBERS)
         self.trees[number // NUMBERS] = base, dict(sorted({**own, number % NUMBERS: stamps}.items()))
 
-    def freeze(self, home):
-        if 0 in self.trees:
-            self.trees[home] = self.trees[0]
-        else:
-            self.trees.pop(home, None)
+    def put(self, home, tree):
+        self.trees.pop(home, None)
+        if tree:
+            self.trees[home] = tree
+
+    def thaw(self, name):
+        if self.homes.get(name):
+            self.trees.pop(self.homes[name], None)
+
+    def freeze(self, home, name):
+        self.thaw(name)
+        self.put(home, self.trees.get(0))
+        self.homes[name] = home
+
+    def meet(self, home, name):
+        earlier = self.homes.get(name, 0)
+        self.homes[name] = home
+        if earlier >= WAITING:
+            self.put(home, self.trees.pop(earlier, None))
 
     def file(self, root):
         if not all(map(is_writable, self.trees.values())):
@@ -88,16 +107,34 @@ class Times:
         sections = (section_bytes(str(home).encode() if home else b"", *self.trees[home]) for home in sorted(self.trees))
         return sealed(front_bytes(root.encode()) + b"".join(sections)).hex()
 
+    def kept(self):
+        """The trees that are left, by their names, or none where they can't be."""
+        snapshots = {name: self.tree(self.homes[name]) for name in sorted(self.homes, key=str.encode)}
+        kept = {"": self.tree(0), **snapshots}
+        if len(snapshots) > SNAPSHOTS or any(len(name) > 255 for name in kept) or not all(map(is_writable, kept.values())):
+            return None
+        return kept
+
     def leave(self, root):
-        if not is_writable(self.tree(0)):
+        kept = self.kept()
+        if kept is None:
             return "unwritable"
-        self.left = root, self.tree(0)
+        self.left = root, kept
         return "-"
 
+    def bytes_kept(self, root):
+        kept = self.kept()
+        if kept is None:
+            return "unwritable"
+        return sealed(front_bytes(root.encode()) + b"".join(section_bytes(name.encode(), *kept[name]) for name in kept)).hex()
+
     def mount(self, now, root):
-        self.mounted, self.trees = now, {}
+        self.mounted, self.trees, self.homes = now, {}, {}
         if self.left and self.left[0] == root:
-            self.trees[0] = self.left[1]
+            for at, (name, tree) in enumerate(self.left[1].items()):
+                self.trees[WAITING + at if name else 0] = tree
+                if name:
+                    self.homes[name] = WAITING + at
         self.left = None
         return "-"
 
@@ -105,12 +142,23 @@ class Times:
         verb, *words = text.split(":")
         if verb == "times":
             return shown(self.of(int(words[0])))
+        if verb == "names":
+            return ",".join(sorted(self.homes, key=str.encode)) or "none"
         if verb == "file":
             return self.file(words[0])
         if verb == "left":
             return self.leave(words[0])
+        if verb == "kept":
+            return self.bytes_kept(words[0])
         if verb == "mount":
             return self.mount(time_of(words[0]), words[1])
+        if verb in ("frozen", "met"):
+            (self.freeze if verb == "frozen" else self.meet)(int(words[1]), words[2])
+            return "-"
+        if verb == "thawed":
+            self.thaw(words[1])
+            self.homes.pop(words[1], None)
+            return "-"
         now, number = time_of(words[0]), int(words[1])
         accessed, modified, _ = self.of(number)
         if verb == "made":
@@ -119,13 +167,9 @@ class Times:
             self.set(number, accessed, now, now)
         elif verb == "changed":
             self.set(number, accessed, modified, now)
-        elif verb == "dated":
+        else:
             given = [time if word == "-" else time_of(word) for word, time in zip(words[2:], (accessed, modified))]
             self.set(number, *given, now)
-        elif verb == "frozen":
-            self.freeze(number)
-        elif number:
-            self.trees.pop(number, None)
         return "-"
 
 
@@ -155,18 +199,44 @@ dated:5:7:-:- times:7 => - 1/0,1/0,5/0
 made:2:5 dated:3:5:0:0 made:4:5 times:5 => - - - 4/0,4/0,4/0
 
 # A snapshot has the times of its moment, and its own from then on.
-made:2:5 modified:3:9 frozen:4:2 modified:5:5 times:131077 times:131081 times:131078 times:5 => - - - - 2/0,2/0,2/0 1/0,3/0,3/0 1/0,1/0,1/0 2/0,5/0,5/0
-made:2:5 frozen:3:2 changed:4:131077 times:131077 times:5 => - - - 2/0,2/0,4/0 2/0,2/0,2/0
-frozen:2:2 made:3:5 times:131077 frozen:4:2 times:131077 => - - 1/0,1/0,1/0 - 3/0,3/0,3/0
-made:2:5 frozen:3:3 frozen:4:2 thawed:5:3 times:196613 times:131077 times:5 => - - - - 1/0,1/0,1/0 2/0,2/0,2/0 2/0,2/0,2/0
+made:2:5 modified:3:9 frozen:4:2:s modified:5:5 times:131077 times:131081 times:131078 times:5 => - - - - 2/0,2/0,2/0 1/0,3/0,3/0 1/0,1/0,1/0 2/0,5/0,5/0
+made:2:5 frozen:3:2:s changed:4:131077 times:131077 times:5 => - - - 2/0,2/0,4/0 2/0,2/0,2/0
+frozen:2:2:s made:3:5 times:131077 frozen:4:2:s times:131077 => - - 1/0,1/0,1/0 - 3/0,3/0,3/0
+made:2:5 frozen:3:3:a frozen:4:2:b thawed:5:a times:196613 times:131077 times:5 names => - - - - 1/0,1/0,1/0 2/0,2/0,2/0 2/0,2/0,2/0 b
+
+# What is made under the name of a snapshot that is gone, or was made before, has the times of its own moment, and another home.
+made:2:5 frozen:3:2:s modified:4:5 thawed:5:s frozen:6:3:s times:131077 times:196613 names => - - - - - 1/0,1/0,1/0 2/0,4/0,4/0 s
+made:2:5 frozen:3:2:s modified:4:5 frozen:6:3:s times:131077 times:196613 names => - - - - 1/0,1/0,1/0 2/0,4/0,4/0 s
+thawed:2:s names met:3:2:s names met:4:2:s thawed:5:s names => - none - s - - none
 
 # The live tree stays.
-made:2:5 thawed:3:0 times:5 frozen:4:0 times:5 => - - 2/0,2/0,2/0 - 2/0,2/0,2/0
-made:2:65535 frozen:3:1 times:131071 => - - 2/0,2/0,2/0
+made:2:5 met:3:0:x thawed:3:x times:5 names frozen:4:0:x times:5 thawed:5:x times:5 => - - - 2/0,2/0,2/0 none - 2/0,2/0,2/0 - 2/0,2/0,2/0
+made:2:65535 frozen:3:1:s times:131071 => - - 2/0,2/0,2/0
 
 # A home that is too large for any number, and the largest numbers.
-made:2:5 frozen:3:18446744073709551615 times:5 thawed:4:18446744073709551615 times:5 => - - 2/0,2/0,2/0 - 2/0,2/0,2/0
-made:2:18446744073709551615 times:18446744073709551615 frozen:3:281474976710655 times:18446744073709551615 => - 2/0,2/0,2/0 - 1/0,1/0,1/0
+made:2:5 frozen:3:18446744073709551615:s times:5 thawed:4:s times:5 => - - 2/0,2/0,2/0 - 2/0,2/0,2/0
+made:2:18446744073709551615 times:18446744073709551615 frozen:3:281474976710655:s times:18446744073709551615 => - 2/0,2/0,2/0 - 1/0,1/0,1/0
+
+# A snapshot keeps its times from one mount to the next, whatever home it has then, and also over a mount that doesn't meet it.
+made:2:5 frozen:3:2:s modified:4:5 left:r mount:9:r met:10:7:s times:458757 times:458758 times:5 => - - - - - - 2/0,2/0,2/0 1/0,1/0,1/0 2/0,4/0,4/0
+made:2:5 frozen:3:2:s modified:4:5 left:r mount:9:r names left:r mount:20:r met:21:2:s times:131077 times:131078 => - - - - - s - - - 2/0,2/0,2/0 1/0,1/0,1/0
+made:2:5 frozen:3:2:a modified:4:5 frozen:5:3:b left:r mount:9:r met:10:2:b met:11:3:a times:131077 times:196613 => - - - - - - - - 2/0,4/0,4/0 2/0,2/0,2/0
+made:2:5 frozen:3:2:s left:r mount:9:r met:10:4:s met:11:4:s times:262149 left:r mount:20:r met:21:3:s times:196613 => - - - - - - 2/0,2/0,2/0 - - - 2/0,2/0,2/0
+
+# One that was made without a mount has the time of the mount that showed it first, and keeps it.
+met:2:2:s times:131077 left:r mount:9:r met:10:3:s times:196613 times:5 => - 1/0,1/0,1/0 - - - 1/0,1/0,1/0 1/0,1/0,1/0
+made:2:5 left:r mount:9:r met:10:2:s times:131077 left:r mount:20:r met:21:2:s times:131077 times:5 => - - - - 9/0,9/0,9/0 - - - 9/0,9/0,9/0 2/0,2/0,2/0
+made:2:5 frozen:3:2:s left:r mount:9:r times:131077 times:196613 met:10:2:t times:131077 => - - - - 9/0,9/0,9/0 9/0,9/0,9/0 - 9/0,9/0,9/0
+
+# Nothing is kept of one that was deleted, in this mount or before it was met again, so a new one of its name has times of its own.
+made:2:5 frozen:3:2:s thawed:4:s left:r mount:9:r names met:10:2:s times:131077 => - - - - - none - 9/0,9/0,9/0
+made:2:5 frozen:3:2:s left:r mount:9:r thawed:10:s names met:11:2:s times:131077 => - - - - - none - 9/0,9/0,9/0
+made:2:5 frozen:3:2:s left:r mount:9:r modified:10:5 frozen:11:2:s times:131077 => - - - - - - 2/0,10/0,10/0
+made:2:5 frozen:3:2:s left:r mount:9:r met:10:2:s thawed:11:s times:131077 left:r mount:20:r met:21:2:s times:131077 => - - - - - - 9/0,9/0,9/0 - - - 20/0,20/0,20/0
+
+# What a snapshot's times were at another root counts for nothing.
+made:2:5 frozen:3:2:s left:r mount:9:s names met:10:2:s times:131077 => - - - - none - 9/0,9/0,9/0
+made:2:5 frozen:3:2:s mount:9:r names met:10:2:s times:131077 => - - - none - 9/0,9/0,9/0
 
 # What was never changed keeps its time from one mount to the next.
 left:r mount:9:r times:5 left:r mount:20:r times:5 => - - 1/0,1/0,1/0 - - 1/0,1/0,1/0
@@ -183,15 +253,16 @@ made:2:5 left:r mount:9:rr mount:20:r times:5 => - - - - 20/0,20/0,20/0
 made:2:5 left: mount:9:r times:5 left: mount:20: times:5 => - - - 9/0,9/0,9/0 - - 9/0,9/0,9/0
 
 # A snapshot has the base of the live tree where it is made in the mount, else that of the mount.
-made:2:5 left:r mount:9:r frozen:10:2 modified:11:5 times:131077 times:131078 times:196613 => - - - - - 2/0,2/0,2/0 1/0,1/0,1/0 9/0,9/0,9/0
-made:2:5 frozen:3:2 left:r mount:9:r times:131077 times:5 => - - - - 9/0,9/0,9/0 2/0,2/0,2/0
-left:r mount:9:r frozen:10:2 thawed:11:2 times:131077 changed:12:131078 times:131078 => - - - - 9/0,9/0,9/0 - 9/0,9/0,12/0
-made:2:5 left:r mount:9:s frozen:10:2 times:131077 times:5 => - - - - 9/0,9/0,9/0 9/0,9/0,9/0
+made:2:5 left:r mount:9:r frozen:10:2:s modified:11:5 times:131077 times:131078 times:196613 => - - - - - 2/0,2/0,2/0 1/0,1/0,1/0 9/0,9/0,9/0
+made:2:5 frozen:3:2:s left:r mount:9:r times:131077 times:5 => - - - - 9/0,9/0,9/0 2/0,2/0,2/0
+left:r mount:9:r frozen:10:2:s thawed:11:s times:131077 changed:12:131078 times:131078 => - - - - 9/0,9/0,9/0 - 9/0,9/0,12/0
+made:2:5 left:r mount:9:s frozen:10:2:s times:131077 times:5 => - - - - 9/0,9/0,9/0 9/0,9/0,9/0
 
 # Nothing is left where a time can't be kept, and then all is of the next mount.
 dated:2:5:1/1000000000:- left:r mount:9:r times:5 => - unwritable - 9/0,9/0,9/0
 mount:9/1000000000:r left:r made:10:5 times:6 left:r => - unwritable - 9/1000000000,9/1000000000,9/1000000000 unwritable
 dated:2:131077:1/1000000000:- left:r mount:9:r times:6 => - - - 1/0,1/0,1/0
+met:2:2:s dated:3:131077:1/1000000000:- left:r thawed:4:s left:r => - - unwritable - -
 
 # A time that no system sets can't be kept.
 dated:2:5:1/1000000000:- times:5 file:r made:3:5 times:5 => - 1/1000000000,1/0,2/0 unwritable - 3/0,3/0,3/0
@@ -206,19 +277,24 @@ def drawn(r):
         now = f"{clock}/{r.choice((0, 1, 999999999))}"
         home = r.choice(homes)
         number = home * NUMBERS + r.choice((1, 2, 3, 4, 65535))
-        verb = r.choice(("made", "modified", "modified", "changed", "dated", "frozen", "thawed", "times", "times", "times", "file", "left", "mount"))
+        verb = r.choice(("made", "modified", "modified", "changed", "dated", "frozen", "thawed", "met", "met", "times", "times", "times", "names", "file", "kept", "left", "left", "mount"))
+        name = r.choice(("s", "t", "nightly"))
         if verb == "times":
             steps.append(f"times:{number}")
-        elif verb == "file":
-            steps.append(f"file:{r.choice(('', 'r', 'root'))}")
+        elif verb == "names":
+            steps.append(verb)
+        elif verb in ("file", "kept"):
+            steps.append(f"{verb}:{r.choice(('', 'r', 'root'))}")
         elif verb in ("left", "mount"):
             root = r.choice("rrrs")
             steps += ([f"left:{root}"] if verb == "left" else []) + [f"mount:{now}:{r.choice((root, root, 's'))}"]
         elif verb == "dated":
             given = (r.choice(("-", str(r.randint(0, 90)), f"{2**64 - 1}/5")) for _ in range(2))
             steps.append(f"dated:{now}:{number}:{':'.join(given)}")
-        elif verb in ("frozen", "thawed"):
-            steps.append(f"{verb}:{now}:{home}")
+        elif verb == "thawed":
+            steps.append(f"thawed:{now}:{name}")
+        elif verb in ("frozen", "met"):
+            steps.append(f"{verb}:{now}:{home}:{name}")
         else:
             steps.append(f"{verb}:{now}:{number}")
     return " ".join(steps)
@@ -238,7 +314,10 @@ def read(data):
         return "misspelt"
     words = [f"root={root.hex()}"]
     good = True
+    sections = 0
     while rest:
+        sections += 1
+        good = good and sections <= 1 + SNAPSHOTS
         name, rest = rest[1 : 1 + rest[0]], rest[1 + rest[0] :] if len(rest) > rest[0] else None
         if rest is None or len(rest) < 20:
             return "misspelt"
@@ -271,6 +350,10 @@ def files():
         sealed(front + section_bytes(b"", base, one) + section_bytes(b"first", (2**64 - 1, 0), two) + section_bytes(b"s" * 255, (0, 0), {})),
         sealed(front + section_bytes(b"a", base, one) + section_bytes(b"a", base, two)),
         sealed(front_bytes(b"r" * 4096)),
+        sealed(front + section_bytes(b"", base, {}) + b"".join(section_bytes(b"%d" % n, base, {}) for n in range(SNAPSHOTS))),
+    ]
+    yield "One section more than an image can have trees.", [
+        sealed(front + section_bytes(b"", base, {}) + b"".join(section_bytes(b"%d" % n, base, {}) for n in range(SNAPSHOTS + 1))),
     ]
     whole = sealed(front + section_bytes(b"a", base, two))
     yield "Bytes that were cut, and each byte changed.", [

@@ -71,6 +71,10 @@ holds "the file changes" sh -c "echo more >>'$dir/f'"
 holds "the snapshot keeps its time" is_old "$dir/.snapshot/one/f"
 holds "the file doesn't" sh -c "[ \$(stat -c %Y '$dir/f') -gt 1000000000 ]"
 holds "a time is set again" sets
+holds "the file is copied with its time" sh -c "cp -p '$dir/f' '$dir/g'"
+holds "and into a second snapshot" mkdir "$dir/.snapshot/two"
+holds "a third is made and deleted" sh -c "mkdir '$dir/.snapshot/three' && rmdir '$dir/.snapshot/three'"
+in_snapshots=$(stat -c '%n %.9X %.9Y %.9Z' "$dir"/.snapshot/one "$dir"/.snapshot/one/f "$dir"/.snapshot/two/f "$dir"/.snapshot/two/g)
 case_of "it is unmounted" 0 "" unmounts
 holds "times are beside it, for its owner alone" [ "$(stat -c '%a %F' "$times")" = "600 regular file" ]
 holds "it is checked" is_sound
@@ -78,11 +82,25 @@ sleep 1
 begun=$(date +%s)
 case_of "it is mounted again" 0 "" mounts
 holds "the file has its time" is_old "$dir/f"
-holds "the snapshot has that of the mount" is_of_mount "$dir/.snapshot/one/f" "$begun"
+case_of "the snapshots have theirs" 0 "$in_snapshots" stat -c '%n %.9X %.9Y %.9Z' "$dir"/.snapshot/one "$dir"/.snapshot/one/f "$dir"/.snapshot/two/f "$dir"/.snapshot/two/g
+holds "and are copied with them" sh -c "cp -p '$dir/.snapshot/one/f' '$work/f'"
+holds "to the nanosecond" is_old "$work/f"
 holds "the times beside it are gone" [ ! -e "$times" ]
+holds "a snapshot is made under the name of one that is gone" mkdir "$dir/.snapshot/three"
+holds "it has the times of its moment" is_old "$dir/.snapshot/three/g"
+case_of "and unmounted" 0 "" unmounts
+case_of "mounted, and looked at by nobody" 0 "" mounts
 case_of "and unmounted" 0 "" unmounts
 case_of "once more" 0 "" mounts
 holds "the file has its time still" is_old "$dir/f"
+case_of "the snapshots have theirs over a mount that didn't show them" 0 "$in_snapshots" stat -c '%n %.9X %.9Y %.9Z' "$dir"/.snapshot/one "$dir"/.snapshot/one/f "$dir"/.snapshot/two/f "$dir"/.snapshot/two/g
+holds "one is deleted, and made anew" sh -c "rmdir '$dir/.snapshot/one' && sleep 1 && touch '$dir/f' && mkdir '$dir/.snapshot/one'"
+anew=$(stat -c '%.9Y' "$dir/f")
+case_of "it has the times of its own moment" 0 "$anew" stat -c '%.9Y' "$dir/.snapshot/one/f"
+case_of "unmounted" 0 "" unmounts
+case_of "mounted" 0 "" mounts
+case_of "and keeps these" 0 "$anew" stat -c '%.9Y' "$dir/.snapshot/one/f"
+holds "an old time is set" sets
 
 # ---- What makes them count no longer
 begun=$(date +%s)

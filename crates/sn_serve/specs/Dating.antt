@@ -18,10 +18,10 @@ use Rattle.sn_serve.specs.declared.subjects.Subjects.{Subjects}
 use Rattle.sn_serve.specs.declared.told.Told.{Told}
 use Rattle.sn_serve.specs.declared.told.Told.TheVariants as told
 use Rattle.sn_serve_files.specs.Flags.{has, names_accessed, names_modified, sets_accessed, sets_modified, sets_size, sets_times}
-use Rattle.sn_serve_names.specs.Names.{image_of}
+use Rattle.sn_serve_names.specs.Names.{image_of, is_snapshots_number}
 use Rattle.sn_times.specs.Dates.{Dates, IsMarked, stamps_at}
 use Rattle.sn_times.specs.declared.stamps.Mark.{Mark}
-use Rattle.sn_times.specs.declared.stamps.Mark.TheVariants.{Changed, Dated, Frozen, Made, Modified, Thawed}
+use Rattle.sn_times.specs.declared.stamps.Mark.TheVariants.{Changed, Dated, Frozen, Made, Met, Modified, Thawed}
 use Rattle.sn_times.specs.declared.stamps.Stamps.{Stamps}
 
 -- ---- what a message is about, before it is done
@@ -70,45 +70,54 @@ abbrev pub changes : Option ℕ → Option Mark
 changes number = option_map Changed number
 
 -- homes from 2 on are those of snapshots
-abbrev pub made : ℕ → Mark
-made number = if nat_lt (number / 65536) 2 then Made number else Frozen (number / 65536)
+abbrev pub made : List ℕ → ℕ → Mark
+made name number = if nat_lt (number / 65536) 2 then Made number else Frozen (number / 65536) name
 
-abbrev pub gone : ℕ → Mark
-gone number = if nat_lt (number / 65536) 2 then Changed number else Thawed (number / 65536)
+abbrev pub found : List ℕ → ℕ → Option Mark
+found name number = if nat_lt (number / 65536) 2 then None else Some (Met (number / 65536) name)
 
-abbrev pub removed : Option ℕ → Option Mark
-removed number = option_map gone number
+-- a directory was removed, or a name of the directory of snapshots
+abbrev pub removed : Subjects → List ℕ → Option Mark
+removed s name = if is_snapshots_number s.node then Some (Thawed name) else changes s.child
 
 abbrev pub entry_in : Told → Option Entry
 entry_in (told.Found entry) = Some entry
 entry_in (told.Made created) = Some created.entry
 entry_in other = None
 
-abbrev pub makes : Subjects → Option Entry → Marks
-makes s None = no_marks
-makes s (Some entry) = record no_marks { first = Some (made entry.attributes.number); second = modifies s.node }
+-- a snapshot was found under a name of their directory
+abbrev pub finds : Subjects → List ℕ → Option Entry → Marks
+finds s name None = no_marks
+finds s name (Some entry) = if is_snapshots_number s.node then record no_marks { first = found name entry.attributes.number } else no_marks
 
-abbrev pub by_making : Subjects → Told → Marks
-by_making s told = makes s (entry_in told)
+abbrev pub by_finding : Subjects → List ℕ → Told → Marks
+by_finding s name told = finds s name (entry_in told)
+
+abbrev pub makes : Subjects → List ℕ → Option Entry → Marks
+makes s name None = no_marks
+makes s name (Some entry) = record no_marks { first = Some (made name entry.attributes.number); second = modifies s.node }
+
+abbrev pub by_making : Subjects → List ℕ → Told → Marks
+by_making s name told = makes s name (entry_in told)
 
 -- O_TRUNC, which is 512
 abbrev pub by_truncating : OpenFlags → Option ℕ → Marks
 by_truncating flags number = if has flags.0 512 then record no_marks { first = modifies number } else no_marks
 
 -- a file that had the name before wasn't made
-abbrev pub creates : Subjects → OpenFlags → Option Entry → Marks
-creates s flags None = no_marks
-creates s flags (Some entry) = if option_eq ◌==◌ s.child (Some entry.attributes.number) then by_truncating flags s.child else makes s (Some entry)
+abbrev pub creates : Subjects → OpenFlags → List ℕ → Option Entry → Marks
+creates s flags name None = no_marks
+creates s flags name (Some entry) = if option_eq ◌==◌ s.child (Some entry.attributes.number) then by_truncating flags s.child else makes s name (Some entry)
 
-abbrev pub by_creating : Subjects → OpenFlags → Told → Marks
-by_creating s flags told = creates s flags (entry_in told)
+abbrev pub by_creating : Subjects → OpenFlags → List ℕ → Told → Marks
+by_creating s flags name told = creates s flags name (entry_in told)
 
 -- one name more or less
 abbrev pub by_naming : Subjects → Marks
 by_naming s = record no_marks { first = changes s.child; second = modifies s.node }
 
-abbrev pub by_removing : Subjects → Marks
-by_removing s = record no_marks { first = removed s.child; second = modifies s.node }
+abbrev pub by_removing : Subjects → List ℕ → Marks
+by_removing s name = record no_marks { first = removed s name; second = modifies s.node }
 
 -- a rename of a file to another of its own names does nothing
 abbrev pub by_renaming : Subjects → Marks
@@ -147,13 +156,14 @@ abbrev pub by_setting : Subjects → Time → NewAttributes → Marks
 by_setting s now new = sets (live s.node) now new
 
 abbrev pub marks_by : Subjects → Time → Op → Told → Marks
+marks_by s now (op.Lookup name) told = by_finding s name told
 marks_by s now (op.SetAttr new) told = by_setting s now new
-marks_by s now (op.Mknod mode device umask name) told = by_making s told
-marks_by s now (op.Mkdir mode umask name) told = by_making s told
-marks_by s now (op.Create flags mode umask name) told = by_creating s flags told
+marks_by s now (op.Mknod mode device umask name) told = by_making s name told
+marks_by s now (op.Mkdir mode umask name) told = by_making s name told
+marks_by s now (op.Create flags mode umask name) told = by_creating s flags name told
 marks_by s now (op.Unlink name) told = by_naming s
 marks_by s now (op.Link old name) told = by_naming s
-marks_by s now (op.Rmdir name) told = by_removing s
+marks_by s now (op.Rmdir name) told = by_removing s name
 marks_by s now (op.Rename directory name other) told = by_renaming s
 marks_by s now (op.Rename2 directory flags name other) told = by_renaming s
 marks_by s now (op.Open flags) told = by_truncating flags s.node

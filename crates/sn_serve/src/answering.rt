@@ -195,6 +195,8 @@ pub fn refuse_message(message: &[u8], out: &mut Vec<u8>) -> Result<(), AllocErro
 ///
 /// Proved: A message that was done marks times of what it was about, as POSIX says for its kind, and one that was refused marks none; an answer has
 /// the times that are kept then.
+///
+/// Proved: A snapshot has its times under the name by which a LOOKUP found it or a MKDIR made it, and under none once it is removed.
 pub fn answer<F: FileSystem, H: Host>(
     service: &mut Service<F>,
     host: &mut H,

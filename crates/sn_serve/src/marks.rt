@@ -1,6 +1,7 @@
 //! What a message marks for update.
 ghost use Rattle.std.specs.Prelude.{◌≡◌};
 ghost use Rattle.sn_serve.specs.Dating as dating;
+ghost use Rattle.sn_serve_names.specs.Names.{is_snapshots_number};
 
 use crate::subjects::Subjects;
 use crate::told::Told;
@@ -9,7 +10,7 @@ use sn_fuse::{NewAttributes, Op, Time};
 use sn_fuse_flags::{AttributeFlags, OpenFlags};
 use sn_fuse_replies::{Entry, Errno};
 use sn_serve_files::{names_accessed, names_modified, sets_accessed, sets_modified, sets_times};
-use sn_times::{Mark, Times};
+use sn_times::{Mark, Times, TreeName};
 
 /// How many numbers a tree has.
 const NUMBERS: u64 = 65_536;
@@ -17,25 +18,30 @@ const NUMBERS: u64 = 65_536;
 /// The first home of a snapshot. Below it are the live tree and the directory of snapshots.
 const FIRST_FROZEN: u64 = 2;
 
+/// The number of the directory of snapshots.
+const SNAPSHOTS: u64 = 65_537;
+
 /// What a message marks for update, in this order.
-#[derive(Clone, Copy, PartialEq, Eq, Debug)]
-pub struct Marks {
-    pub first: Option<Mark>,
-    pub second: Option<Mark>,
-    pub third: Option<Mark>,
-    pub fourth: Option<Mark>,
+#[derive(Drop)]
+pub struct Marks<'a> {
+    pub first: Option<Mark<'a>>,
+    pub second: Option<Mark<'a>>,
+    pub third: Option<Mark<'a>>,
+    pub fourth: Option<Mark<'a>>,
 }
 
-impl Marks {
-    const NONE: Marks = Marks {
+fn no_marks<'a>() -> Marks<'a>
+    ensures { result ≡ dating.no_marks }
+{
+    Marks {
         first: None,
         second: None,
         third: None,
         fourth: None,
-    };
+    }
 }
 
-fn modifies(number: Option<u64>) -> Option<Mark>
+fn modifies<'a>(number: Option<u64>) -> Option<Mark<'a>>
     ensures { result ≡ dating.modifies number }
 {
     match number {
@@ -44,7 +50,7 @@ fn modifies(number: Option<u64>) -> Option<Mark>
     }
 }
 
-fn changes(number: Option<u64>) -> Option<Mark>
+fn changes<'a>(number: Option<u64>) -> Option<Mark<'a>>
     ensures { result ≡ dating.changes number }
 {
     match number {
@@ -53,29 +59,52 @@ fn changes(number: Option<u64>) -> Option<Mark>
     }
 }
 
-/// What was made: an object, or a snapshot.
-fn made(number: u64) -> Mark
-    ensures { result ≡ dating.made number }
+/// What was made under a name: an object, or a snapshot.
+fn made(name: &[u8], number: u64) -> Mark<'_>
+    ensures { result ≡ dating.made name.now number }
 {
     let home = number / NUMBERS;
     if home < FIRST_FROZEN {
         Mark::Made { number }
     } else {
-        Mark::Frozen { home }
+        Mark::Frozen {
+            home,
+            name: TreeName::new(name),
+        }
     }
 }
 
-/// What was removed by RMDIR: a directory, or a snapshot.
-fn removed(number: Option<u64>) -> Option<Mark>
-    ensures { result ≡ dating.removed number }
+/// The snapshot that was found under a name.
+fn found(name: &[u8], number: u64) -> Option<Mark<'_>>
+    ensures { result ≡ dating.found name.now number }
 {
-    let number = number?;
     let home = number / NUMBERS;
-    Some(if home < FIRST_FROZEN {
-        Mark::Changed { number }
-    } else {
-        Mark::Thawed { home }
+    if home < FIRST_FROZEN {
+        return None;
+    }
+    Some(Mark::Met {
+        home,
+        name: TreeName::new(name),
     })
+}
+
+fn are_snapshots(number: Option<u64>) -> bool
+    ensures { result ≡ is_snapshots_number number }
+{
+    number == Some(SNAPSHOTS)
+}
+
+/// What was removed by RMDIR: a directory, or the snapshot with a name.
+fn removed<'a>(subjects: &Subjects, name: &'a [u8]) -> Option<Mark<'a>>
+    ensures { result ≡ dating.removed subjects.now name.now }
+{
+    if are_snapshots(subjects.node) {
+        Some(Mark::Thawed {
+            name: TreeName::new(name),
+        })
+    } else {
+        changes(subjects.child)
+    }
 }
 
 fn entry_in(told: &Told) -> Option<Entry>
@@ -88,74 +117,93 @@ fn entry_in(told: &Told) -> Option<Entry>
     }
 }
 
-fn by_making(subjects: &Subjects, told: &Told) -> Marks
-    ensures { result ≡ dating.by_making subjects.now told.now }
+fn by_finding<'a>(subjects: &Subjects, name: &'a [u8], told: &Told) -> Marks<'a>
+    ensures { result ≡ dating.by_finding subjects.now name.now told.now }
 {
     match entry_in(told) {
-        Some(entry) => Marks {
-            first: Some(made(entry.attributes.number)),
-            second: modifies(subjects.node),
-            ..Marks::NONE
+        Some(entry) if are_snapshots(subjects.node) => Marks {
+            first: found(name, entry.attributes.number),
+            second: None,
+            third: None,
+            fourth: None,
         },
-        None => Marks::NONE,
+        _ => no_marks(),
     }
 }
 
-fn by_truncating(flags: OpenFlags, number: Option<u64>) -> Marks
+fn by_making<'a>(subjects: &Subjects, name: &'a [u8], told: &Told) -> Marks<'a>
+    ensures { result ≡ dating.by_making subjects.now name.now told.now }
+{
+    match entry_in(told) {
+        Some(entry) => Marks {
+            first: Some(made(name, entry.attributes.number)),
+            second: modifies(subjects.node),
+            third: None,
+            fourth: None,
+        },
+        None => no_marks(),
+    }
+}
+
+fn by_truncating<'a>(flags: OpenFlags, number: Option<u64>) -> Marks<'a>
     ensures { result ≡ dating.by_truncating flags number }
 {
     if flags.contains(OpenFlags::TRUNCATE) {
         Marks {
             first: modifies(number),
-            ..Marks::NONE
+            second: None,
+            third: None,
+            fourth: None,
         }
     } else {
-        Marks::NONE
+        no_marks()
     }
 }
 
 /// A file that had the name before wasn't made.
-fn by_creating(subjects: &Subjects, flags: OpenFlags, told: &Told) -> Marks
-    ensures { result ≡ dating.by_creating subjects.now flags told.now }
+fn by_creating<'a>(subjects: &Subjects, flags: OpenFlags, name: &'a [u8], told: &Told) -> Marks<'a>
+    ensures { result ≡ dating.by_creating subjects.now flags name.now told.now }
 {
     match entry_in(told) {
         Some(entry) => {
             if subjects.child == Some(entry.attributes.number) {
                 by_truncating(flags, subjects.child)
             } else {
-                by_making(subjects, told)
+                by_making(subjects, name, told)
             }
         }
-        None => Marks::NONE,
+        None => no_marks(),
     }
 }
 
-fn by_naming(subjects: &Subjects) -> Marks
+fn by_naming<'a>(subjects: &Subjects) -> Marks<'a>
     ensures { result ≡ dating.by_naming subjects.now }
 {
     Marks {
         first: changes(subjects.child),
         second: modifies(subjects.node),
-        ..Marks::NONE
+        third: None,
+        fourth: None,
     }
 }
 
-fn by_removing(subjects: &Subjects) -> Marks
-    ensures { result ≡ dating.by_removing subjects.now }
+fn by_removing<'a>(subjects: &Subjects, name: &'a [u8]) -> Marks<'a>
+    ensures { result ≡ dating.by_removing subjects.now name.now }
 {
     Marks {
-        first: removed(subjects.child),
+        first: removed(subjects, name),
         second: modifies(subjects.node),
-        ..Marks::NONE
+        third: None,
+        fourth: None,
     }
 }
 
 /// A rename of a file to another of its own names does nothing.
-fn by_renaming(subjects: &Subjects) -> Marks
+fn by_renaming<'a>(subjects: &Subjects) -> Marks<'a>
     ensures { result ≡ dating.by_renaming subjects.now }
 {
     if subjects.child.is_some() && subjects.child == subjects.replaced {
-        return Marks::NONE;
+        return no_marks();
     }
     Marks {
         first: changes(subjects.child),
@@ -165,24 +213,28 @@ fn by_renaming(subjects: &Subjects) -> Marks
     }
 }
 
-fn by_writing(subjects: &Subjects, told: &Told) -> Marks
+fn by_writing<'a>(subjects: &Subjects, told: &Told) -> Marks<'a>
     ensures { result ≡ dating.by_writing subjects.now told.now }
 {
     match told {
-        Told::Written(0) => Marks::NONE,
+        Told::Written(0) => no_marks(),
         _ => Marks {
             first: modifies(subjects.node),
-            ..Marks::NONE
+            second: None,
+            third: None,
+            fourth: None,
         },
     }
 }
 
-fn by_changing(subjects: &Subjects) -> Marks
+fn by_changing<'a>(subjects: &Subjects) -> Marks<'a>
     ensures { result ≡ dating.by_changing subjects.now }
 {
     Marks {
         first: changes(subjects.node),
-        ..Marks::NONE
+        second: None,
+        third: None,
+        fourth: None,
     }
 }
 
@@ -199,7 +251,7 @@ fn time_set(is_set: bool, is_named: bool, named: Time, now: Time) -> Option<Time
     }
 }
 
-fn dates(number: Option<u64>, now: Time, new: &NewAttributes) -> Option<Mark>
+fn dates<'a>(number: Option<u64>, now: Time, new: &NewAttributes) -> Option<Mark<'a>>
     ensures { result ≡ dating.dates number now new.now }
 {
     let number = number?;
@@ -223,7 +275,7 @@ fn live(number: Option<u64>) -> Option<u64>
     }
 }
 
-fn by_setting(subjects: &Subjects, now: Time, new: &NewAttributes) -> Marks
+fn by_setting<'a>(subjects: &Subjects, now: Time, new: &NewAttributes) -> Marks<'a>
     ensures { result ≡ dating.by_setting subjects.now now new.now }
 {
     let node = live(subjects.node);
@@ -235,40 +287,49 @@ fn by_setting(subjects: &Subjects, now: Time, new: &NewAttributes) -> Marks
     Marks {
         first,
         second: dates(node, now, new),
-        ..Marks::NONE
+        third: None,
+        fourth: None,
     }
 }
 
 /// What a message that was done marks for update.
-fn marks_by(subjects: &Subjects, now: Time, op: &Op<'_>, told: &Told) -> Marks
+fn marks_by<'a>(subjects: &Subjects, now: Time, op: &Op<'a>, told: &Told) -> Marks<'a>
     ensures { result ≡ dating.marks_by subjects.now now op.now told.now }
 {
     match op {
+        Op::Lookup { name } => by_finding(subjects, name.as_bytes(), told),
         Op::SetAttr { attributes } => by_setting(subjects, now, attributes),
-        Op::Mknod { .. } | Op::Mkdir { .. } => by_making(subjects, told),
-        Op::Create { flags, .. } => by_creating(subjects, *flags, told),
+        Op::Mknod { name, .. } | Op::Mkdir { name, .. } => {
+            by_making(subjects, name.as_bytes(), told)
+        }
+        Op::Create { flags, name, .. } => by_creating(subjects, *flags, name.as_bytes(), told),
         Op::Unlink { .. } | Op::Link { .. } => by_naming(subjects),
-        Op::Rmdir { .. } => by_removing(subjects),
+        Op::Rmdir { name } => by_removing(subjects, name.as_bytes()),
         Op::Rename { .. } | Op::Rename2 { .. } => by_renaming(subjects),
         Op::Open { flags } => by_truncating(*flags, subjects.node),
         Op::Write { .. } => by_writing(subjects, told),
         Op::SetXattr { .. } | Op::RemoveXattr { .. } => by_changing(subjects),
-        _ => Marks::NONE,
+        _ => no_marks(),
     }
 }
 
 /// What a message marks for update. One that was refused marks nothing.
-fn marks_of(subjects: &Subjects, now: Time, op: &Op<'_>, told: &Result<Told, Errno>) -> Marks
+fn marks_of<'a>(
+    subjects: &Subjects,
+    now: Time,
+    op: &Op<'a>,
+    told: &Result<Told, Errno>,
+) -> Marks<'a>
     ensures { result ≡ dating.marks_of subjects.now now op.now told.now }
 {
     match told {
         Ok(told) => marks_by(subjects, now, op, told),
-        Err(_) => Marks::NONE,
+        Err(_) => no_marks(),
     }
 }
 
-fn mark_one(times: &mut Times, now: Time, mark: Option<Mark>)
-    ensures { dating.IsMarkedIf mark now times.old times.new }
+fn mark_one(times: &mut Times, now: Time, mark: Option<Mark<'_>>)
+    ensures { dating.IsMarkedIf mark.entry now times.old times.new }
 {
     if let Some(mark) = mark {
         times.mark(now, mark);

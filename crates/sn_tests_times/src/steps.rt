@@ -5,9 +5,10 @@ use crate::words::{stamps_text, time_of};
 use anyhow::{Context, Result, bail, ensure};
 use hex::encode as digits_of;
 use sn_fuse::Time;
-use sn_times::{Mark, Times};
+use sn_times::{Mark, Times, TreeName};
 use sn_times_file::{Unwritable, Writer, keep, restore};
 use std::alloc::Global;
+use std::str;
 
 /// Bytes of a root, at most.
 const ROOT_MAX: usize = 4_096;
@@ -49,11 +50,13 @@ impl<'a> Step<'a> {
     pub fn answer(self, session: &mut Session) -> Result<String> {
         match self.word(0)? {
             "times" => stamps_text(self.alloc, session.times.stamps(self.number(1)?)),
+            "names" => self.names(&session.times),
             "file" => self.file(&session.times),
             "left" => self.leave(session),
+            "kept" => self.kept(&session.times),
             "mount" => self.mount(session),
             _ => {
-                session.times.mark(self.time(1)?, self.mark()?);
+                self.mark(&mut session.times)?;
                 self.told("-")
             }
         }
@@ -87,21 +90,50 @@ impl<'a> Step<'a> {
         Ok(String::from_str(self.alloc, word)?)
     }
 
-    fn mark(self) -> Result<Mark> {
+    /// Marks times, or tells of a snapshot.
+    fn mark(self, times: &mut Times) -> Result<()> {
+        let now = self.time(1)?;
+        match self.word(0)? {
+            "frozen" => {
+                let (home, name) = (self.number(2)?, self.word(3)?.as_bytes());
+                let name = TreeName::new(name);
+                times.mark(now, Mark::Frozen { home, name });
+            }
+            "thawed" => {
+                let name = TreeName::new(self.word(2)?.as_bytes());
+                times.mark(now, Mark::Thawed { name });
+            }
+            "met" => {
+                let (home, name) = (self.number(2)?, self.word(3)?.as_bytes());
+                let name = TreeName::new(name);
+                times.mark(now, Mark::Met { home, name });
+            }
+            verb => self.mark_object(times, now, verb)?,
+        }
+        Ok(())
+    }
+
+    /// Marks the times of an object.
+    fn mark_object(self, times: &mut Times, now: Time, verb: &str) -> Result<()> {
         let number = self.number(2)?;
-        Ok(match self.word(0)? {
-            "made" => Mark::Made { number },
-            "modified" => Mark::Modified { number },
-            "changed" => Mark::Changed { number },
-            "dated" => Mark::Dated {
-                number,
-                accessed: self.given(3)?,
-                modified: self.given(4)?,
-            },
-            "frozen" => Mark::Frozen { home: number },
-            "thawed" => Mark::Thawed { home: number },
-            verb => bail!("no such verb: {verb}"),
-        })
+        match verb {
+            "made" => times.mark(now, Mark::Made { number }),
+            "modified" => times.mark(now, Mark::Modified { number }),
+            "changed" => times.mark(now, Mark::Changed { number }),
+            "dated" => {
+                let (accessed, modified) = (self.given(3)?, self.given(4)?);
+                times.mark(
+                    now,
+                    Mark::Dated {
+                        number,
+                        accessed,
+                        modified,
+                    },
+                );
+            }
+            _ => bail!("no such verb: {verb}"),
+        }
+        Ok(())
     }
 
     fn root(self, at: usize) -> Result<&'a [u8]>
@@ -112,14 +144,45 @@ impl<'a> Step<'a> {
         Ok(root)
     }
 
+    /// The bytes that keep times for the next mount, `None` where they can't be kept.
+    fn bytes_kept(self, times: &Times) -> Result<Option<Vec<u8>>> {
+        match keep(self.alloc, self.root(1)?, times) {
+            Ok(bytes) => Ok(Some(bytes)),
+            Err(Unwritable::Memory) => bail!("no memory for the file"),
+            Err(_) => Ok(None),
+        }
+    }
+
     /// The mount ends well.
     fn leave(self, session: &mut Session) -> Result<String> {
-        match keep(self.alloc, self.root(1)?, &session.times) {
-            Ok(bytes) => session.file = bytes,
-            Err(Unwritable::Time) => return self.told("unwritable"),
-            Err(Unwritable::Memory) => bail!("no memory for the file"),
+        match self.bytes_kept(&session.times)? {
+            Some(bytes) => session.file = bytes,
+            None => return self.told("unwritable"),
         }
         self.told("-")
+    }
+
+    /// What a mount that ends well leaves, in hexadecimal.
+    fn kept(self, times: &Times) -> Result<String> {
+        match self.bytes_kept(times)? {
+            Some(bytes) => Ok(digits_of(self.alloc, bytes.as_slice())?),
+            None => self.told("unwritable"),
+        }
+    }
+
+    /// The names of the snapshots that are known.
+    fn names(self, times: &Times) -> Result<String> {
+        let mut text = String::new(self.alloc);
+        for name in times.names() {
+            if !text.is_empty() {
+                text.push(',')?;
+            }
+            text.push_str(str::from_utf8(name.as_slice())?)?;
+        }
+        if text.is_empty() {
+            return self.told("none");
+        }
+        Ok(text)
     }
 
     /// The next mount.

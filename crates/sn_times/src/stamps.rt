@@ -3,6 +3,7 @@ ghost use Rattle.std.specs.Prelude.{◌≡◌};
 ghost use Rattle.sn_times.specs.Dates.{all_at, changed_at, dated_at, modified_at};
 
 use sn_fuse::Time;
+use std::marker::Model;
 
 /// The times of an object (POSIX.1-2017, 4.9 "File Times Update").
 #[derive(Clone, Copy, PartialEq, Eq, Debug)]
@@ -12,9 +13,39 @@ pub struct Stamps {
     pub changed: Time,
 }
 
-/// What a message marks for update.
-#[derive(Clone, Copy, PartialEq, Eq, Debug)]
-pub enum Mark {
+/// The name of a snapshot. Seen as its bytes.
+#[derive(Drop)]
+pub struct TreeName<'a> {
+    bytes: &'a [u8],
+}
+
+impl<'a> Model for TreeName<'a> {
+    ghost use Rattle.std.specs.Prelude.{ℕ, List};
+
+    ghost Value = { List ℕ };
+
+    ghost view = { λ name. name.bytes.now };
+}
+
+impl<'a> TreeName<'a> {
+    /// The name with these bytes. Any may be given.
+    pub fn new(bytes: &'a [u8]) -> Self
+        ensures { result ≡ bytes.now }
+    {
+        TreeName { bytes }
+    }
+
+    /// Its bytes.
+    pub fn as_bytes(&self) -> &'a [u8]
+        ensures { result.now ≡ self.now }
+    {
+        self.bytes
+    }
+}
+
+/// What a message marks for update, and what it tells of a snapshot.
+#[derive(Drop)]
+pub enum Mark<'a> {
     /// The object with this number was made: all three times are now.
     Made {
         number: u64,
@@ -36,10 +67,16 @@ pub enum Mark {
     /// A snapshot was made, whose objects have this home: they get the times that those of the live tree with the same numbers have.
     Frozen {
         home: u64,
+        name: TreeName<'a>,
     },
-    /// The snapshot whose objects have this home is gone.
+    /// The snapshot of this name is gone.
     Thawed {
+        name: TreeName<'a>,
+    },
+    /// The objects of the snapshot of this name have this home: they get the times that wait for it.
+    Met {
         home: u64,
+        name: TreeName<'a>,
     },
 }
 

@@ -1,15 +1,18 @@
 //! The times of all objects of a mount.
-ghost use Rattle.std.specs.Prelude.{◌≡◌, ◌≢◌, None, Some, OnOk, OnErr};
+ghost use Rattle.std.specs.Prelude.{◌≡◌, ◌≢◌, None, Some, OnOk, OnErr, map as each};
 ghost use Rattle.std.specs.FinMap as map;
 ghost use Rattle.std.specs.Option.{option_copied};
-ghost use Rattle.sn_times.specs.Dates.{IsExact, IsMarked, KeepsNone, TakesMemory, all_forgotten, frozen, own_at, put, stamps_at, thawed, with_tree};
+ghost use Rattle.std.specs.Vec.{vec_items};
+ghost use Rattle.sn_times.specs.Dates as dates;
+ghost use Rattle.sn_times.specs.Dates.{IsExact, IsMarked, KeepsNone, TakesMemory, all_forgotten, frozen, frozen_as, met, moved, named_tree, own_at, put, stamps_at, thawed, with_name, with_tree, without};
 
 use crate::stamps::{Mark, Stamps};
 use crate::tree::TreeTimes;
 use sn_fuse::Time;
+use sn_maps::NameMap;
 use std::alloc::{AllocError, Global};
 use std::collections::BTreeMap;
-use std::collections::btree_map::Iter;
+use std::collections::btree_map::{Iter, Keys};
 use std::marker::Model;
 
 /// How many numbers a tree has.
@@ -18,11 +21,15 @@ const NUMBERS: u64 = 65_536;
 /// The home of the live tree.
 const LIVE: u64 = 0;
 
+/// The first home that no number has. From it on are the times that wait for the snapshots of an earlier mount.
+pub const FIRST_WAITING: u64 = 1 << 48;
+
 /// The times of the objects of a mount, by their numbers: 65,536 times the home of an object's tree, and its number there.
 #[derive(Drop)]
 pub struct Times {
     base: Time,
     trees: BTreeMap<u64, TreeTimes>,
+    homes: NameMap<u64>,
     alloc: Global,
 }
 
@@ -37,7 +44,7 @@ impl Model for Times {
 
     ghost coded = { Prim.hlevel (codes, map.code) };
 
-    ghost view = { λ t. record { base = t.base; trees = seen_by nat_cmp (λ (tree : Tree). tree) t.trees.entries } };
+    ghost view = { λ t. record { base = t.base; trees = seen_by nat_cmp (λ (tree : Tree). tree) t.trees.entries; homes = t.homes } };
 }
 
 impl Times {
@@ -48,6 +55,7 @@ impl Times {
         Times {
             base,
             trees: BTreeMap::new(alloc),
+            homes: NameMap::new(alloc),
             alloc,
         }
     }
@@ -82,6 +90,31 @@ impl Times {
         Ok(())
     }
 
+    /// The names of snapshots of which times are kept, in the order of their bytes.
+    pub fn names(&self) -> Keys<'_, Vec<u8>, u64>
+        ensures { each vec_items result ≡ map.keys self.now.homes }
+    {
+        self.homes.names()
+    }
+
+    /// What is kept of the snapshot with this name: `None` also where all its objects have the time of those of which nothing is kept.
+    pub fn named(&self, name: &[u8]) -> Option<&TreeTimes>
+        ensures { option_copied result ≡ named_tree self.now name.now }
+    {
+        let home = self.homes.get(name)?;
+        self.tree(home)
+    }
+
+    /// Says that the snapshot with this name has this home. Where memory for that is refused, nothing changes.
+    pub fn put_name(&mut self, home: u64, name: &[u8]) -> Result<(), AllocError>
+        ensures ok { OnOk result (self.new ≡ with_name self.old name.now home) }
+        ensures err { OnErr result (self.new ≡ self.old) }
+    {
+        let name = Vec::from_slice(self.alloc, name)?;
+        self.homes.insert(name, home)?;
+        Ok(())
+    }
+
     /// The times of the object with this number.
     pub fn stamps(&self, number: u64) -> Stamps
         ensures { result ≡ stamps_at self.now number }
@@ -113,9 +146,7 @@ impl Times {
 
     // The objects of a home get the times of the live ones.
     fn freeze(&mut self, home: u64) -> Result<(), AllocError>
-        ensures ok { OnOk result (self.new ≡ frozen self.old home) }
-        ensures err { OnErr result (self.new ≡ self.old) }
-        ensures kept { OnErr result (map.get self.old.trees 0 ≢ None) }
+        ensures { OnOk result (self.new ≡ frozen self.old home) }
     {
         match self.trees.get(&LIVE) {
             Some(live) => {
@@ -138,19 +169,84 @@ impl Times {
         }
     }
 
+    // No times are kept any longer of the snapshot with a name.
+    fn thaw_named(&mut self, name: &[u8])
+        ensures { self.new ≡ without self.old name.now }
+    {
+        if let Some(home) = self.homes.get(name) {
+            self.thaw(home);
+        }
+    }
+
+    // The objects of a home, which is that of the snapshot with a name from then on, get the times of the live ones.
+    fn freeze_as(&mut self, home: u64, name: &[u8]) -> Result<(), AllocError>
+        ensures { OnOk result (self.new ≡ frozen_as self.old home name.now) }
+    {
+        self.thaw_named(name);
+        self.freeze(home)?;
+        self.put_name(home, name)
+    }
+
+    // The snapshot with a name is gone.
+    fn drop_name(&mut self, name: &[u8])
+        ensures { self.new ≡ dates.gone self.old name.now }
+    {
+        self.thaw_named(name);
+        self.homes.remove(name);
+    }
+
+    // The times of one home are those of another.
+    fn move_tree(&mut self, home: u64, other: u64) -> Result<(), AllocError>
+        ensures { OnOk result (self.new ≡ moved self.old home other) }
+    {
+        match self.trees.remove(&home) {
+            Some(tree) => {
+                self.trees.insert(other, tree)?;
+            }
+            None => {
+                self.trees.remove(&other);
+            }
+        }
+        Ok(())
+    }
+
+    // Times that wait are those of a snapshot's home.
+    fn take(&mut self, kept: Option<u64>, home: u64) -> Result<(), AllocError>
+        ensures { OnOk result (self.new ≡ dates.taken_if self.old kept home) }
+    {
+        match kept {
+            Some(kept) if kept >= FIRST_WAITING => self.move_tree(kept, home),
+            _ => Ok(()),
+        }
+    }
+
+    // The snapshot with a name has a home.
+    fn meet(&mut self, home: u64, name: &[u8]) -> Result<(), AllocError>
+        ensures ok { OnOk result (self.new ≡ met self.old home name.now) }
+        ensures unmet { OnErr result (map.get self.old.homes name.now ≢ Some home) }
+    {
+        let kept = self.homes.get(name);
+        if kept == Some(home) {
+            return Ok(());
+        }
+        self.put_name(home, name)?;
+        self.take(kept, home)
+    }
+
     // Every object has this time from then on.
     fn forget(&mut self, now: Time)
         ensures { self.new ≡ all_forgotten now }
     {
         self.base = now;
         self.trees.clear();
+        self.homes = NameMap::new(self.alloc);
     }
 
     // Marks times for update, and leaves them where memory is refused.
-    fn try_mark(&mut self, now: Time, mark: Mark) -> Result<(), AllocError>
-        ensures exact { OnOk result (IsExact mark now self.old self.new) }
-        ensures gone { KeepsNone mark self.new }
-        ensures err { OnErr result (TakesMemory mark self.old) }
+    fn try_mark(&mut self, now: Time, mark: Mark<'_>) -> Result<(), AllocError>
+        ensures exact { OnOk result (IsExact mark.entry now self.old self.new) }
+        ensures gone { KeepsNone mark.entry self.old self.new }
+        ensures err { OnErr result (TakesMemory mark.entry self.old) }
     {
         match mark {
             Mark::Made { number } => self.put(number, Stamps::at(now)),
@@ -170,11 +266,12 @@ impl Times {
                 let stamps = self.stamps(number).dated(now, accessed, modified);
                 self.put(number, stamps)
             }
-            Mark::Frozen { home } => self.freeze(home),
-            Mark::Thawed { home } => {
-                self.thaw(home);
+            Mark::Frozen { home, name } => self.freeze_as(home, name.as_bytes()),
+            Mark::Thawed { name } => {
+                self.drop_name(name.as_bytes());
                 Ok(())
             }
+            Mark::Met { home, name } => self.meet(home, name.as_bytes()),
         }
     }
 
@@ -183,9 +280,11 @@ impl Times {
     ///
     /// Proved, also of `Times::stamps`: A mark changes the times that POSIX says and no others, also in snapshots, which keep those of their moment; or,
     /// where it needed memory that was refused, every object has the time of the mark.
-    pub fn mark(&mut self, now: Time, mark: Mark)
-        ensures marked { IsMarked mark now self.old self.new }
-        ensures gone { KeepsNone mark self.new }
+    ///
+    /// Proved: A snapshot that is met takes the times that wait under its name and no others, and none are kept under the name of one that is gone, or was made anew.
+    pub fn mark(&mut self, now: Time, mark: Mark<'_>)
+        ensures marked { IsMarked mark.entry now self.old self.new }
+        ensures gone { KeepsNone mark.entry self.old self.new }
     {
         if self.try_mark(now, mark).is_err() {
             self.forget(now);

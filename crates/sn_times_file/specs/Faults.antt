@@ -8,7 +8,7 @@ use Rattle.sn_times_file.specs.declared.fault.Unwritable.TheVariants as unwritab
 -- a value that can't be kept is refused for that alone
 abbrev pub IsRefused : Type 0 → Unwritable → Type 0
 IsRefused Fits unwritable.Memory = Unit {0}
-IsRefused Fits unwritable.Time = ¬ Fits
+IsRefused Fits other = ¬ Fits
 
 -- this value is read, and these bytes are left, or memory was refused
 abbrev pub Reads : {A : Type 0} → Result A Unreadable → List ℕ → A → List ℕ → Type 0

@@ -41,8 +41,12 @@ IsTree tree = IsTime tree.base × (map.len tree.own < 2 ^ 64) × IsOwn tree.own
 abbrev pub IsNamed : Named → Type 0
 IsNamed named = (length named.name ≤ 255) × IsTree named.tree
 
+-- as many trees as an image can have, which are the live one and 31 snapshots
+abbrev pub AreSections : List Named → Type 0
+AreSections sections = (length sections ≤ 32) × AllByRecursion IsNamed sections
+
 abbrev pub IsKept : Kept → Type 0
-IsKept kept = (length kept.root ≤ 4096) × AllByRecursion IsNamed kept.sections
+IsKept kept = (length kept.root ≤ 4096) × AreSections kept.sections
 
 -- ---- spellings
 

@@ -9,6 +9,10 @@ pub enum Unwritable {
     Memory,
     /// A time has 10^9 nanoseconds or more.
     Time,
+    /// The name of a snapshot has over 255 bytes.
+    Name,
+    /// There are more snapshots than an image can have.
+    Snapshots,
 }
 
 impl From<AllocError> for Unwritable {

@@ -6,7 +6,7 @@
 //! | version, 2 | u32 |
 //! | size of the root's identity, at most 4,096 | u32 |
 //! | the root's identity: times count only where it is the mounted one's | so many |
-//! | sections, to the checksum | |
+//! | at most 32 sections, to the checksum | |
 //! | SHA-256 of all before | 32 |
 //!
 //! | field of a section | bytes |
@@ -17,7 +17,8 @@
 //! | how many objects have times of their own | u64 |
 //! | their numbers and times, by rising numbers (`entry`) | 38 each |
 //!
-//! All numbers have their lowest byte first. The names of trees are the caller's, as are the root's identity and the order of the sections.
+//! All numbers have their lowest byte first. The live tree has an empty name, and each other section that of a snapshot, in the order of their bytes. The root's identity
+//! is the caller's.
 //!
 //! The model is [`Kept`](../specs/Kept.antt): the root's identity, and sections, each a name, a base and a finite map of times by numbers.
 //! `spelling` is its one spelling. [`decode`] takes any bytes, and reads exactly what is the spelling of something: [`Writer`] writes such bytes, and

@@ -1,11 +1,11 @@
 //! Times, read from bytes.
 ghost use Rattle.std.specs.Prelude.{◌≡◌, ℕ, ◌^◌, ◌<◌, ◌≤◌, List, ◌∷◌, ◌++◌, length, Some, IfSome, IfOk, MatchResult};
-ghost use Rattle.std.specs.List.{AllByRecursion, flat_map};
+ghost use Rattle.std.specs.List.{flat_map};
 ghost use Rattle.std.specs.FinMap as map;
 ghost use Rattle.sn_fuse.specs.declared.operation.Time.{Time as TheTime};
 ghost use Rattle.sn_times.specs.Dates.{Tree};
 ghost use Rattle.sn_times_file.specs.Faults.{Reads};
-ghost use Rattle.sn_times_file.specs.Kept.{IsKept, IsNamed, IsOwn, IsTime, IsTree, Kept, Named, Own, entry_bytes, head_bytes, named_bytes, own_bytes, spelling, time_bytes, tree_bytes};
+ghost use Rattle.sn_times_file.specs.Kept.{AreSections, IsKept, IsNamed, IsOwn, IsTime, IsTree, Kept, Named, Own, entry_bytes, head_bytes, named_bytes, own_bytes, spelling, time_bytes, tree_bytes};
 ghost use Rattle.sn_times_file.specs.declared.fault.Unreadable.TheVariants.{Memory};
 
 use crate::checksum::unsealed;
@@ -20,6 +20,9 @@ use std::alloc::Global;
 
 /// Bytes of a root, at most.
 const ROOT_MAX: u32 = 4_096;
+
+/// The most sections: as many as an image can have trees.
+const SECTIONS_MAX: usize = 32;
 
 // What comes before the root, and the root.
 fn read_root(alloc: Global, reader: &mut Reader<'_>) -> Result<Vec<u8>, Unreadable>
@@ -141,13 +144,16 @@ fn read_section(alloc: Global, reader: &mut Reader<'_>) -> Result<Section, Unrea
 
 // All sections to the end.
 fn read_sections(alloc: Global, reader: &mut Reader<'_>) -> Result<Vec<Section>, Unreadable>
-    ensures found { IfOk result (λ sections. AllByRecursion IsNamed sections.items) }
+    ensures found { IfOk result (λ sections. AreSections sections.items) }
     ensures read { IfOk result (λ sections. reader.old ≡ flat_map named_bytes sections.items) }
-    ensures only { (all : List Named) → AllByRecursion IsNamed all → reader.old ≡ flat_map named_bytes all
+    ensures only { (all : List Named) → AreSections all → reader.old ≡ flat_map named_bytes all
         → MatchResult result (λ sections. sections.items ≡ all) (λ fault. fault ≡ Memory) }
 {
     let mut sections = Vec::new(alloc);
     while reader.remaining() > 0 {
+        if sections.len() >= SECTIONS_MAX {
+            return Err(Unreadable::Misspelt);
+        }
         let section = read_section(alloc, reader)?;
         sections.push(section)?;
     }

@@ -23,8 +23,8 @@ fn taken<R: Files + AllocGlobal, D: Device>(
     restore(rt.alloc(), identity.as_slice(), bytes.as_slice(), now).ok()
 }
 
-/// The times of an image's objects at a mount of its device at the time `now`. Live objects have those of the file beside the image, which is removed, where
-/// the image is as it was left with it; all others have the time of the mount.
+/// The times of an image's objects at a mount of its device at the time `now`. Live objects, and those of each snapshot that the mounts before showed, have those of the
+/// file beside the image, which is removed, where the image is as it was left with it; all others have the time of the mount.
 pub fn take_times<R: Files + AllocGlobal, D: Device>(
     rt: &R,
     device: &mut D,

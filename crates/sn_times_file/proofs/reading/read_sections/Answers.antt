@@ -1,4 +1,4 @@
-use Rattle.std.proofs.Common.{◌≡◌, ℕ, ◌<◌, List, [], ◌∷◌, ◌++◌, length, sym, ap, ◌∙◌, append_assoc, arith}
+use Rattle.std.proofs.Common.{◌≡◌, ℕ, ◌<◌, List, [], ◌∷◌, ◌++◌, length, sym, ap, ◌∙◌, append_assoc, length-append, arith}
 use Rattle.std.specs.List.{flat_map}
 use Rattle.std.proofs.lemmas.Result.{err_from_is_err_and}
 use Rattle.sn_bytes.proofs.Reading.{bytes_more, each_more}
@@ -6,6 +6,13 @@ use Rattle.sn_times_file.specs.declared.fault.Unreadable.TheVariants.{Memory}
 use Rattle.sn_times_file.specs.Kept.{IsNamed, Named, named_bytes}
 use Rattle.sn_times_file.proofs.Left.{next_left, none_more}
 use Rattle.sn_times_file.proofs.reading.read_sections.Goals as goal
+
+pub returns-then-len-ge-SECTIONS_MAX-clause-only : goal.returns-then-len-ge-SECTIONS_MAX-clause-only
+returns-then-len-ge-SECTIONS_MAX-clause-only c = λ all are e.
+    let items = c.loop-alloc.sections.items in
+    let some : 0 < length c.loop-alloc.reader = omega (arith, c.remaining.ensures, c.loop-alloc-test.true) in
+    let next = next_left items all c.loop-alloc.reader some (c.loop-alloc.invariant.only all are e) in
+    absurd (omega (arith, are.0, c.len.ensures, c.if-len-ge-SECTIONS_MAX.true, ap length next.2.whole, length-append (items ++ next.0 ∷ []) next.1, length-append items (next.0 ∷ [])))
 
 pub returns-in_err-section-clause-only : goal.returns-in_err-section-clause-only
 returns-in_err-section-clause-only c = λ all each e.
@@ -22,6 +29,7 @@ loop-alloc-preserved c =
     let left = c.read_section.new.reader in
     let pushed : c.push.new.self.items ≡ items ++ section ∷ [] = c.in_ok-push.ensures.items in
     record {
+      few = omega (arith, ap length pushed, length-append items (section ∷ []), c.len.ensures, c.if-len-ge-SECTIONS_MAX.false);
       each = rw pushed (each_more IsNamed items section c.loop-alloc.invariant.each c.in_ok-section.ensures.found);
       read = c.loop-alloc.invariant.read ∙ ap (λ (r : List ℕ). flat_map named_bytes items ++ r) c.in_ok-section.ensures.read ∙ sym (append_assoc (flat_map named_bytes items) (named_bytes section) left)
           ∙ ap (λ (b : List ℕ). b ++ left) (sym (bytes_more named_bytes items section) ∙ ap (flat_map named_bytes) (sym pushed));

@@ -1,37 +1,27 @@
-use Rattle.std.proofs.Common.{◌≡◌, None, Some, ap, ◌∙◌}
+use Rattle.std.proofs.Common.{None, Some, ap, ◌∙◌}
 use Rattle.std.specs.FinMap as map
 use Rattle.sn_times.specs.Dates.{Dates, Tree, with_tree}
-use Rattle.sn_times.proofs.DatesLemmas.{found, kept-inserted, kept-removed, on_err}
+use Rattle.sn_times.proofs.DatesLemmas.{found, kept-inserted, kept-removed}
 use Rattle.sn_times.proofs.times.Times.freeze.Goals as goal
 use Rattle.sn_times.proofs.times.Times.freeze.Goals.{in-Some-1, in-None-1, in-Some-2, in-None-2}
 
-pub returns-in_ok-insert-in-Some-clause-ok : goal.returns-in_ok-insert-in-Some-clause-ok
-returns-in_ok-insert-in-Some-clause-ok c =
+pub returns-in_ok-insert-in-Some : goal.returns-in_ok-insert-in-Some
+returns-in_ok-insert-in-Some c =
     let inside = c.self.inside in
     let home = c.args.home in
     let copy = c.in_ok-copy-in-Some.copy in
     let put =
-    kept-inserted inside.base inside.trees.entries c.insert.new.self.entries home copy c.in_ok-insert-in-Some.ensures.updates.0
+    kept-inserted inside.base inside.trees.entries c.insert.new.self.entries inside.homes home copy c.in_ok-insert-in-Some.ensures.updates.0
     ∙ ap (λ (d : Dates). with_tree d home (Some copy)) c.self.view_is
-    ∙ ap (with_tree c.args.self.now home) (ap (λ (t : Tree). Some t) c.in_ok-copy-in-Some.ensures ∙ c.in-Some.ensures.value ∙ found inside.base inside.trees.entries 0 ∙ ap (λ (d : Dates). map.get d.trees 0) c.self.view_is) in
+    ∙ ap (with_tree c.args.self.now home) (ap (λ (t : Tree). Some t) c.in_ok-copy-in-Some.ensures ∙ c.in-Some.ensures.value ∙ found inside.base inside.trees.entries inside.homes 0 ∙ ap (λ (d : Dates). map.get d.trees 0) c.self.view_is) in
     elim c.match-branch-3.branch [ in-Some-1 w ↦ w.self-is ∙ put | in-None-1 w ↦ w.self-is ∙ put ]
 
-pub returns-in-None-clause-ok : goal.returns-in-None-clause-ok
-returns-in-None-clause-ok c =
+pub returns-in-None : goal.returns-in-None
+returns-in-None c =
     let inside = c.self.inside in
     let home = c.args.home in
     let gone =
-    kept-removed inside.base inside.trees.entries c.remove.new.self.entries home c.remove.ensures.updates.0
+    kept-removed inside.base inside.trees.entries c.remove.new.self.entries inside.homes home c.remove.ensures.updates.0
     ∙ ap (λ (d : Dates). with_tree d home None) c.self.view_is
-    ∙ ap (with_tree c.args.self.now home) (c.in-None.ensures.value ∙ found inside.base inside.trees.entries 0 ∙ ap (λ (d : Dates). map.get d.trees 0) c.self.view_is) in
+    ∙ ap (with_tree c.args.self.now home) (c.in-None.ensures.value ∙ found inside.base inside.trees.entries inside.homes 0 ∙ ap (λ (d : Dates). map.get d.trees 0) c.self.view_is) in
     elim c.match-remove.branch [ in-Some-2 w ↦ w.self-is ∙ gone | in-None-2 w ↦ w.self-is ∙ gone ]
-
-pub returns-in_err-copy-in-Some-clause-kept : goal.returns-in_err-copy-in-Some-clause-kept
-returns-in_err-copy-in-Some-clause-kept c =
-    let live = c.in-Some.ensures.value ∙ found c.self.inside.base c.self.inside.trees.entries 0 ∙ ap (λ (d : Dates). map.get d.trees 0) c.self.view_is in
-    on_err c.from_residual.result (λ none. let never : Some c.in-Some.live.now ≡ None = live ∙ none in cc)
-
-pub returns-in_err-insert-in-Some-clause-kept : goal.returns-in_err-insert-in-Some-clause-kept
-returns-in_err-insert-in-Some-clause-kept c =
-    let live = c.in-Some.ensures.value ∙ found c.self.inside.base c.self.inside.trees.entries 0 ∙ ap (λ (d : Dates). map.get d.trees 0) c.self.view_is in
-    on_err c.from_residual-in_err-insert-in-Some.result (λ none. let never : Some c.in-Some.live.now ≡ None = live ∙ none in cc)
