@@ -1,4 +1,5 @@
 //! The file beside an image.
+ghost use Rattle.std.specs.Prelude.{◌≡◌, ◌++◌, IfOk, string_bytes};
 
 use std::alloc::Global;
 use std::fs::{Files, OpenFile, OpenOptions};
@@ -12,7 +13,9 @@ const MODE: u32 = 0o600;
 const LONGEST: u64 = 1 << 27;
 
 /// The path of the file, and that of one which is to take its place.
-fn path_of(alloc: Global, image: &str, ending: &str) -> io::Result<String> {
+fn path_of(alloc: Global, image: &str, ending: &str) -> io::Result<String>
+    ensures { IfOk result (λ path. string_bytes path ≡ image.now ++ ending.now) }
+{
     Ok(format!(in alloc; "{image}{ending}")?)
 }
 

@@ -1,4 +1,11 @@
 //! Times from one mount to the next.
+ghost use Rattle.std.specs.Prelude.{◌≡◌, IfSome, IsTrue};
+ghost use Rattle.sn_device.specs.Disk.{reads};
+ghost use Rattle.sn_times_file.specs.Keeping.{IsRestored, left_by};
+ghost use Rattle.sn_times_file.specs.Kept.{spelling};
+ghost use Rattle.sn_times_image.specs.Beginning.{MayBegin};
+ghost use Rattle.sn_times_image.specs.Identity.{identity_of};
+ghost use Rattle.sn_times_image.specs.Looking.{OnlyReads};
 
 use crate::file::{leave, take};
 use crate::identity::identity_of;
@@ -10,6 +17,16 @@ use std::alloc::Global;
 use std::fs::{Files, OpenFile};
 use std::os::unix::fs::FileExt;
 
+/// The times with which a mount begins, by the bytes that were beside the image. `None` where the device can't be read, or memory is refused.
+fn begun_by<D: Device>(alloc: Global, device: &mut D, bytes: &[u8], now: Time) -> Option<Times>
+    ensures begun { IsTrue D.tells_bytes → IfSome result (λ times. IsRestored (identity_of (reads (D.disk device.old))) bytes.now now times) }
+    ensures same { IsTrue D.tells_bytes → D.disk device.new ≡ D.disk device.old }
+    ensures counts { OnlyReads (D.status device.old) (D.status device.new) }
+{
+    let identity = identity_of(device)?;
+    restore(alloc, identity.as_slice(), bytes, now).ok()
+}
+
 /// The times with which a mount begins by the file beside an image, which is removed. `None` where there is none, the device can't be read, or memory
 /// is refused.
 fn taken<R: Files + AllocGlobal, D: Device>(
@@ -17,20 +34,31 @@ fn taken<R: Files + AllocGlobal, D: Device>(
     device: &mut D,
     image: &str,
     now: Time,
-) -> Option<Times> {
+) -> Option<Times>
+    ensures begun { IsTrue D.tells_bytes → IfSome result (λ times. MayBegin (reads (D.disk device.old)) now times) }
+    ensures same { IsTrue D.tells_bytes → D.disk device.new ≡ D.disk device.old }
+    ensures counts { OnlyReads (D.status device.old) (D.status device.new) }
+{
     let bytes = take(rt, image).ok()?;
-    let identity = identity_of(device)?;
-    restore(rt.alloc(), identity.as_slice(), bytes.as_slice(), now).ok()
+    begun_by(rt.alloc(), device, bytes.as_slice(), now)
 }
 
 /// The times of an image's objects at a mount of its device at the time `now`. Live objects, and those of each snapshot that the mounts before showed, have those of the
 /// file beside the image, which is removed, where the image is as it was left with it; all others have the time of the mount.
+///
+/// Proved: A mount begins with times that were kept with the roots, their gates and the first gates of the log as they are, or each object has the time
+/// of the mount.
+/// Proved, also of `leave_times`: The device isn't written, also where it doesn't tell its bytes: at most a read that failed is counted.
 pub fn take_times<R: Files + AllocGlobal, D: Device>(
     rt: &R,
     device: &mut D,
     image: &str,
     now: Time,
-) -> Times {
+) -> Times
+    ensures begun { IsTrue D.tells_bytes → MayBegin (reads (D.disk device.old)) now result }
+    ensures same { IsTrue D.tells_bytes → D.disk device.new ≡ D.disk device.old }
+    ensures counts { OnlyReads (D.status device.old) (D.status device.new) }
+{
     match taken(rt, device, image, now) {
         Some(times) => times,
         None => Times::new(rt.alloc(), now),
@@ -38,7 +66,11 @@ pub fn take_times<R: Files + AllocGlobal, D: Device>(
 }
 
 /// The bytes of the file. `None` where a time can't be spelled, the device can't be read, or memory is refused.
-fn spelled<D: Device>(alloc: Global, device: &mut D, times: &Times) -> Option<Vec<u8>> {
+fn spelled<D: Device>(alloc: Global, device: &mut D, times: &Times) -> Option<Vec<u8>>
+    ensures spelled { IsTrue D.tells_bytes → IfSome result (λ bytes. bytes.items ≡ spelling (left_by (identity_of (reads (D.disk device.old))) times.now)) }
+    ensures same { IsTrue D.tells_bytes → D.disk device.new ≡ D.disk device.old }
+    ensures counts { OnlyReads (D.status device.old) (D.status device.new) }
+{
     let identity = identity_of(device)?;
     keep(alloc, identity.as_slice(), times).ok()
 }
@@ -50,7 +82,10 @@ pub fn leave_times<F: OpenFile + FileExt + Drop, R: Files<File = F> + AllocGloba
     device: &mut D,
     image: &str,
     times: &Times,
-) {
+)
+    ensures same { IsTrue D.tells_bytes → D.disk device.new ≡ D.disk device.old }
+    ensures counts { OnlyReads (D.status device.old) (D.status device.new) }
+{
     if let Some(bytes) = spelled(rt.alloc(), device, times) {
         let _ = leave(rt, image, bytes.as_slice());
     }

@@ -5,6 +5,10 @@
 //! which any later run, point or record changes some. Else all objects have the time of the mount, so that no time is older than the content that it is
 //! of.
 //!
+//! The model. `specs/Identity` says what the identity of an image is: SHA-256 of both root bodies, of their gates and of the first gate of each half of
+//! the log. By `identity_laws` images of one identity have the same newest root, or SHA-256 collides, and a new root or the first record of a half changes
+//! what the digest is of. `specs/Beginning` says with which times a mount begins.
+//!
 //! Nothing is promised of what a file holds, and no fault is told: without the file there are the times of the mount.
 //!
 //! The way through: `identity` reads what tells one end of an image from all others, `file` the file, and `keeping` puts them together.
@@ -18,5 +22,7 @@
 mod file;
 mod identity;
 mod keeping;
+mod laws;
 
 pub use keeping::{leave_times, take_times};
+pub use laws::identity_laws;

@@ -1,0 +1,4 @@
+pub mod Beginning
+pub mod Identity
+pub mod IdentityLaws
+pub mod Looking
