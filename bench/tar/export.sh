@@ -44,14 +44,17 @@ long=$(printf 'n%.0s' $(seq 200))
 
 "$program" export disk.img /.snapshot/friday/home >one.tar
 "$program" export disk.img /.snapshot/friday/home >two.tar
-cmp one.tar two.tar && echo "two exports of a snapshot: equal, $(stat -c %s one.tar) bytes"
+cmp one.tar two.tar
+echo "two exports of a snapshot: equal, $(stat -c %s one.tar) bytes"
 
 LC_ALL=C tar -tf one.tar >listed
 printf './\n./again\n./caf\\303\\251\n./empty/\n./%s\n./plan\n./shared/\n./shared/notes\n' "$long" | LC_ALL=C sort >wanted
-LC_ALL=C sort listed | cmp - wanted && echo "GNU tar: lists $(wc -l <listed) names"
+LC_ALL=C sort listed | cmp - wanted
+echo "GNU tar: lists $(wc -l <listed) names"
 mkdir extracted && tar -xf one.tar -C extracted --no-same-owner
 [ "$(cat extracted/plan extracted/again extracted/shared/notes "extracted/$long")" = "mondaymondaysome notesa long name" ]
-[ extracted/plan -ef extracted/again ] && echo "GNU tar: extracts files, hard links and long names"
+[ extracted/plan -ef extracted/again ]
+echo "GNU tar: extracts files, hard links and long names"
 python3 - one.tar <<'PYTHON'
 import sys, tarfile
 with tarfile.open(sys.argv[1], errors="surrogateescape") as read:
@@ -74,12 +77,15 @@ for path in /no /home/plan/x home /home/ /.snapshot; do
 done
 status=0
 "$program" export disk.img / >/dev/full 2>err || status=$?
-[ "$status $(head -n 1 err)" = "1 snapfs: file" ] && echo "refused paths and a full output: as told"
+[ "$status $(head -n 1 err)" = "1 snapfs: file" ]
+echo "refused paths and a full output: as told"
 
 if [ "$(id -u)" = 0 ] && command -v getfacl >/dev/null; then
     mkdir owned && tar --acls -xpf one.tar -C owned --numeric-owner
-    (cd owned && getfacl -n -c -p shared) | grep -q '^user:1002:r-x' && echo "tar --acls: gives the ACLs"
-    (cd owned && find shared -maxdepth 0 -printf '%U %G %m\n') | grep -qx '1001 100 3770' && echo "tar -p: gives owners and modes"
+    (cd owned && getfacl -n -c -p shared) | grep -q '^user:1002:r-x'
+    echo "tar --acls: gives the ACLs"
+    (cd owned && find shared -maxdepth 0 -printf '%U %G %m\n') | grep -qx '1001 100 3770'
+    echo "tar -p: gives owners and modes"
 fi
 
 # told_of DIR: the rights, kinds, modes, owners, sizes and numbers of links below it
