@@ -17,8 +17,9 @@ use Rattle.sn_serve.specs.declared.marks.Marks.{Marks}
 use Rattle.sn_serve.specs.declared.subjects.Subjects.{Subjects}
 use Rattle.sn_serve.specs.declared.told.Told.{Told}
 use Rattle.sn_serve.specs.declared.told.Told.TheVariants as told
-use Rattle.sn_serve_files.specs.Flags.{has, names_accessed, names_modified, sets_accessed, sets_modified, sets_size, sets_times}
+use Rattle.sn_serve_files.specs.Flags.{has}
 use Rattle.sn_serve_names.specs.Names.{image_of, is_snapshots_number}
+use Rattle.sn_serve_setattr.specs.Flags.{names_accessed, names_modified, sets_accessed, sets_modified, sets_size, sets_times}
 use Rattle.sn_times.specs.Dates.{Dates, IsMarked, stamps_at}
 use Rattle.sn_times.specs.declared.stamps.Mark.{Mark}
 use Rattle.sn_times.specs.declared.stamps.Mark.TheVariants.{Changed, Dated, Frozen, Made, Met, Modified, Thawed}

@@ -33,6 +33,7 @@ use Rattle.sn_serve_looks.specs.Messages as looks
 use Rattle.sn_serve_looks.specs.Room.{init}
 use Rattle.sn_serve_looks.specs.Xattrs.{IsRead}
 use Rattle.sn_serve_names.specs.Messages as names
+use Rattle.sn_serve_setattr.specs.Messages.{set_attributes}
 
 -- how a message is done: who checks, the login of who asks, as which user they ask, and to whom is given what is made
 pub record Way : Type 0 where
@@ -52,7 +53,7 @@ way_by asker = way_of asker.checker asker.sender (option_copied asker.status)
 unfoldable pub setattr : Way → ℕ → NewAttributes → Plan Attributes
 setattr way node new = do
   there ← looks.getattr way.login node
-  _ ← files.set_attributes way.login way.user node there new
+  _ ← set_attributes way.login way.user node there new
   looks.getattr way.login node
 
 -- The plan of a message on a node. What is done is durable when it is answered, so nothing is left for a FLUSH or an FSYNC to do. Symbolic

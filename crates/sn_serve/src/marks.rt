@@ -9,7 +9,7 @@ use bitflags::Flags;
 use sn_fuse::{NewAttributes, Op, Time};
 use sn_fuse_flags::{AttributeFlags, OpenFlags};
 use sn_fuse_replies::{Entry, Errno};
-use sn_serve_files::{names_accessed, names_modified, sets_accessed, sets_modified, sets_times};
+use sn_serve_setattr::{names_accessed, names_modified, sets_accessed, sets_modified, sets_times};
 use sn_times::{Mark, Times, TreeName};
 
 /// How many numbers a tree has.

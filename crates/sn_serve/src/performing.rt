@@ -21,11 +21,12 @@ use sn_listings::Listings;
 use sn_model::FileData;
 use sn_plan::{Asker, FileSystem, Server};
 use sn_serve_directories::{opendir, readdir, releasedir};
-use sn_serve_files::{Created, create, mknod, open, read, release, set_attributes, write};
+use sn_serve_files::{Created, create, mknod, open, read, release, write};
 use sn_serve_looks::{
     Xattr, batch_forget, forget, getattr, getxattr, init, listxattr, removexattr, setxattr, statfs,
 };
 use sn_serve_names::{access, link, lookup, mkdir, rename, rmdir, unlink};
+use sn_serve_setattr::set_attributes;
 
 /// The most bytes of a listing that are answered at once.
 const LISTING_MAX: u32 = 65_536;

@@ -1,4 +1,4 @@
-//! How a file is opened and made, and what a SETATTR sets.
+//! How a file is opened and made.
 ghost use Rattle.std.specs.Prelude.{◌≡◌};
 ghost use Rattle.sn_serve_files.specs.Flags as bits;
 

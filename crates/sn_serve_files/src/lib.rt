@@ -1,4 +1,5 @@
-//! The messages of a mount that are about files: OPEN, CREATE, MKNOD, READ, WRITE, RELEASE and SETATTR.
+//! The messages of a mount that are about files: OPEN, CREATE, MKNOD, READ, WRITE and RELEASE. And the size of a file, which
+//! a SETATTR sets (`sn_serve_setattr`).
 //!
 //! The model. Each message has a plan (`specs/Messages`), of the parts that `sn_plan` and `sn_serve_names` have, and the function that answers it
 //! does what the plan asks for. `specs/Flags` says what the flags of a message ask for, and `specs/Replies` what replies give.
@@ -10,7 +11,7 @@
 //! No descriptor is left open that no handle has: the logout of who asks closes theirs, and user 0 opens nothing before a handle is vacant.
 //!
 //! The way through: `flags` and `replies` have the small words, `opening` OPEN, `creating` CREATE and MKNOD, `content` READ, WRITE and
-//! RELEASE, `sizing` the size of a file, `dating` who may set times, `already` what a node is like before a SETATTR, and `setting` SETATTR.
+//! RELEASE, and `sizing` the size of a file.
 //!
 //! What the sources leave open is decided in `docs/DECISIONS.md`, under "Messages on files".
 //!
@@ -21,18 +22,14 @@
 //! ```
 #![tactic(auto)]
 
-mod already;
 mod content;
 mod creating;
-mod dating;
 mod flags;
 mod opening;
 mod replies;
-mod setting;
 mod sizing;
 
 pub use content::{read, release, write};
 pub use creating::{Created, create, mknod};
-pub use dating::{names_accessed, names_modified, sets_accessed, sets_modified, sets_times};
 pub use opening::open;
-pub use setting::set_attributes;
+pub use sizing::{size_at, size_of_open};

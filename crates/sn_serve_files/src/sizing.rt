@@ -58,7 +58,9 @@ fn ask_size<F: FileSystem>(
 }
 
 /// Sets the size of the file at a path, as who asks.
-pub(crate) fn size_at<F: FileSystem>(
+///
+/// Proved: Without a handle, a size is set through a file that who asks opens to write, and that their logout closes.
+pub fn size_at<F: FileSystem>(
     server: &mut Server<F>,
     asker: &Asker<'_>,
     path: &[u8],
@@ -72,8 +74,10 @@ pub(crate) fn size_at<F: FileSystem>(
     done(&reply)
 }
 
-/// Sets the size of an open file. No right is asked again.
-pub(crate) fn size_of_open<F: FileSystem>(
+/// Sets the size of the file that a handle stands for. No right is asked again.
+///
+/// Proved: With a handle, a size is set by one ftruncate through the descriptor that the handle stands for.
+pub fn size_of_open<F: FileSystem>(
     server: &mut Server<F>,
     handle: u64,
     file: OpenFile,

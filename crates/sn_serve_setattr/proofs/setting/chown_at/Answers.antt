@@ -1,0 +1,12 @@
+use Rattle.std.proofs.Common.{◌∙◌, ℕ, List, ap}
+use Rattle.sn_plan.specs.Asking.{login_by}
+use Rattle.sn_plan.proofs.Following.{does_same, is_held, is_not_held, takes_it}
+use Rattle.sn_serve_names.specs.Messages.{does}
+use Rattle.sn_serve_setattr.specs.Messages.{chown_call}
+use Rattle.sn_serve_setattr.proofs.setting.chown_at.Goals as goal
+
+pub returns-in_err-path : goal.returns-in_err-path
+returns-in_err-path g c = is_not_held c.word.result c.from_residual.result c.word.ensures.err c.in_err-path.was c.from_residual.ensures.1
+
+pub returns : goal.returns
+returns g c = takes_it (does_same (ap (does (login_by c.args.asker.now)) (c.chown_call.ensures ∙ ap (λ (w : List ℕ). chown_call w c.args.new.now) (is_held c.args.path.now c.word.result c.in_ok-path.path c.word.ensures.word c.in_ok-path.was))) c.does.ensures)
