@@ -27,6 +27,7 @@ WRITE_MAX, TAKEN, POSIX_ACL, DATA_BLOCKS, RESERVE = 28_672, 0x480069, 0x100000, 
 MODE, USER, GROUP, SIZE, BY_HANDLE = 1, 2, 4, 8, 64
 MODES, SET_GROUP = 0o3777, 0o2000
 TELLS_NODE = ("FOUND", "KNOWN", "MADE")
+CHANGING = ("mkdir", "chmod", "chown", "setacl", "rmdir", "unlink", "link", "rename", "write", "ftruncate", "snap-create", "snap-delete")
 WITHOUT_REPLY = ("FORGET", "BATCH_FORGET", "INTERRUPT")
 
 
@@ -148,6 +149,11 @@ def told_of(number, status):
     return f"{number} {kind}{mode} {links} {user}:{group} {size}"
 
 
+def is_change(call, *words):
+    """Whether a call is to change what is there. One that opens a file is where it may make or cut it."""
+    return call in CHANGING or call == "open" and not {"c", "t"}.isdisjoint(words[1])
+
+
 class Server:
     """A serve of the world. `asks` is the user, the group and the process of the message that is answered, or user 0 and group 0 where the kernel has
     checked it; `sender` is the user and the group of its head."""
@@ -156,7 +162,7 @@ class Server:
         world.crash()
         self.world, self.senders = world, senders
         self.table, self.homes, self.lists, self.files, self.asks = Table(), Homes(), Lists(), {}, None
-        self.times = Times(Clock(senders.first_seconds))
+        self.times, self.changed = Times(Clock(senders.first_seconds)), False
         for session in (0, *range(2, 64)):
             self.call(session, "login 0 0 -")
 
@@ -178,11 +184,14 @@ class Server:
 
     def perform(self, word, node, fields):
         """Does what a message asks for, and marks the times that this changes. What is told has none yet."""
-        about = self.about(word, node, fields)
+        about, self.changed = self.about(word, node, fields), False
         try:
             reply = getattr(self, f"do_{word.lower()}")(node, *fields)
         except No as error:
-            self.times.clock.now()
+            if self.changed:
+                self.times.mark_part(word, about, fields)
+            else:
+                self.times.clock.now()
             return f"ERROR {error}"
         self.times.mark(word, about, fields, self.number_told(reply))
         return reply
@@ -231,6 +240,7 @@ class Server:
         word, _, rest = self.world.answer(f"{session} {words}").partition(" ")
         if word == "err":
             raise No("ENOSPC" if rest == "ELIMIT" else rest)
+        self.changed = self.changed or is_change(*words.split(" "))
         return rest
 
     def as_caller(self, *calls):

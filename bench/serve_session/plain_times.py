@@ -10,6 +10,7 @@ from dataclasses import dataclass
 NUMBERS, FIRST_SNAPSHOT = 65536, 2
 SIZE, ACCESSED, MODIFIED, ACCESSED_NOW, MODIFIED_NOW = 8, 16, 32, 128, 256
 SECOND = 1_000_000_000
+MAKING = ("MKNOD", "MKDIR", "CREATE")
 
 
 class Clock:
@@ -57,6 +58,9 @@ class About:
     directory: int | None = None
     replaced: int | None = None
 
+    def is_live(self):
+        return self.node is not None and self.node < NUMBERS
+
 
 class Times:
     """The times of access, modification and change of each object that was marked since the mount, by its number."""
@@ -99,6 +103,15 @@ class Times:
     def mark(self, word, about, fields, told):
         now = self.clock.now()
         getattr(self, f"mark_{word.lower()}", self.mark_nothing)(about, fields, told, now)
+
+    def mark_part(self, word, about, fields):
+        """What a message marks that was refused once it had changed something. Of an object that it made no number is told, so all have the time of now."""
+        if word in MAKING:
+            self.kept, self.mounted = {}, self.clock.now()
+        elif word == "SETATTR":
+            self.mark_set(about, fields, self.clock.now())
+        else:
+            self.mark(word, about, fields, None)
 
     def mark_nothing(self, *_):
         pass
@@ -144,12 +157,14 @@ class Times:
 
     mark_rename2 = mark_rename
 
+    def mark_set(self, about, fields, now):
+        if about.is_live():
+            (self.modified if fields[0] & SIZE else self.changed)(about.node, now)
+
     def mark_setattr(self, about, fields, _, now):
-        if about.node is None or about.node >= NUMBERS:
-            return
-        (self.modified if fields[0] & SIZE else self.changed)(about.node, now)
+        self.mark_set(about, fields, now)
         dating = dating_of(fields)
-        if dating.is_asked:
+        if about.is_live() and dating.is_asked:
             self.set(about.node, *dating.at(now), now)
 
     def mark_setxattr(self, about, _, __, now):

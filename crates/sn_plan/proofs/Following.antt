@@ -1,6 +1,7 @@
 -- How the plan of a function is followed by those of what it calls.
-use Rattle.std.proofs.Common.{◌≡◌, ℕ, Bool, true, false, List, [], ◌∷◌, ◌++◌, subst, append_assoc, sym}
-use Rattle.std.proofs.lemmas.List.{append-nil}
+use Rattle.std.proofs.Common.{◌≡◌, ◌∙◌, ℕ, ◌&&◌, ◌||◌, Bool, true, false, List, [], ◌∷◌, ◌++◌, ap, refl, subst, append_assoc, sym}
+use Rattle.std.proofs.lemmas.List.{append-nil, list_any-append}
+use Rattle.std.specs.List.{list_any}
 use Rattle.std.specs.Prelude.{Option, Result, Ok, Err, IfErr, IfOk, IsErrAnd, if◌then◌else◌}
 use Rattle.sn_fuse_replies.specs.declared.errno.Errno.{Errno}
 use Rattle.sn_fuse_replies.specs.declared.errno.Errno.TheVariants.{ENOMEM}
@@ -8,7 +9,7 @@ use Rattle.sn_model.specs.declared.call.Call.{Call}
 use Rattle.sn_model.specs.declared.reply.Reply.{Reply}
 use Rattle.sn_node_table.specs.Told.{table_of}
 use Rattle.sn_walk.specs.declared.view.Attributes.{Attributes}
-use Rattle.sn_plan.specs.Acts.{Act, Called, Counted, Found, Seen, Grows}
+use Rattle.sn_plan.specs.Acts.{Act, Called, Counted, Found, Seen, Grows, is_answered, is_change, may_change}
 use Rattle.sn_plan.specs.Asking.{calls, counts, finds, sees}
 use Rattle.sn_plan.specs.Errors.{fault_errno}
 use Rattle.sn_plan.specs.Plans.{Becomes, Change, Kept, Plan, Gives, Refuses, Takes, Turns, Knows, Keeps, files_after, given, ◌>>=◌}
@@ -24,18 +25,50 @@ grows_none did a = record { grows = λ first before d. subst (did a first) (sym 
 grows_on : {F : Type 0} (did : F → F → List Act → Type 0) (a b c : F) (x y : List Act) → Grows (did a) (did b) x → Grows (did b) (did c) y → Grows (did a) (did c) (x ++ y)
 grows_on did a b c x y g h = record { grows = λ first before d. subst (did c first) (append_assoc before x y) (h.grows first (before ++ x) (g.grows first before d)) }
 
+-- ---- whether something was changed
+
+or-none : (b : Bool) → (b || false) ≡ b
+or-none true = refl
+or-none false = refl
+
+or_more : (a b c : Bool) → ((a || b) || c) ≡ (a || (b || c))
+or_more true b c = refl
+or_more false b c = refl
+
+-- nothing was
+unchanged : {F : Type 0} (s t : Server F) → s.changed ≡ t.changed → t.changed ≡ (s.changed || false)
+unchanged s t same = sym (or-none s.changed ∙ same)
+
+-- by one call
+changed_by : {F : Type 0} (s t : Server F) (b : Bool) → t.changed ≡ (s.changed || b) → t.changed ≡ (s.changed || (b || false))
+changed_by s t b is = is ∙ ap (λ (x : Bool). s.changed || x) (sym (or-none b))
+
+-- by some acts, and then by others
+changed_on : {F : Type 0} (s t u : Server F) (x y : List Act) → t.changed ≡ (s.changed || list_any is_change x) → u.changed ≡ (t.changed || list_any is_change y)
+    → u.changed ≡ (s.changed || list_any is_change (x ++ y))
+changed_on s t u x y first then =
+    then ∙ ap (λ (b : Bool). b || list_any is_change y) first ∙ or_more s.changed (list_any is_change x) (list_any is_change y)
+    ∙ ap (λ (b : Bool). s.changed || b) (sym (list_any-append is_change x y))
+
+-- what a server serves, and whether it was changed
+abbrev pub served_of : {F : Type 0} → Server F → F × Bool
+served_of s = (s.file_system, s.changed)
+
+-- ---- acts that lead on
+
 pub goes_none : {F A : Type 0} (did : F → F → List Act → Type 0) (s : Server F) (p : Plan A) → Goes did s s p p
-goes_none did s p = record { acts = []; grows = grows_none did s.file_system; leads = stays }
+goes_none did s p = record { acts = []; grows = grows_none did s.file_system; leads = stays; changed = unchanged s s refl }
 
 pub goes_on : {F A : Type 0} {did : F → F → List Act → Type 0} {s t u : Server F} {p q r : Plan A} → Goes did s t p q → Goes did t u q r → Goes did s u p r
 goes_on {did = did} {s = s} {t = t} {u = u} g h = record {
   acts = g.acts ++ h.acts;
   grows = grows_on did s.file_system t.file_system u.file_system g.acts h.acts g.grows h.grows;
   leads = leads_on g.leads h.leads;
+  changed = changed_on s t u g.acts h.acts g.changed h.changed;
 }
 
 pub goes_before : {F A B : Type 0} {did : F → F → List Act → Type 0} {s t : Server F} {p q : Plan A} (k : A → Plan B) → Goes did s t p q → Goes did s t (p >>= k) (q >>= k)
-goes_before k g = record { acts = g.acts; grows = g.grows; leads = leads_before k g.leads }
+goes_before k g = record { acts = g.acts; grows = g.grows; leads = leads_before k g.leads; changed = g.changed }
 
 -- the same error
 pub does_as_error : {F A : Type 0} {did : F → F → List Act → Type 0} {s t : Server F} {p : Plan A} {d e : Errno} → d ≡ e → Does did s t p (Err d) → Does did s t p (Err e)
@@ -44,68 +77,75 @@ does_as_error {did = did} {s = s} {t = t} {p = p} is h = subst (λ (x : Errno). 
 -- ---- one step
 
 pub does_call : {F : Type 0} (did : F → F → List Act → Type 0) (s t : Server F) (session : ℕ) (call : Call) (reply : Reply)
-    → Grows (did s.file_system) (did t.file_system) (Called session call reply ∷ []) → kept_of s ≡ kept_of t → Does did s t (calls session call) (Ok reply)
+    → Grows (did s.file_system) (did t.file_system) (Called session call reply ∷ []) → kept_of s ≡ kept_of t → t.changed ≡ (s.changed || (may_change call && is_answered reply))
+    → Does did s t (calls session call) (Ok reply)
 unfolding calls given
-does_call did s t session call reply g same = record {
+does_call did s t session call reply g same changed = record {
   goes = record {
     acts = Called session call reply ∷ [];
     grows = g;
     leads = subst (λ (u : Kept). Leads (calls session call) (kept_of s) (Called session call reply ∷ []) (given (Ok reply)) u) same (called stays);
+    changed = changed_by s t (may_change call && is_answered reply) changed;
   };
 }
 
 pub does_find : {F : Type 0} (did : F → F → List Act → Type 0) (s t : Server F) (path : List ℕ) (looked : Result (Option ℕ) LookFault) (number : Option ℕ)
-    → Grows (did s.file_system) (did t.file_system) (Found path looked ∷ []) → looked ≡ Ok number → kept_of s ≡ kept_of t → Does did s t (finds path) (Ok number)
+    → Grows (did s.file_system) (did t.file_system) (Found path looked ∷ []) → looked ≡ Ok number → kept_of s ≡ kept_of t → s.changed ≡ t.changed → Does did s t (finds path) (Ok number)
 unfolding finds given
-does_find did s t path looked number g is same = record {
+does_find did s t path looked number g is same quiet = record {
   goes = record {
     acts = Found path (Ok number) ∷ [];
     grows = subst (λ (x : Result (Option ℕ) LookFault). Grows (did s.file_system) (did t.file_system) (Found path x ∷ [])) is g;
     leads = subst (λ (u : Kept). Leads (finds path) (kept_of s) (Found path (Ok number) ∷ []) (given (Ok number)) u) same (found stays);
+    changed = unchanged s t quiet;
   };
 }
 
 pub does_not_find : {F : Type 0} (did : F → F → List Act → Type 0) (s t : Server F) (path : List ℕ) (looked : Result (Option ℕ) LookFault) (fault : LookFault) (e : Errno)
-    → Grows (did s.file_system) (did t.file_system) (Found path looked ∷ []) → looked ≡ Err fault → kept_of s ≡ kept_of t → e ≡ fault_errno fault → Does did s t (finds path) (Err e)
+    → Grows (did s.file_system) (did t.file_system) (Found path looked ∷ []) → looked ≡ Err fault → kept_of s ≡ kept_of t → s.changed ≡ t.changed → e ≡ fault_errno fault → Does did s t (finds path) (Err e)
 unfolding finds given
-does_not_find did s t path looked fault e g failed same is = does_as_error (sym is) (record {
+does_not_find did s t path looked fault e g failed same quiet is = does_as_error (sym is) (record {
   goes = record {
     acts = Found path (Err fault) ∷ [];
     grows = subst (λ (x : Result (Option ℕ) LookFault). Grows (did s.file_system) (did t.file_system) (Found path x ∷ [])) failed g;
     leads = subst (λ (u : Kept). Leads (finds path) (kept_of s) (Found path (Err fault) ∷ []) (given (Err (fault_errno fault))) u) same unfound;
+    changed = unchanged s t quiet;
   };
 })
 
 pub does_see : {F : Type 0} (did : F → F → List Act → Type 0) (s t : Server F) (number : ℕ) (looked : Result (Option Attributes) LookFault) (attributes : Option Attributes)
-    → Grows (did s.file_system) (did t.file_system) (Seen number looked ∷ []) → looked ≡ Ok attributes → kept_of s ≡ kept_of t → Does did s t (sees number) (Ok attributes)
+    → Grows (did s.file_system) (did t.file_system) (Seen number looked ∷ []) → looked ≡ Ok attributes → kept_of s ≡ kept_of t → s.changed ≡ t.changed → Does did s t (sees number) (Ok attributes)
 unfolding sees given
-does_see did s t number looked attributes g is same = record {
+does_see did s t number looked attributes g is same quiet = record {
   goes = record {
     acts = Seen number (Ok attributes) ∷ [];
     grows = subst (λ (x : Result (Option Attributes) LookFault). Grows (did s.file_system) (did t.file_system) (Seen number x ∷ [])) is g;
     leads = subst (λ (u : Kept). Leads (sees number) (kept_of s) (Seen number (Ok attributes) ∷ []) (given (Ok attributes)) u) same (seen stays);
+    changed = unchanged s t quiet;
   };
 }
 
 pub does_not_see : {F : Type 0} (did : F → F → List Act → Type 0) (s t : Server F) (number : ℕ) (looked : Result (Option Attributes) LookFault) (fault : LookFault) (e : Errno)
-    → Grows (did s.file_system) (did t.file_system) (Seen number looked ∷ []) → looked ≡ Err fault → kept_of s ≡ kept_of t → e ≡ fault_errno fault → Does did s t (sees number) (Err e)
+    → Grows (did s.file_system) (did t.file_system) (Seen number looked ∷ []) → looked ≡ Err fault → kept_of s ≡ kept_of t → s.changed ≡ t.changed → e ≡ fault_errno fault → Does did s t (sees number) (Err e)
 unfolding sees given
-does_not_see did s t number looked fault e g failed same is = does_as_error (sym is) (record {
+does_not_see did s t number looked fault e g failed same quiet is = does_as_error (sym is) (record {
   goes = record {
     acts = Seen number (Err fault) ∷ [];
     grows = subst (λ (x : Result (Option Attributes) LookFault). Grows (did s.file_system) (did t.file_system) (Seen number x ∷ [])) failed g;
     leads = subst (λ (u : Kept). Leads (sees number) (kept_of s) (Seen number (Err fault) ∷ []) (given (Err (fault_errno fault))) u) same unseen;
+    changed = unchanged s t quiet;
   };
 })
 
 pub does_count : {F : Type 0} (did : F → F → List Act → Type 0) (s t : Server F) (space : Space)
-    → Grows (did s.file_system) (did t.file_system) (Counted space ∷ []) → kept_of s ≡ kept_of t → Does did s t counts (Ok space)
+    → Grows (did s.file_system) (did t.file_system) (Counted space ∷ []) → kept_of s ≡ kept_of t → s.changed ≡ t.changed → Does did s t counts (Ok space)
 unfolding counts given
-does_count did s t space g same = record {
+does_count did s t space g same quiet = record {
   goes = record {
     acts = Counted space ∷ [];
     grows = g;
     leads = subst (λ (u : Kept). Leads counts (kept_of s) (Counted space ∷ []) (given (Ok space)) u) same (counted stays);
+    changed = unchanged s t quiet;
   };
 }
 
@@ -135,25 +175,26 @@ unfolding given
 gives_ok did s a = record { goes = goes_none did s (Gives a) }
 
 pub knows_it : {F A : Type 0} {did : F → F → List Act → Type 0} {s t : Server F} {k : Kept → Plan A} {r : Result A Errno} → Does did s t (k (kept_of s)) r → Does did s t (Knows k) r
-knows_it h = record { goes = record { acts = h.goes.acts; grows = h.goes.grows; leads = knows h.goes.leads } }
+knows_it h = record { goes = record { acts = h.goes.acts; grows = h.goes.grows; leads = knows h.goes.leads; changed = h.goes.changed } }
 
 pub takes_it : {F A : Type 0} {did : F → F → List Act → Type 0} {s t : Server F} {p : Plan A} {r : Result A Errno} → Does did s t p r → Does did s t (Takes p) r
-takes_it h = record { goes = record { acts = h.goes.acts; grows = h.goes.grows; leads = takes h.goes.leads } }
+takes_it h = record { goes = record { acts = h.goes.acts; grows = h.goes.grows; leads = takes h.goes.leads; changed = h.goes.changed } }
 
 pub lacks_it : {F A : Type 0} (did : F → F → List Act → Type 0) (s : Server F) (p : Plan A) → Does did s s (Takes p) (Err ENOMEM)
 unfolding given
-lacks_it did s p = record { goes = record { acts = []; grows = grows_none did s.file_system; leads = lacks } }
+lacks_it did s p = record { goes = record { acts = []; grows = grows_none did s.file_system; leads = lacks; changed = unchanged s s refl } }
 
 pub lacking : {F A : Type 0} {did : F → F → List Act → Type 0} {s : Server F} {p : Plan A} {e : Errno} → e ≡ ENOMEM → Does did s s (Takes p) (Err e)
 lacking {did = did} {s = s} {p = p} is = does_as_error (sym is) (lacks_it did s p)
 
 pub keeps_it : {F A : Type 0} {did : F → F → List Act → Type 0} {s t u : Server F} {change : Change} {p : Plan A} {r : Result A Errno}
-    → s.file_system ≡ t.file_system → Becomes change (kept_of s) (kept_of t) → Does did t u p r → Does did s u (Keeps change p) r
+    → served_of s ≡ served_of t → Becomes change (kept_of s) (kept_of t) → Does did t u p r → Does did s u (Keeps change p) r
 keeps_it {F = F} {did = did} {s = s} {t = t} {u = u} same becomes h = record {
   goes = record {
     acts = h.goes.acts;
-    grows = subst (λ (a : F). Grows (did a) (did u.file_system) h.goes.acts) (sym same) h.goes.grows;
+    grows = subst (λ (a : F × Bool). Grows (did a.0) (did u.file_system) h.goes.acts) (sym same) h.goes.grows;
     leads = keeps becomes h.goes.leads;
+    changed = subst (λ (a : F × Bool). u.changed ≡ (a.1 || list_any is_change h.goes.acts)) (sym same) h.goes.changed;
   };
 }
 
@@ -172,12 +213,13 @@ done_to {F = F} {did = did} {s = s} {p = p} {r = r} is h = subst (λ (x : Server
 
 -- another state of which the same is known
 pub stays_so : {F A : Type 0} {did : F → F → List Act → Type 0} {s t : Server F} {p : Plan A} {r : Result A Errno}
-    → s.file_system ≡ t.file_system → kept_of s ≡ kept_of t → Does did s s p r → Does did s t p r
+    → served_of s ≡ served_of t → kept_of s ≡ kept_of t → Does did s s p r → Does did s t p r
 stays_so {F = F} {did = did} {s = s} {t = t} {p = p} {r = r} same kept h = record {
   goes = record {
     acts = h.goes.acts;
-    grows = subst (λ (a : F). Grows (did s.file_system) (did a) h.goes.acts) same h.goes.grows;
+    grows = subst (λ (a : F × Bool). Grows (did s.file_system) (did a.0) h.goes.acts) same h.goes.grows;
     leads = subst (λ (k : Kept). Leads p (kept_of s) h.goes.acts (given r) k) kept h.goes.leads;
+    changed = subst (λ (a : F × Bool). a.1 ≡ (s.changed || list_any is_change h.goes.acts)) same h.goes.changed;
   };
 }
 
@@ -235,7 +277,7 @@ refuses {did = did} {s = s} {e = e} = gives did s (Err e)
 
 -- a change, and a value
 pub changes : {F A : Type 0} {did : F → F → List Act → Type 0} {s t : Server F} {change : Change} (a : A)
-    → s.file_system ≡ t.file_system → t.files ≡ files_after change s.files → Turns change (table_of s.nodes) (table_of t.nodes) → Does did s t (Keeps change (Gives a)) (Ok a)
+    → served_of s ≡ served_of t → t.files ≡ files_after change s.files → Turns change (table_of s.nodes) (table_of t.nodes) → Does did s t (Keeps change (Gives a)) (Ok a)
 changes {did = did} {t = t} a same files turns = keeps_it same (record { nodes = turns; files = files }) (gives_ok did t a)
 
 -- what takes memory, as a word: it is what it should be, or refused

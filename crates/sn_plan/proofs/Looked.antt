@@ -15,7 +15,7 @@ use Rattle.sn_plan.specs.Follows.{Does, Goes, Tells, Writes, bytes_of, kept_of, 
 use Rattle.sn_plan.specs.Places.{child_at, child_in, forgets, is_number, looked, or_else, path_at, place_of, text_in, tries, tries_all, try_place}
 use Rattle.sn_plan.specs.Plans.{Plan, Gives, given, ◌>>=◌}
 use Rattle.sn_plan.specs.declared.server.Server.{Server}
-use Rattle.sn_plan.proofs.Following.{after, does_as, does_as_error, fails, gives, gives_ok, goes_before, goes_on, keeps_it, knows_it}
+use Rattle.sn_plan.proofs.Following.{after, does_as, does_as_error, fails, gives, gives_ok, goes_before, goes_on, keeps_it, knows_it, served_of}
 
 -- what the table says of a path
 pub path_there : (known : Result (List ℕ) NoPath) (r : Result (ArrayVec ℕ) NoPath) (text : ArrayVec ℕ)
@@ -39,7 +39,7 @@ text_passed_on (Ok a) e h d = absurd h
 text_passed_on (Err x) e h d = does_as_error (sym h) d
 
 -- a first name is forgotten
-pub forgotten : {F : Type 0} (did : F → F → List Act → Type 0) (s t : Server F) (id : ℕ) → s.file_system ≡ t.file_system → t.files ≡ s.files
+pub forgotten : {F : Type 0} (did : F → F → List Act → Type 0) (s t : Server F) (id : ℕ) → served_of s ≡ served_of t → t.files ≡ s.files
     → Loses (dropped (table_of s.nodes) id) (table_of t.nodes) → NoneIsIdled (table_of s.nodes) (table_of t.nodes) → Does did s t (forgets id) (Ok None)
 forgotten did s t id same files goes idle = keeps_it same (record { nodes = record { goes = goes; idle = idle }; files = files }) (gives_ok did t None)
 

@@ -1,5 +1,6 @@
 -- When a plan is followed.
-use Rattle.std.specs.Prelude.{ℕ, List, [], ◌∷◌, Option, None, Some, Result, Ok, Err}
+use Rattle.std.specs.List.{list_any}
+use Rattle.std.specs.Prelude.{◌≡◌, ℕ, ◌||◌, List, [], ◌∷◌, Option, None, Some, Result, Ok, Err}
 use Rattle.arrayvec.specs.ArrayVec.{ArrayVec}
 use Rattle.sn_fuse_replies.specs.declared.errno.Errno.{Errno}
 use Rattle.sn_fuse_replies.specs.declared.errno.Errno.TheVariants.{ENOMEM}
@@ -7,7 +8,7 @@ use Rattle.sn_model.specs.declared.call.Call.{Call}
 use Rattle.sn_model.specs.declared.reply.Reply.{Reply}
 use Rattle.sn_node_table.specs.Told.{table_of}
 use Rattle.sn_walk.specs.declared.view.Attributes.{Attributes}
-use Rattle.sn_plan.specs.Acts.{Act, Called, Counted, Found, Seen, Grows}
+use Rattle.sn_plan.specs.Acts.{Act, Called, Counted, Found, Seen, Grows, is_change}
 use Rattle.sn_plan.specs.Errors.{fault_errno}
 use Rattle.sn_plan.specs.Plans.{Kept, Change, Becomes, Plan, Refuses, Takes, Calls, Finds, Sees, Counts, Knows, Keeps, given}
 use Rattle.sn_plan.specs.declared.errors.LookFault.{LookFault}
@@ -38,11 +39,12 @@ pub data Leads {A : Type 0} : Plan A → Kept → List Act → Plan A → Kept �
 abbrev pub kept_of : {F : Type 0} → Server F → Kept
 kept_of s = record { nodes = table_of s.nodes; files = s.files }
 
--- a server has done acts that lead from a plan to what is left of it
+-- a server has done acts that lead from a plan to what is left of it, and keeps whether one of them changed something
 pub record Goes {F A : Type 0} (did : F → F → List Act → Type 0) (old new : Server F) (p q : Plan A) : Type 0 where
   pub acts : List Act
   pub grows : Grows (did old.file_system) (did new.file_system) acts
   pub leads : Leads p (kept_of old) acts q (kept_of new)
+  pub changed : new.changed ≡ (old.changed || list_any is_change acts)
 
 -- a server has done what a plan asks for, and this is what it gives
 pub record Does {F A : Type 0} (did : F → F → List Act → Type 0) (old new : Server F) (p : Plan A) (r : Result A Errno) : Type 0 where

@@ -1,6 +1,7 @@
 //! Calls of a server.
-ghost use Rattle.std.specs.Prelude.{◌≡◌, ◌⊎◌, Ok, Err, IfOk, IfErr};
+ghost use Rattle.std.specs.Prelude.{◌≡◌, ◌⊎◌, ◌&&◌, ◌||◌, Ok, Err, IfOk, IfErr};
 ghost use Rattle.sn_fuse_replies.specs.declared.errno.Errno.TheVariants.{ENOMEM};
+ghost use Rattle.sn_plan.specs.Acts as acts;
 ghost use Rattle.sn_plan.specs.Asking.{as_caller, asked, asked_masked, asks, asks_masked, calls, login_by, maker_by};
 ghost use Rattle.sn_plan.specs.Follows.{Does};
 
@@ -30,12 +31,50 @@ impl Asker<'_> {
     }
 }
 
+// Whether a call is to change what is there.
+fn may_change(call: &Call) -> bool
+    ensures { result ≡ acts.may_change call.now }
+{
+    match call {
+        Call::Mkdir { .. }
+        | Call::Chmod { .. }
+        | Call::Chown { .. }
+        | Call::SetAcl { .. }
+        | Call::Rmdir { .. }
+        | Call::Unlink { .. }
+        | Call::Link { .. }
+        | Call::Rename { .. }
+        | Call::Write { .. }
+        | Call::Ftruncate { .. }
+        | Call::SnapCreate { .. }
+        | Call::SnapDelete { .. }
+        | Call::SnapRestore { .. } => true,
+        Call::Open { flags, .. } => flags.create || flags.truncate,
+        _ => false,
+    }
+}
+
+fn is_answered(reply: &Reply) -> bool
+    ensures { result ≡ acts.is_answered reply.now }
+{
+    !matches!(reply, Reply::Refused(_))
+}
+
+// Whether something was changed before, or by a call with this reply.
+fn has_changed(before: bool, call: &Call, reply: &Reply) -> bool
+    ensures { result ≡ (before || (acts.may_change call.now && acts.is_answered reply.now)) }
+{
+    before || (may_change(call) && is_answered(reply))
+}
+
 impl<F: FileSystem> Server<F> {
-    /// Makes a call of a session.
+    /// Makes a call of a session, and keeps whether it changed something.
     pub fn call(&mut self, session: u32, call: &Call) -> Reply
         ensures { Does F.did self.old self.new (calls session call.now) (Ok result) }
     {
-        self.file_system.call(session, call)
+        let reply = self.file_system.call(session, call);
+        self.changed = has_changed(self.changed, call, &reply);
+        reply
     }
 
     // Makes a call in the session of who asks, and logs out.

@@ -1,5 +1,5 @@
 -- Which times a message marks for update, and what answers tell of them (POSIX.1-2017, 4.9 "File Times Update").
-use Rattle.std.specs.Prelude.{◌≡◌, ℕ, ◌/◌, ◌==◌, ◌&&◌, Bool, zero, nat_lt, List, Option, None, Some, is_some, Result, Ok, Err, if◌then◌else◌}
+use Rattle.std.specs.Prelude.{◌≡◌, ℕ, ◌/◌, ◌==◌, ◌&&◌, Bool, true, false, zero, nat_lt, List, Option, None, Some, is_some, Result, Ok, Err, if◌then◌else◌}
 use Rattle.std.specs.Option.{option_and_then, option_eq, option_map}
 use Rattle.sn_callers.specs.Files.{file_at}
 use Rattle.sn_callers.specs.declared.open_files.OpenFile.{OpenFile}
@@ -20,7 +20,7 @@ use Rattle.sn_serve.specs.declared.told.Told.TheVariants as told
 use Rattle.sn_serve_files.specs.Flags.{has}
 use Rattle.sn_serve_names.specs.Names.{image_of, is_snapshots_number}
 use Rattle.sn_serve_setattr.specs.Flags.{names_accessed, names_modified, sets_accessed, sets_modified, sets_size, sets_times}
-use Rattle.sn_times.specs.Dates.{Dates, IsMarked, stamps_at}
+use Rattle.sn_times.specs.Dates.{Dates, IsMarked, all_forgotten, stamps_at}
 use Rattle.sn_times.specs.declared.stamps.Mark.{Mark}
 use Rattle.sn_times.specs.declared.stamps.Mark.TheVariants.{Changed, Dated, Frozen, Made, Met, Modified, Thawed}
 use Rattle.sn_times.specs.declared.stamps.Stamps.{Stamps}
@@ -150,8 +150,12 @@ abbrev pub live : Option ℕ → Option ℕ
 live None = None
 live (Some number) = if nat_lt number 65536 then Some number else None
 
+-- a new size, or else new attributes
+abbrev pub set_mark : Option ℕ → NewAttributes → Option Mark
+set_mark node new = if sets_size new then modifies node else changes node
+
 abbrev pub sets : Option ℕ → Time → NewAttributes → Marks
-sets node now new = record no_marks { first = if sets_size new then modifies node else changes node; second = dates node now new }
+sets node now new = record no_marks { first = set_mark node new; second = dates node now new }
 
 abbrev pub by_setting : Subjects → Time → NewAttributes → Marks
 by_setting s now new = sets (live s.node) now new
@@ -173,10 +177,37 @@ marks_by s now (op.SetXattr flags name value) told = by_changing s
 marks_by s now (op.RemoveXattr name) told = by_changing s
 marks_by s now other told = no_marks
 
--- one that was refused marks nothing
-abbrev pub marks_of : Subjects → Time → Op → Result Told Errno → Marks
-marks_of s now op (Ok told) = marks_by s now op told
-marks_of s now op (Err errno) = no_marks
+-- What was done in part, where a message was refused once it had changed something: the same, but for times that a SETATTR names. What a refused
+-- message made isn't among it.
+abbrev pub parts_by : Subjects → Op → Marks
+parts_by s (op.SetAttr new) = record no_marks { first = set_mark (live s.node) new }
+parts_by s (op.Unlink name) = by_naming s
+parts_by s (op.Link old name) = by_naming s
+parts_by s (op.Rmdir name) = by_removing s name
+parts_by s (op.Rename directory name other) = by_renaming s
+parts_by s (op.Rename2 directory flags name other) = by_renaming s
+parts_by s (op.Open flags) = by_truncating flags s.node
+parts_by s (op.Write handle offset flags bytes) = record no_marks { first = modifies s.node }
+parts_by s (op.SetXattr flags name value) = by_changing s
+parts_by s (op.RemoveXattr name) = by_changing s
+parts_by s other = no_marks
+
+-- one that was refused, and changed nothing, marks nothing
+abbrev pub marks_of : Bool → Subjects → Time → Op → Result Told Errno → Marks
+marks_of changed s now op (Ok told) = marks_by s now op told
+marks_of changed s now op (Err errno) = if changed then parts_by s op else no_marks
+
+-- what makes an object
+abbrev pub makes_object : Op → Bool
+makes_object (op.Mknod mode device umask name) = true
+makes_object (op.Mkdir mode umask name) = true
+makes_object (op.Create flags mode umask name) = true
+makes_object other = false
+
+-- whether it was refused once it had made one, whose number isn't known
+abbrev pub is_lost : Bool → Op → Result Told Errno → Bool
+is_lost changed op (Ok told) = false
+is_lost changed op (Err errno) = changed && makes_object op
 
 abbrev pub IsMarkedIf : Option Mark → Time → Dates → Dates → Type 0
 IsMarkedIf None now old new = new ≡ old
@@ -191,6 +222,11 @@ pub record AreMarked (marks : Marks) (now : Time) (old new : Dates) : Type 0 whe
   pub after_third : Dates
   pub third : IsMarkedIf marks.third now after_second after_third
   pub fourth : IsMarkedIf marks.fourth now after_third new
+
+-- what it marks, or where it can't be told what that is, the time of now for every object
+abbrev pub IsUpdated : Bool → Marks → Time → Dates → Dates → Type 0
+IsUpdated true marks now old new = new ≡ all_forgotten now
+IsUpdated false marks now old new = AreMarked marks now old new
 
 -- ---- what answers tell
 

@@ -1,4 +1,5 @@
 -- A message and its reply.
+use Rattle.std.specs.List.{list_any}
 use Rattle.std.specs.Prelude.{◌≡◌, ◌⊎◌, ◌==◌, ◌&&◌, ℕ, Bool, true, false, not, List, [], Option, None, Some, Result, if◌then◌else◌}
 use Rattle.sn_callers.specs.declared.login.Caller.{Caller}
 use Rattle.sn_fuse.specs.Message.{IsMisspelt, IsRequest, IsShort, IsUnknown}
@@ -12,12 +13,13 @@ use Rattle.sn_fuse_replies.specs.declared.answer.Answer.TheVariants.{Error}
 use Rattle.sn_fuse_replies.specs.declared.errno.Errno.{Errno}
 use Rattle.sn_fuse_replies.specs.declared.errno.Errno.TheVariants.{EINVAL, EIO, ENOMEM, ENOSYS}
 use Rattle.sn_listings.specs.Told.{directory_at}
-use Rattle.sn_plan.specs.Acts.{Act}
+use Rattle.sn_plan.specs.Acts.{Act, is_change}
 use Rattle.sn_plan.specs.Checking.{caller_of}
 use Rattle.sn_plan.specs.Follows.{kept_of}
 use Rattle.sn_plan.specs.declared.checker.Checker.{Checker}
+use Rattle.sn_plan.specs.declared.server.Server.{Server}
 use Rattle.sn_serve.specs.Answers.{holds_for, reply_of}
-use Rattle.sn_serve.specs.Dating.{AreMarked, dated_in, marks_of, subjects_of}
+use Rattle.sn_serve.specs.Dating.{IsUpdated, dated_in, is_lost, marks_of, subjects_of}
 use Rattle.sn_serve.specs.Messages.{Answers, acts_in, way_of}
 use Rattle.sn_serve.specs.declared.service.Service.{Service}
 use Rattle.sn_serve.specs.declared.told.Told.{Told}
@@ -77,25 +79,34 @@ IsTextBy tells false process before text after = (text ≡ None) × (after ≡ b
 abbrev pub IsTextOf : {P : Type 0} → (P → ℕ → Option (List ℕ) → P → Type 0) → Checker → Head → Op → P → Option (List ℕ) → P → Type 0
 IsTextOf tells checker head op before text after = IsTextBy tells (needs_groups checker head op) head.process before text after
 
+-- nothing was changed yet
+abbrev pub cleared : {F : Type 0} → Server F → Server F
+cleared s = record s { changed = false }
+
 -- A request is performed as one of who sent it, or as user 0's where the system checks.
 pub record Performs {F P : Type 0} (did : F → F → List Act → Type 0) (tells : P → ℕ → Option (List ℕ) → P → Type 0) (head : Head) (op : Op) (old : Service F) (before : P) (new : Service F) (after : P)
     (told : Result Told Errno) : Type 0 where
   pub text : Option (List ℕ)
   pub is_text : IsTextOf tells old.checker head op before text after
-  pub answers : Answers did (way_of old.checker (sender_of head) text) head.node old.server new.server (directory_at old.listings) (directory_at new.listings) op told
+  pub answers : Answers did (way_of old.checker (sender_of head) text) head.node (cleared old.server) new.server (directory_at old.listings) (directory_at new.listings) op told
   pub checker : new.checker ≡ old.checker
 
+-- whether one of the calls changed something
+abbrev pub has_changed : {F P : Type 0} {did : F → F → List Act → Type 0} {tells : P → ℕ → Option (List ℕ) → P → Type 0} {head : Head} {op : Op} {old : Service F} {before : P} {new : Service F} {after : P} {told : Result Told Errno}
+    → Performs did tells head op old before new after told → Bool
+has_changed p = list_any is_change (acts_in p.answers)
+
 -- What is told has the times that are kept once the message has marked those of what it was about, at any time that a clock may show.
-pub record IsDated {F : Type 0} (head : Head) (op : Op) (old new : Service F) (told : Result Told Errno) : Type 0 where
+pub record IsDated {F : Type 0} (head : Head) (op : Op) (changed : Bool) (old new : Service F) (told : Result Told Errno) : Type 0 where
   pub now : Time
-  pub marked : AreMarked (marks_of (subjects_of (kept_of old.server) head.node op) now op told) now old.times new.times
+  pub marked : IsUpdated (is_lost changed op told) (marks_of changed (subjects_of (kept_of old.server) head.node op) now op told) now old.times new.times
 
 -- and answered by what was told
 pub record IsAnswered {F P : Type 0} (did : F → F → List Act → Type 0) (tells : P → ℕ → Option (List ℕ) → P → Type 0) (head : Head) (op : Op) (old : Service F) (before : P) (new : Service F) (after : P)
     (reply : Option Answer) : Type 0 where
   pub told : Result Told Errno
   pub performs : Performs did tells head op old before new after told
-  pub dates : IsDated head op old new told
+  pub dates : IsDated head op (has_changed performs) old new told
   pub told_reply : IsReply (holds_for old.checker) op (dated_in new.times told) reply
 
 abbrev pub spelled : ℕ → Option Answer → List ℕ

@@ -7,7 +7,7 @@ ghost use Rattle.sn_fuse_replies.specs.declared.errno.Errno.{Errno as TheErrno};
 ghost use Rattle.sn_serve.specs.Dating.{dated_in};
 ghost use Rattle.sn_serve.specs.declared.told.Told.{Told as TheTold};
 ghost use Rattle.sn_serve.specs.Exchanges as exchanges;
-ghost use Rattle.sn_serve.specs.Exchanges.{IsDated, IsExchange, IsRefusal, IsReply, IsTextOf, IsToldBy, Performs, spelled};
+ghost use Rattle.sn_serve.specs.Exchanges.{IsDated, IsExchange, IsRefusal, IsReply, IsTextOf, IsToldBy, Performs, has_changed, spelled};
 
 use crate::dating::date;
 use crate::host::Host;
@@ -89,7 +89,7 @@ fn refuse(out: &mut Vec<u8>, unique: u64, errno: Errno) -> Result<(), AllocError
     encode(out, unique, &Answer::Error { errno })
 }
 
-// Does what a request asks for, as who sent it, or where the system checks as user 0.
+// Does what a request asks for, as who sent it, or where the system checks as user 0, and keeps whether that changed something.
 fn perform_as<F: FileSystem, H: Host>(
     service: &mut Service<F>,
     host: &mut H,
@@ -99,6 +99,7 @@ fn perform_as<F: FileSystem, H: Host>(
     ensures performs { Performs F.did H.tells head.now op.now service.old host.old service.new host.new result }
     ensures times { service.new.times ≡ service.old.times }
 {
+    service.server.changed = false;
     let status = status_of(host, service.checker, head, op);
     let asker = Asker {
         checker: service.checker,
@@ -121,13 +122,14 @@ fn perform_dated<F: FileSystem, H: Host>(
     head: &Head,
     op: &Op<'_>,
 ) -> Result<Told, Errno>
-    ensures { (told : Result TheTold TheErrno) × Performs F.did H.tells head.now op.now service.old host.old service.new host.new told
-        × IsDated head.now op.now service.old service.new told × (result ≡ dated_in service.new.times told) }
+    ensures { (told : Result TheTold TheErrno) × (performs : Performs F.did H.tells head.now op.now service.old host.old service.new host.new told)
+        × IsDated head.now op.now (has_changed performs) service.old service.new told × (result ≡ dated_in service.new.times told) }
 {
     let subjects = subjects_of(&service.server, head.node, op);
     let told = perform_as(service, host, head, op);
     let now = host.now();
-    mark(&mut service.times, &subjects, now, op, &told);
+    let changed = service.server.changed;
+    mark(&mut service.times, changed, &subjects, now, op, &told);
     date(&service.times, told)
 }
 
@@ -193,8 +195,8 @@ pub fn refuse_message(message: &[u8], out: &mut Vec<u8>) -> Result<(), AllocErro
 /// Proved: Where the system checks, each call is user 0's, what is made is given to the user and group in the head, nothing is asked of a process, and
 /// attributes may be held for a year; where the server does, they may not be held.
 ///
-/// Proved: A message that was done marks times of what it was about, as POSIX says for its kind, and one that was refused marks none; an answer has
-/// the times that are kept then.
+/// Proved: A message that was done marks the times of what it was about (`specs/Dating`), and one that was refused marks what it had changed by then: nothing, where no call
+/// of it changed something. An answer has the times that are kept then.
 ///
 /// Proved: A snapshot has its times under the name by which a LOOKUP found it or a MKDIR made it, and under none once it is removed.
 pub fn answer<F: FileSystem, H: Host>(

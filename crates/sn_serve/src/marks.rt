@@ -30,15 +30,21 @@ pub struct Marks<'a> {
     pub fourth: Option<Mark<'a>>,
 }
 
-fn no_marks<'a>() -> Marks<'a>
-    ensures { result ≡ dating.no_marks }
+fn one_mark<'a>(first: Option<Mark<'a>>) -> Marks<'a>
+    ensures { result ≡ record dating.no_marks { first = first } }
 {
     Marks {
-        first: None,
+        first,
         second: None,
         third: None,
         fourth: None,
     }
+}
+
+fn no_marks<'a>() -> Marks<'a>
+    ensures { result ≡ dating.no_marks }
+{
+    one_mark(None)
 }
 
 fn modifies<'a>(number: Option<u64>) -> Option<Mark<'a>>
@@ -121,12 +127,9 @@ fn by_finding<'a>(subjects: &Subjects, name: &'a [u8], told: &Told) -> Marks<'a>
     ensures { result ≡ dating.by_finding subjects.now name.now told.now }
 {
     match entry_in(told) {
-        Some(entry) if are_snapshots(subjects.node) => Marks {
-            first: found(name, entry.attributes.number),
-            second: None,
-            third: None,
-            fourth: None,
-        },
+        Some(entry) if are_snapshots(subjects.node) => {
+            one_mark(found(name, entry.attributes.number))
+        }
         _ => no_marks(),
     }
 }
@@ -149,12 +152,7 @@ fn by_truncating<'a>(flags: OpenFlags, number: Option<u64>) -> Marks<'a>
     ensures { result ≡ dating.by_truncating flags number }
 {
     if flags.contains(OpenFlags::TRUNCATE) {
-        Marks {
-            first: modifies(number),
-            second: None,
-            third: None,
-            fourth: None,
-        }
+        one_mark(modifies(number))
     } else {
         no_marks()
     }
@@ -218,24 +216,14 @@ fn by_writing<'a>(subjects: &Subjects, told: &Told) -> Marks<'a>
 {
     match told {
         Told::Written(0) => no_marks(),
-        _ => Marks {
-            first: modifies(subjects.node),
-            second: None,
-            third: None,
-            fourth: None,
-        },
+        _ => one_mark(modifies(subjects.node)),
     }
 }
 
 fn by_changing<'a>(subjects: &Subjects) -> Marks<'a>
     ensures { result ≡ dating.by_changing subjects.now }
 {
-    Marks {
-        first: changes(subjects.node),
-        second: None,
-        third: None,
-        fourth: None,
-    }
+    one_mark(changes(subjects.node))
 }
 
 /// A time that is set: that of the message, or that of the clock.
@@ -275,17 +263,23 @@ fn live(number: Option<u64>) -> Option<u64>
     }
 }
 
+/// A new size, or else new attributes.
+fn set_mark<'a>(node: Option<u64>, new: &NewAttributes) -> Option<Mark<'a>>
+    ensures { result ≡ dating.set_mark node new.now }
+{
+    if new.flags.contains(AttributeFlags::SIZE) {
+        modifies(node)
+    } else {
+        changes(node)
+    }
+}
+
 fn by_setting<'a>(subjects: &Subjects, now: Time, new: &NewAttributes) -> Marks<'a>
     ensures { result ≡ dating.by_setting subjects.now now new.now }
 {
     let node = live(subjects.node);
-    let first = if new.flags.contains(AttributeFlags::SIZE) {
-        modifies(node)
-    } else {
-        changes(node)
-    };
     Marks {
-        first,
+        first: set_mark(node, new),
         second: dates(node, now, new),
         third: None,
         fourth: None,
@@ -313,18 +307,55 @@ fn marks_by<'a>(subjects: &Subjects, now: Time, op: &Op<'a>, told: &Told) -> Mar
     }
 }
 
-/// What a message marks for update. One that was refused marks nothing.
+/// What a message marks for update that was refused once it had changed something.
+fn parts_by<'a>(subjects: &Subjects, op: &Op<'a>) -> Marks<'a>
+    ensures { result ≡ dating.parts_by subjects.now op.now }
+{
+    match op {
+        Op::SetAttr { attributes } => one_mark(set_mark(live(subjects.node), attributes)),
+        Op::Unlink { .. } | Op::Link { .. } => by_naming(subjects),
+        Op::Rmdir { name } => by_removing(subjects, name.as_bytes()),
+        Op::Rename { .. } | Op::Rename2 { .. } => by_renaming(subjects),
+        Op::Open { flags } => by_truncating(*flags, subjects.node),
+        Op::Write { .. } => one_mark(modifies(subjects.node)),
+        Op::SetXattr { .. } | Op::RemoveXattr { .. } => by_changing(subjects),
+        _ => no_marks(),
+    }
+}
+
+/// What a message marks for update. One that was refused, and changed nothing, marks nothing.
 fn marks_of<'a>(
+    changed: bool,
     subjects: &Subjects,
     now: Time,
     op: &Op<'a>,
     told: &Result<Told, Errno>,
 ) -> Marks<'a>
-    ensures { result ≡ dating.marks_of subjects.now now op.now told.now }
+    ensures { result ≡ dating.marks_of changed subjects.now now op.now told.now }
 {
     match told {
         Ok(told) => marks_by(subjects, now, op, told),
+        Err(_) if changed => parts_by(subjects, op),
         Err(_) => no_marks(),
+    }
+}
+
+fn makes_object(op: &Op<'_>) -> bool
+    ensures { result ≡ dating.makes_object op.now }
+{
+    matches!(
+        op,
+        Op::Mknod { .. } | Op::Mkdir { .. } | Op::Create { .. }
+    )
+}
+
+/// Whether a message was refused once it had made an object, whose number isn't known.
+fn is_lost(changed: bool, op: &Op<'_>, told: &Result<Told, Errno>) -> bool
+    ensures { result ≡ dating.is_lost changed op.now told.now }
+{
+    match told {
+        Ok(_) => false,
+        Err(_) => changed && makes_object(op),
     }
 }
 
@@ -336,19 +367,38 @@ fn mark_one(times: &mut Times, now: Time, mark: Option<Mark<'_>>)
     }
 }
 
-/// Marks the times of what a message was about.
-pub(crate) fn mark(
+fn mark_each(
     times: &mut Times,
+    changed: bool,
     subjects: &Subjects,
     now: Time,
     op: &Op<'_>,
     told: &Result<Told, Errno>,
 )
-    ensures { dating.AreMarked (dating.marks_of subjects.now now op.now told.now) now times.old times.new }
+    ensures { dating.AreMarked (dating.marks_of changed subjects.now now op.now told.now) now times.old times.new }
 {
-    let marks = marks_of(subjects, now, op, told);
+    let marks = marks_of(changed, subjects, now, op, told);
     mark_one(times, now, marks.first);
     mark_one(times, now, marks.second);
     mark_one(times, now, marks.third);
     mark_one(times, now, marks.fourth);
+}
+
+/// Marks the times of what a message was about. `changed` says whether it changed something, also where it was refused. Where it had made an object by then, whose
+/// number isn't known, every object has the time of now: too young a time is one that a backup copies for nothing, and too old a one is a change that it misses.
+pub(crate) fn mark(
+    times: &mut Times,
+    changed: bool,
+    subjects: &Subjects,
+    now: Time,
+    op: &Op<'_>,
+    told: &Result<Told, Errno>,
+)
+    ensures { dating.IsUpdated (dating.is_lost changed op.now told.now) (dating.marks_of changed subjects.now now op.now told.now) now times.old times.new }
+{
+    if is_lost(changed, op, told) {
+        times.forget(now);
+    } else {
+        mark_each(times, changed, subjects, now, op, told);
+    }
 }

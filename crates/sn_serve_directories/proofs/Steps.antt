@@ -40,7 +40,7 @@ entries_held entries (Err e) is refused = lacking refused
 -- ---- one entry after the other
 
 memory_taken : {F A : Type 0} {did : F → F → List Act → Type 0} {s t : Server F} {p q : Plan A} → Goes did s t p (Takes q) → Goes did s t p q
-memory_taken {did = did} {t = t} {q = q} v = goes_on v (let n = goes_none did t q in record { acts = n.acts; grows = n.grows; leads = takes n.leads })
+memory_taken {did = did} {t = t} {q = q} v = goes_on v (let n = goes_none did t q in record { acts = n.acts; grows = n.grows; leads = takes n.leads; changed = n.changed })
 
 from_there : (names : List (List ℕ)) (at : ℕ) (name : List ℕ) → at < length names → name ≡ get_or names at name → drop at names ≡ name ∷ drop (at + 1) names
 from_there names at name within is =

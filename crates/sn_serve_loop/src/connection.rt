@@ -64,6 +64,7 @@ impl NewConnection {
             service: Service {
                 server: Server {
                     file_system,
+                    changed: false,
                     nodes,
                     files,
                     alloc,
@@ -97,6 +98,7 @@ impl<F> Connection<F> {
         } = service;
         let Server {
             file_system,
+            changed: _,
             nodes: _,
             files: _,
             alloc: _,

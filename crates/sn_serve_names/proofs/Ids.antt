@@ -12,7 +12,7 @@ use Rattle.sn_plan.specs.Acts.{Act}
 use Rattle.sn_plan.specs.Follows.{Does, kept_of}
 use Rattle.sn_plan.specs.Plans.{Change, Gives, Keeps, Kept, Knows, Plan, Refuses, Takes, Turns, files_after}
 use Rattle.sn_plan.specs.declared.server.Server.{Server}
-use Rattle.sn_plan.proofs.Following.{changes, does_as_error, does_same, knows_it, lacking, refuses, stays_so, takes_it}
+use Rattle.sn_plan.proofs.Following.{changes, does_as_error, does_same, knows_it, lacking, refuses, served_of, stays_so, takes_it}
 use Rattle.sn_serve_names.specs.Entries.{gives_id, node_errno}
 
 no_fault : (id : ℕ) → (let x : Result ℕ NodeFault = Ok id in x) ≡ Err Stale → ⊥
@@ -31,7 +31,7 @@ given_so {did = did} {s = s} {t = t} {p = p} is h = subst (λ (x : ℕ). Does di
 
 -- the directory is known, and there was memory
 pub gets : {F : Type 0} {did : F → F → List Act → Type 0} {s t : Server F} (parent : ℕ) (change : Change) (id one : ℕ) (r : Result ℕ NodeFault)
-    → r ≡ Ok id → (is_none (node_at (table_of s.nodes) parent) ≡ true → r ≡ Err Stale) → s.file_system ≡ t.file_system → t.files ≡ files_after change s.files
+    → r ≡ Ok id → (is_none (node_at (table_of s.nodes) parent) ≡ true → r ≡ Err Stale) → served_of s ≡ served_of t → t.files ≡ files_after change s.files
     → Turns change (table_of s.nodes) (table_of t.nodes) → id ≡ one → Does did s t (gives_id (kept_of s) parent change one) (Ok id)
 gets {s = s} parent change id one r is stale same files turns so =
     unless (is_none (node_at (table_of s.nodes) parent)) (Refuses ESTALE) (λ e. no_fault id (sym is ∙ stale e)) (given_so so (changes one same files turns))
@@ -51,7 +51,7 @@ kept_so s t r fault is nodes files =
 
 pub gets_none : {F : Type 0} {did : F → F → List Act → Type 0} {s t : Server F} (parent : ℕ) (change : Change) (one : Kept → ℕ) (fault : NodeFault) (e : Errno) (r : Result ℕ NodeFault)
     → r ≡ Err fault → (is_none (node_at (table_of s.nodes) parent) ≡ true → r ≡ Err Stale) → (is_some (node_at (table_of s.nodes) parent) ≡ true → IfErr r (λ f. f ≡ Refused))
-    → s.file_system ≡ t.file_system → t.files ≡ s.files → OnErr r (table_of t.nodes ≡ table_of s.nodes) → e ≡ node_errno fault
+    → served_of s ≡ served_of t → t.files ≡ s.files → OnErr r (table_of t.nodes ≡ table_of s.nodes) → e ≡ node_errno fault
     → Does did s t (Takes (Knows (λ kept. gives_id kept parent change (one kept)))) (Err e)
 gets_none {did = did} {s = s} {t = t} parent change one fault e r is stale refused same files nodes so =
     stays_so same (kept_so s t r fault is nodes files)

@@ -233,8 +233,8 @@ impl Times {
         self.take(kept, home)
     }
 
-    // Every object has this time from then on.
-    fn forget(&mut self, now: Time)
+    /// Every object has this time from then on: for a change of which isn't known what it was of.
+    pub fn forget(&mut self, now: Time)
         ensures { self.new ≡ all_forgotten now }
     {
         self.base = now;

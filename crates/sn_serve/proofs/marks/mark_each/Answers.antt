@@ -1,7 +1,7 @@
 use Rattle.std.proofs.Common.{subst}
 use Rattle.sn_serve.specs.Dating.{AreMarked}
 use Rattle.sn_serve.specs.declared.marks.Marks.{Marks}
-use Rattle.sn_serve.proofs.marks.mark.Goals as goal
+use Rattle.sn_serve.proofs.marks.mark_each.Goals as goal
 
 pub returns : goal.returns
 returns c = subst (λ (marks : Marks). AreMarked marks c.args.now c.args.times.now c.mark_one-4.new.times) c.marks_of-marks.ensures (record {
