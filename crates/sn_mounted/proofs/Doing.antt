@@ -45,7 +45,7 @@ act_runs : (told : Bool) (act : Act) (old new : Shown) → Does told act old new
 act_runs told (Called session c reply) old new (calls leads places) = record { events = event.Call session c ∷ []; replies = reply ∷ []; are = call none; leads = leads }
 act_runs told (Found path found) old new (finds same is) = looks_on told (Found path found) old new tt same
 act_runs told (Seen number seen) old new (sees same places is) = looks_on told (Seen number seen) old new tt same
-act_runs told (Counted space) old new counts = looks_on told (Counted space) old old tt (λ known. refl)
+act_runs told (Counted space) old new (counts left) = looks_on told (Counted space) old old tt (λ known. refl)
 
 runs_more : (told : Bool) (a b : List Act) (first old new : Shown) → IsPartOfRun told first old a → IsPartOfRun told old new b → IsPartOfRun told first new (a ++ b)
 runs_more told a b first old new h more = record {

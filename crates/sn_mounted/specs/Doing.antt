@@ -1,11 +1,12 @@
 -- What was done from one moment of a mount to another.
-use Rattle.std.specs.Prelude.{◌≡◌, ℕ, Bool, List, [], ◌∷◌, ◌++◌, length, replicate, IsTrue, Option, Result}
+use Rattle.std.specs.Prelude.{◌≡◌, ℕ, Bool, false, List, [], ◌∷◌, ◌++◌, length, replicate, IsTrue, Option, Result}
 use Rattle.sn_model.specs.declared.call.Call.{Call}
 use Rattle.sn_model.specs.declared.call.Event.TheVariants as event
 use Rattle.sn_model.specs.declared.reply.Reply.{Reply}
 use Rattle.sn_plan.specs.Acts.{Act, Called, Counted, Found, Seen}
 use Rattle.sn_plan.specs.declared.errors.LookFault.{LookFault}
 use Rattle.sn_plan.specs.declared.file_system.Space.{Space}
+use Rattle.sn_serving.specs.Pacing.{Paces}
 use Rattle.sn_serving.specs.Served.{Leads}
 use Rattle.sn_walk.specs.declared.view.Attributes.{Attributes}
 use Rattle.sn_mounted.specs.Shown.{Finds, Sees, Shown, places_after}
@@ -17,7 +18,7 @@ pub data Does (told : Bool) : Act → Shown → Shown → Type 0 where
   finds : {path : List ℕ} {found : Result (Option ℕ) LookFault} {old new : Shown} → (IsTrue told → new.served ≡ old.served) → Finds told path found old new → Does told (Found path found) old new
   sees : {number : ℕ} {seen : Result (Option Attributes) LookFault} {old new : Shown} → (IsTrue told → new.served ≡ old.served) → new.places ≡ old.places → Sees told number seen old
       → Does told (Seen number seen) old new
-  counts : {space : Space} {old : Shown} → Does told (Counted space) old old
+  counts : {space : Space} {old : Shown} → (IsTrue told → old.served.has_stopped ≡ false → space.left ≡ old.served.room.left) → Does told (Counted space) old old
 
 -- The acts lead from the second to the first, with steps of consistency points between any two of them.
 pub data Did (told : Bool) (first : Shown) : Shown → List Act → Type 0 where
@@ -29,3 +30,7 @@ pub data Did (told : Bool) (first : Shown) : Shown → List Act → Type 0 where
 -- the same with the later moment first
 abbrev pub DidFrom : Bool → Shown → Shown → List Act → Type 0
 DidFrom told now first acts = Did told first now acts
+
+-- the steps of consistency points were made that were due
+abbrev pub PacesIn : Bool → Shown → Shown → Type 0
+PacesIn told old new = IsTrue told → Paces old.served new.served

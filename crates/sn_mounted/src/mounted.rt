@@ -1,5 +1,5 @@
 //! A mounted file system that answers a server.
-ghost use Rattle.std.specs.Prelude.{◌≡◌, ◌∷◌, [], List, IsTrue, IfErr, IfOk, OnErr, OnOk, length, replicate};
+ghost use Rattle.std.specs.Prelude.{◌≡◌, ◌∷◌, [], false, List, IsTrue, IfErr, IfOk, OnErr, OnOk, length, replicate};
 ghost use Rattle.sn_check.specs.Verdicts.{IsCause};
 ghost use Rattle.sn_device.specs.Disk.{reads};
 ghost use Rattle.sn_held.specs.Images.{IsImage};
@@ -16,6 +16,7 @@ ghost use Rattle.sn_model.specs.declared.reply.Reply.{Reply as Told};
 ghost use Rattle.sn_mounted.specs.Shown.{Finds, Sees, met_by, object_by, object_in, places_after};
 ghost use Rattle.sn_run.specs.Ending.{IsLastEnd};
 ghost use Rattle.sn_run.specs.Runs.{IsRunOf};
+ghost use Rattle.sn_serving.specs.Pacing.{Paces};
 ghost use Rattle.sn_serving.specs.Served.{IsMountOf, Leads, Unmounts};
 
 use sn_core::{
@@ -192,7 +193,9 @@ impl<D: Device + Drop> Mounted<D> {
     }
 
     // How much room there is.
-    fn left(&self) -> Space {
+    fn left(&self) -> Space
+        ensures { IsTrue D.tells_bytes → self.now.served.has_stopped ≡ false → result.left ≡ self.now.served.room.left }
+    {
         Space {
             blocks: self.blocks,
             left: u64::from(self.serving.room().left),
@@ -202,6 +205,7 @@ impl<D: Device + Drop> Mounted<D> {
     /// Makes the steps that are due after calls that were logged, as `Serving::keep_pace` does.
     pub fn make_steps(&mut self)
         ensures steps { (replies : List Told) × (IsTrue D.tells_bytes → Leads (replicate (length replies) event.Step) replies self.old.served self.new.served) }
+        ensures due { IsTrue D.tells_bytes → Paces self.old.served self.new.served }
         ensures places { self.new.places ≡ self.old.places }
     {
         self.serving.keep_pace();
@@ -218,11 +222,13 @@ impl<D: Device + Drop> Mounted<D> {
 }
 
 impl<D: Device + Drop> FileSystem for Mounted<D> {
-    ghost use Rattle.sn_mounted.specs.Doing.{DidFrom};
+    ghost use Rattle.sn_mounted.specs.Doing.{DidFrom, PacesIn};
 
     ghost did = { DidFrom D.tells_bytes };
 
     ghost stopped = { λ m. m.served.has_stopped };
+
+    ghost paces = { PacesIn D.tells_bytes };
 
     fn call(&mut self, session: u32, call: &Call) -> Reply {
         self.answer(session, call)

@@ -1,5 +1,5 @@
 //! What a server serves.
-ghost use Rattle.std.specs.Prelude.{◌≡◌, ◌∷◌, [], List, Bool, false};
+ghost use Rattle.std.specs.Prelude.{◌≡◌, ◌∷◌, [], List, Bool, false, ⊤};
 ghost use Rattle.sn_plan.specs.Acts.{Act, Called, Counted, Found, Seen};
 ghost use Rattle.sn_plan.specs.Acts.{Grows};
 
@@ -27,6 +27,9 @@ pub trait FileSystem {
     /// Whether a failure has stopped it for good.
     ghost stopped: { Self → Bool } = { λ _. false };
 
+    /// Whether the work that was due at the first was done at the second.
+    ghost paces: { Self → Self → Type 0 } = { λ _ _. ⊤ };
+
     /// The reply to a call of a session.
     fn call(&mut self, session: u32, call: &Call) -> Reply
         ensures { Grows (did self.old) (did self.new) (Called session call.now result ∷ []) };
@@ -49,5 +52,6 @@ pub trait FileSystem {
 
     /// Does the work that is due after calls, for which nobody waits. It is no act.
     fn keep_pace(&mut self)
-        ensures { Grows (did self.old) (did self.new) [] };
+        ensures quiet { Grows (did self.old) (did self.new) [] }
+        ensures due { paces self.old self.new };
 }

@@ -4,7 +4,7 @@ use Rattle.std.specs.Prelude.{IsTrue, Option, Result}
 use Rattle.sn_device.specs.Disk.{Disk, reads}
 use Rattle.sn_held.specs.Images.{IsImage}
 use Rattle.sn_model.specs.World.{World}
-use Rattle.sn_mounted.specs.Doing.{Did, DidFrom, begins}
+use Rattle.sn_mounted.specs.Doing.{Did, DidFrom, PacesIn, begins}
 use Rattle.sn_mounted.specs.Runs.{IsPartOfRun}
 use Rattle.sn_mounted.specs.Shown.{Shown}
 use Rattle.sn_mounted.proofs.Doing.{did_runs}
@@ -22,7 +22,7 @@ pub served : {P : Type 0} (told : Bool) (tells : P → ℕ → Option (List ℕ)
 served told tells checker dates left mounted before after input rest output written outcome disk last none s mounts =
     let none_done : Did told mounted s.first.server.file_system [] = subst (λ (now : Shown). Did told mounted now []) (sym s.new.served) begins in
     let logged : Did told mounted s.conversation.first.server.file_system s.conversation.logins = s.conversation.grows.grows mounted [] none_done in
-    let did : Did told mounted s.ended.server.file_system (s.conversation.logins ++ s.conversation.conversation.acts) = (conversation_grows (DidFrom told) tells stopped s.conversation.conversation.converses).grows mounted s.conversation.logins logged in
+    let did : Did told mounted s.ended.server.file_system (s.conversation.logins ++ s.conversation.conversation.acts) = (conversation_grows (DidFrom told) tells stopped (PacesIn told) s.conversation.conversation.converses).grows mounted s.conversation.logins logged in
     let part : IsPartOfRun told mounted s.ended.server.file_system (s.conversation.logins ++ s.conversation.conversation.acts) = did_runs told mounted s.ended.server.file_system (s.conversation.logins ++ s.conversation.conversation.acts) did in
     record {
       mounted = mounted;

@@ -9,7 +9,7 @@ use Rattle.sn_model.specs.declared.end.End.{End}
 use Rattle.sn_model.specs.declared.end.End.TheVariants as ending
 use Rattle.sn_model.specs.declared.fault.MountFault.{MountFault}
 use Rattle.sn_model.specs.declared.reply.Reply.{Reply}
-use Rattle.sn_mounted.specs.Doing.{DidFrom}
+use Rattle.sn_mounted.specs.Doing.{DidFrom, PacesIn}
 use Rattle.sn_mounted.specs.Runs.{AreEventsOf}
 use Rattle.sn_mounted.specs.Shown.{Shown}
 use Rattle.sn_plan.specs.declared.checker.Checker.{Checker}
@@ -50,7 +50,7 @@ pub record IsServedFrom {P : Type 0} (told : Bool) (tells : P → ℕ → Option
   pub new : IsNew first mounted checker dates
   pub ended : Service Shown
   pub why : Stop
-  pub conversation : LogsInAndConverses (DidFrom told) tells stopped first before ended after why [] input rest output written
+  pub conversation : LogsInAndConverses (DidFrom told) tells stopped (PacesIn told) first before ended after why [] input rest output written
   pub left_is : left ≡ ended.times
   pub end : End
   pub told_end : IsLastEnd end

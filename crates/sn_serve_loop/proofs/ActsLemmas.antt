@@ -1,5 +1,5 @@
 -- What was done for messages.
-use Rattle.std.proofs.Common.{ℕ, Bool, List, [], ◌++◌, append_assoc, sym, subst}
+use Rattle.std.proofs.Common.{ℕ, Bool, true, false, List, [], ◌++◌, append_assoc, sym, subst}
 use Rattle.std.proofs.lemmas.List.{append-nil}
 use Rattle.std.specs.declared.option.Option.{Option}
 use Rattle.sn_plan.specs.Acts.{Act, Grows}
@@ -11,7 +11,7 @@ use Rattle.sn_serve.specs.Messages.{Answers, Held, acts_in, Way, closes, follows
 use Rattle.sn_serve.specs.declared.told.Told.{Told}
 use Rattle.std.specs.declared.result.Result.{Result}
 use Rattle.sn_serve.specs.declared.service.Service.{Service}
-use Rattle.sn_serve_loop.specs.Conversations.{Replies, Converses, answered, answers, begins, refuses}
+use Rattle.sn_serve_loop.specs.Conversations.{Replies, Converses, PacesIf, answered, answers, begins, refuses}
 
 -- nothing was done, and more was done after it
 module _ {F : Type 0} (did : F → F → List Act → Type 0) where
@@ -42,11 +42,15 @@ module _ {F P : Type 0} (did : F → F → List Act → Type 0) (tells : P → �
   replies_grow (answers runs e) = exchange_grows e
   replies_grow {old = old} (refuses has_stopped is) = grows_none did old.server.file_system
 
+  paced_grows : (paces : F → F → Type 0) (whole : Bool) (old new : Service F) → PacesIf did paces whole old new → Grows (did old.server.file_system) (did new.server.file_system) []
+  paced_grows paces true old new p = p.grows
+  paced_grows paces false old new same = subst (λ (s : Service F). Grows (did old.server.file_system) (did s.server.file_system) []) (sym same) (grows_none did old.server.file_system)
+
   -- what was done for all of them goes on from what was done before
-  pub conversation_grows : {first : Service F} {who : P} {last : Service F} {after : P} {messages replies : List (List ℕ)} {acts : List Act} → Converses did tells stopped first who messages replies acts last after
-      → Grows (did first.server.file_system) (did last.server.file_system) acts
-  conversation_grows {first = first} begins = grows_none did first.server.file_system
-  conversation_grows {first = first} (answered {done = done} {acts} {old = old} {mid} {new} t is r p) =
+  pub conversation_grows : (paces : F → F → Type 0) {whole : Bool} {first : Service F} {who : P} {last : Service F} {after : P} {messages replies : List (List ℕ)} {acts : List Act}
+      → Converses did tells stopped paces first who whole messages replies acts last after → Grows (did first.server.file_system) (did last.server.file_system) acts
+  conversation_grows paces {first = first} begins = grows_none did first.server.file_system
+  conversation_grows paces {first = first} (answered {whole} {done = done} {acts} {old = old} {mid} {new} t is r p) =
       subst (λ (all : List Act). Grows (did first.server.file_system) (did new.server.file_system) all) (append-nil (done ++ acts))
       (grows_more did first.server.file_system mid.server.file_system new.server.file_system (done ++ acts) []
-      (grows_more did first.server.file_system old.server.file_system mid.server.file_system done acts (conversation_grows t) (replies_grow r)) p.grows)
+      (grows_more did first.server.file_system old.server.file_system mid.server.file_system done acts (conversation_grows paces t) (replies_grow r)) (paced_grows paces whole mid new p))

@@ -8,13 +8,12 @@ use Rattle.std.specs.Prelude.{◌≢◌, None, Some, Result, Ok, Err, IfErr, IsE
 use Rattle.std.specs.declared.option.Option.{Option}
 use Rattle.sn_output.specs.Outputs.{AppendsFront}
 use Rattle.sn_output.proofs.OutputLemmas.{appends_more, appends_none, same_more}
-use Rattle.sn_plan.specs.Acts.{Act, Grows}
+use Rattle.sn_plan.specs.Acts.{Act}
 use Rattle.sn_serve.specs.declared.service.Service.{Service}
-use Rattle.sn_serve_loop.proofs.ActsLemmas.{grows_none}
 use Rattle.sn_serve_loop.specs.Fronts.{IsMessage}
 use Rattle.sn_serve_loop.specs.declared.stop.Stop.{Stop}
 use Rattle.sn_serve_loop.specs.declared.stop.Stop.TheVariants.{Ended}
-use Rattle.sn_serve_loop.specs.Conversations.{Replies, Sends, Conversation, Converses, Owes, Paces, answered, begins, cut, none, sent}
+use Rattle.sn_serve_loop.specs.Conversations.{Replies, Sends, Conversation, Converses, Paces, PacesIf, answered, begins, cut, none, sent}
 
 -- ---- refusals
 
@@ -31,10 +30,6 @@ not_ended X (Err stop) e h k = λ is. absurd (k (sym h ∙ is))
 pub never_ended : {A : Type 0} (X : Type 0) (r : Result A Stop) → IfErr r (λ stop. stop ≢ Ended) → IfErr r (λ stop. stop ≡ Ended → X)
 never_ended X (Ok a) h = tt
 never_ended X (Err stop) h = λ is. absurd (h is)
-
--- what is whole isn't cut
-pub not_cut : (X : Type 0) → true ≡ false → X
-not_cut X is = absurd (let never : true ≡ false = is in cc)
 
 -- ---- input
 
@@ -69,22 +64,22 @@ cut_one reply o v h = cut reply (none (appends_none o)) h
 
 -- ---- messages
 
-module _ {F P : Type 0} (did : F → F → List Act → Type 0) (tells : P → ℕ → Option (List ℕ) → P → Type 0) (stopped : F → Bool) where
-  converses_more : (a : Service F) (p : P) (b : Service F) (q : P) (ms rs : List (List ℕ)) (was : List Act) → Converses did tells stopped a p ms rs was b q → (c : Service F) (r : P) (ns ss : List (List ℕ)) (bs : List Act)
-      → Converses did tells stopped b q ns ss bs c r → Converses did tells stopped a p (ms ++ ns) (rs ++ ss) (was ++ bs) c r
-  converses_more a p b q ms rs was first _ _ _ _ _ begins =
-      subst (λ (m : List (List ℕ)). Converses did tells stopped a p m (rs ++ []) (was ++ []) b q) (sym (append-nil ms))
-      (subst (λ (s : List (List ℕ)). Converses did tells stopped a p ms s (was ++ []) b q) (sym (append-nil rs))
-      (subst (λ (acts : List Act). Converses did tells stopped a p ms rs acts b q) (sym (append-nil was)) first))
-  converses_more a p b q ms rs was first _ _ _ _ _ (answered {messages = ns} {replies = ss} {done = before} {acts} {message} {reply} {old} {mid} {new} {before = who} {after} t is h paces) =
-      subst (λ (m : List (List ℕ)). Converses did tells stopped a p m (rs ++ (ss ++ reply ∷ [])) (was ++ (before ++ acts)) new after) (append_assoc ms ns (message ∷ []))
-      (subst (λ (s : List (List ℕ)). Converses did tells stopped a p ((ms ++ ns) ++ message ∷ []) s (was ++ (before ++ acts)) new after) (append_assoc rs ss (reply ∷ []))
-      (subst (λ (done : List Act). Converses did tells stopped a p ((ms ++ ns) ++ message ∷ []) ((rs ++ ss) ++ reply ∷ []) done new after) (append_assoc was before acts)
-      (answered (converses_more a p b q ms rs was first old who ns ss before t) is h paces)))
+module _ {F P : Type 0} (did : F → F → List Act → Type 0) (tells : P → ℕ → Option (List ℕ) → P → Type 0) (stopped : F → Bool) (paces : F → F → Type 0) where
+  converses_more : (a : Service F) (p : P) (b : Service F) (q : P) (ms rs : List (List ℕ)) (was : List Act) → Converses did tells stopped paces a p true ms rs was b q
+      → (whole : Bool) (c : Service F) (r : P) (ns ss : List (List ℕ)) (bs : List Act) → Converses did tells stopped paces b q whole ns ss bs c r → Converses did tells stopped paces a p whole (ms ++ ns) (rs ++ ss) (was ++ bs) c r
+  converses_more a p b q ms rs was first _ _ _ _ _ _ begins =
+      subst (λ (m : List (List ℕ)). Converses did tells stopped paces a p true m (rs ++ []) (was ++ []) b q) (sym (append-nil ms))
+      (subst (λ (s : List (List ℕ)). Converses did tells stopped paces a p true ms s (was ++ []) b q) (sym (append-nil rs))
+      (subst (λ (acts : List Act). Converses did tells stopped paces a p true ms rs acts b q) (sym (append-nil was)) first))
+  converses_more a p b q ms rs was first _ _ _ _ _ _ (answered {whole} {messages = ns} {replies = ss} {done = before} {acts} {message} {reply} {old} {mid} {new} {before = who} {after} t is h paced) =
+      subst (λ (m : List (List ℕ)). Converses did tells stopped paces a p whole m (rs ++ (ss ++ reply ∷ [])) (was ++ (before ++ acts)) new after) (append_assoc ms ns (message ∷ []))
+      (subst (λ (s : List (List ℕ)). Converses did tells stopped paces a p whole ((ms ++ ns) ++ message ∷ []) s (was ++ (before ++ acts)) new after) (append_assoc rs ss (reply ∷ []))
+      (subst (λ (done : List Act). Converses did tells stopped paces a p whole ((ms ++ ns) ++ message ∷ []) ((rs ++ ss) ++ reply ∷ []) done new after) (append_assoc was before acts)
+      (answered (converses_more a p b q ms rs was first true old who ns ss before t) is h paced)))
 
   -- ---- all of it
 
-  pub none_yet : (a : Service F) (p : P) (pending : List ℕ) (i o : Option (List ℕ)) → Conversation did tells stopped true a p a p pending pending i i o o
+  pub none_yet : (a : Service F) (p : P) (pending : List ℕ) (i o : Option (List ℕ)) → Conversation did tells stopped paces true a p a p pending pending i i o o
   none_yet a p pending i o = record {
     messages = [];
     replies = [];
@@ -94,10 +89,9 @@ module _ {F P : Type 0} (did : F → F → List Act → Type 0) (tells : P → �
     consumes = consumes_none i;
     bytes = append-nil pending;
     sends = none (appends_none o);
-    owes = not_cut (Owes did tells stopped a p [] a p);
   }
 
-  pub received : (a : Service F) (p : P) (pending left came : List ℕ) (i j o : Option (List ℕ)) → Consumes i j came → left ≡ pending ++ came → Conversation did tells stopped true a p a p pending left i j o o
+  pub received : (a : Service F) (p : P) (pending left came : List ℕ) (i j o : Option (List ℕ)) → Consumes i j came → left ≡ pending ++ came → Conversation did tells stopped paces true a p a p pending left i j o o
   received a p pending left came i j o taken is = record {
     messages = [];
     replies = [];
@@ -107,33 +101,15 @@ module _ {F P : Type 0} (did : F → F → List Act → Type 0) (tells : P → �
     consumes = taken;
     bytes = sym is;
     sends = none (appends_none o);
-    owes = not_cut (Owes did tells stopped a p [] a p);
   }
 
-  -- what is owed is still owed where other messages were answered before
-  owes_more : (a : Service F) (p : P) (b : Service F) (q : P) (ms rs : List (List ℕ)) (was : List Act) → Converses did tells stopped a p ms rs was b q → (c : Service F) (r : P) (ns : List (List ℕ))
-      → Owes did tells stopped b q ns c r → Owes did tells stopped a p (ms ++ ns) c r
-  owes_more a p b q ms rs was first c r ns o = record {
-    others = ms ++ o.others;
-    replies = rs ++ o.replies;
-    done = was ++ o.done;
-    old = o.old;
-    before = o.before;
-    converses = converses_more a p b q ms rs was first o.old o.before o.others o.replies o.done o.converses;
-    message = o.message;
-    reply = o.reply;
-    acts = o.acts;
-    answered_last = o.answered_last;
-    messages_are = ap (λ (s : List (List ℕ)). ms ++ s) o.messages_are ∙ sym (append_assoc ms o.others (o.message ∷ []));
-  }
-
-  pub conversation_more : (whole : Bool) (a b c : Service F) (p q r : P) (x y z : List ℕ) (i j k o v w : Option (List ℕ)) → Conversation did tells stopped true a p b q x y i j o v → Conversation did tells stopped whole b q c r y z j k v w
-      → Conversation did tells stopped whole a p c r x z i k o w
+  pub conversation_more : (whole : Bool) (a b c : Service F) (p q r : P) (x y z : List ℕ) (i j k o v w : Option (List ℕ)) → Conversation did tells stopped paces true a p b q x y i j o v
+      → Conversation did tells stopped paces whole b q c r y z j k v w → Conversation did tells stopped paces whole a p c r x z i k o w
   conversation_more whole a b c p q r x y z i j k o v w h more = record {
     messages = h.messages ++ more.messages;
     replies = h.replies ++ more.replies;
     acts = h.acts ++ more.acts;
-    converses = converses_more a p b q h.messages h.replies h.acts h.converses c r more.messages more.replies more.acts more.converses;
+    converses = converses_more a p b q h.messages h.replies h.acts h.converses whole c r more.messages more.replies more.acts more.converses;
     came = h.came ++ more.came;
     consumes = consumes_more i j k h.came more.came h.consumes more.consumes;
     bytes =
@@ -144,35 +120,21 @@ module _ {F P : Type 0} (did : F → F → List Act → Type 0) (tells : P → �
         ∙ sym (append_assoc (concat h.messages) (concat more.messages) z)
         ∙ ap (λ (s : List ℕ). s ++ z) (sym (concat-append h.messages more.messages));
     sends = sends_more h.replies more.replies whole o v w h.sends more.sends;
-    owes = λ is. owes_more a p b q h.messages h.replies h.acts h.converses c r more.messages (more.owes is);
   }
 
   -- one message was answered, whose reply was sent or cut
   one_answered : (whole : Bool) (a b c : Service F) (p q : P) (pending left message reply : List ℕ) (acts : List Act) (i o v : Option (List ℕ)) → IsMessage message
-      → Replies did tells stopped message a p b q reply acts → Paces did b c → (whole ≡ false → Replies did tells stopped message a p c q reply acts) → pending ≡ message ++ left
-      → Sends (reply ∷ []) whole o v → Conversation did tells stopped whole a p c q pending left i i o v
-  one_answered whole a b c p q pending left message reply acts i o v is replies paces owed cuts sends = record {
+      → Replies did tells stopped message a p b q reply acts → PacesIf did paces whole b c → pending ≡ message ++ left → Sends (reply ∷ []) whole o v
+      → Conversation did tells stopped paces whole a p c q pending left i i o v
+  one_answered whole a b c p q pending left message reply acts i o v is replies paced cuts sends = record {
     messages = message ∷ [];
     replies = reply ∷ [];
     acts = acts;
-    converses = answered begins is replies paces;
+    converses = answered begins is replies paced;
     came = [];
     consumes = consumes_none i;
     bytes = append-nil pending ∙ cuts ∙ ap (λ (s : List ℕ). s ++ left) (sym (append-nil message));
     sends = sends;
-    owes = λ is_cut. record {
-      others = [];
-      replies = [];
-      done = [];
-      old = a;
-      before = p;
-      converses = begins;
-      message = message;
-      reply = reply;
-      acts = acts;
-      answered_last = owed is_cut;
-      messages_are = refl;
-    };
   }
 
   -- the message is the front of what came
@@ -180,25 +142,19 @@ module _ {F P : Type 0} (did : F → F → List Act → Type 0) (tells : P → �
       → Replies did tells stopped (take size pending) a p b q reply acts
   at_front a b p q pending bytes size reply acts same replies = subst (λ (xs : List ℕ). Replies did tells stopped (take size xs) a p b q reply acts) same replies
 
-  still : (a : Service F) → Paces did a a
-  still a = record { same = refl; grows = grows_none did a.server.file_system }
-
   -- its reply was cut, and no work was done
   pub first_cut : (a b : Service F) (p q : P) (pending bytes : List ℕ) (size : ℕ) (reply : List ℕ) (acts : List Act) (i o v : Option (List ℕ)) → bytes ≡ pending → IsMessage (take size pending)
-      → Replies did tells stopped (take size bytes) a p b q reply acts → Sends (reply ∷ []) false o v → Conversation did tells stopped false a p b q pending (drop size pending) i i o v
+      → Replies did tells stopped (take size bytes) a p b q reply acts → Sends (reply ∷ []) false o v → Conversation did tells stopped paces false a p b q pending (drop size pending) i i o v
   first_cut a b p q pending bytes size reply acts i o v same is replies sends =
-      let answer : Replies did tells stopped (take size pending) a p b q reply acts = at_front a b p q pending bytes size reply acts same replies in
-      one_answered false a b b p q pending (drop size pending) (take size pending) reply acts i o v is answer (still b) (λ _. answer) (sym (take-append-drop size pending)) sends
+      one_answered false a b b p q pending (drop size pending) (take size pending) reply acts i o v is (at_front a b p q pending bytes size reply acts same replies) refl (sym (take-append-drop size pending)) sends
 
-  -- its reply was sent, and then work was done
+  -- its reply was sent, and then the work that was due was done
   pub first_sent : (a b c : Service F) (p q : P) (pending bytes : List ℕ) (size : ℕ) (reply : List ℕ) (acts : List Act) (i o v : Option (List ℕ)) → bytes ≡ pending → IsMessage (take size pending)
-      → Replies did tells stopped (take size bytes) a p b q reply acts → Sends (reply ∷ []) true o v → c ≡ record b { server = record b.server { file_system = c.server.file_system } }
-      → Grows (did b.server.file_system) (did c.server.file_system) [] → Conversation did tells stopped true a p c q pending (drop size pending) i i o v
-  first_sent a b c p q pending bytes size reply acts i o v same is replies sends rest grows =
-      one_answered true a b c p q pending (drop size pending) (take size pending) reply acts i o v is (at_front a b p q pending bytes size reply acts same replies)
-      (record { same = rest; grows = grows }) (not_cut (Replies did tells stopped (take size pending) a p c q reply acts)) (sym (take-append-drop size pending)) sends
+      → Replies did tells stopped (take size bytes) a p b q reply acts → Sends (reply ∷ []) true o v → Paces did paces b c → Conversation did tells stopped paces true a p c q pending (drop size pending) i i o v
+  first_sent a b c p q pending bytes size reply acts i o v same is replies sends paced =
+      one_answered true a b c p q pending (drop size pending) (take size pending) reply acts i o v is (at_front a b p q pending bytes size reply acts same replies) paced (sym (take-append-drop size pending)) sends
 
-  pub whole_turn : (whole : Bool) (a b : Service F) (p q : P) (x left next : List ℕ) (i j o v : Option (List ℕ)) → Conversation did tells stopped whole a p b q x left i j o v → next ≡ left → whole ≡ true
-      → Conversation did tells stopped true a p b q x next i j o v
+  pub whole_turn : (whole : Bool) (a b : Service F) (p q : P) (x left next : List ℕ) (i j o v : Option (List ℕ)) → Conversation did tells stopped paces whole a p b q x left i j o v → next ≡ left → whole ≡ true
+      → Conversation did tells stopped paces true a p b q x next i j o v
   whole_turn whole a b p q x left next i j o v h same is =
-      subst (λ (w : Bool). Conversation did tells stopped w a p b q x next i j o v) is (subst (λ (l : List ℕ). Conversation did tells stopped whole a p b q x l i j o v) (sym same) h)
+      subst (λ (w : Bool). Conversation did tells stopped paces w a p b q x next i j o v) is (subst (λ (l : List ℕ). Conversation did tells stopped paces whole a p b q x l i j o v) (sym same) h)

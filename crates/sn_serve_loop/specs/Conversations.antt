@@ -13,9 +13,15 @@ use Rattle.sn_serve_loop.specs.declared.stop.Stop.TheVariants.{Ended, Memory}
 use Rattle.sn_serve_loop.specs.Sessions.{LogIn}
 
 -- work that is due is done, which is no act, and nothing else
-pub record Paces {F : Type 0} (did : F → F → List Act → Type 0) (old new : Service F) : Type 0 where
+pub record Paces {F : Type 0} (did : F → F → List Act → Type 0) (paces : F → F → Type 0) (old new : Service F) : Type 0 where
   pub same : new ≡ record old { server = record old.server { file_system = new.server.file_system } }
   pub grows : Grows (did old.server.file_system) (did new.server.file_system) []
+  pub due : paces old.server.file_system new.server.file_system
+
+-- that, or nothing where a reply isn't written whole
+abbrev pub PacesIf : {F : Type 0} → (F → F → List Act → Type 0) → (F → F → Type 0) → Bool → Service F → Service F → Type 0
+PacesIf did paces true old new = Paces did paces old new
+PacesIf did paces false old new = new ≡ old
 
 -- A message is answered with these bytes, and these acts are done for it. One that has stopped does nothing.
 pub data Replies {F P : Type 0} (did : F → F → List Act → Type 0) (tells : P → ℕ → Option (List ℕ) → P → Type 0) (stopped : F → Bool) (message : List ℕ) (old : Service F) (before : P)
@@ -24,13 +30,14 @@ pub data Replies {F P : Type 0} (did : F → F → List Act → Type 0) (tells :
       → Replies did tells stopped message old before new after reply (acts_for e)
   refuses : {reply : List ℕ} → stopped old.server.file_system ≡ true → IsRefusal message reply → Replies did tells stopped message old before old before reply []
 
--- These messages were answered by these replies, and these acts were done for them. After each of them, and at no other time, work may be done.
-pub data Converses {F P : Type 0} (did : F → F → List Act → Type 0) (tells : P → ℕ → Option (List ℕ) → P → Type 0) (stopped : F → Bool) (first : Service F) (who : P)
-    : List (List ℕ) → List (List ℕ) → List Act → Service F → P → Type 0 where
-  begins : Converses did tells stopped first who [] [] [] first who
-  answered : {messages replies : List (List ℕ)} {done acts : List Act} {message reply : List ℕ} {old mid new : Service F} {before after : P}
-      → Converses did tells stopped first who messages replies done old before → IsMessage message → Replies did tells stopped message old before mid after reply acts → Paces did mid new
-      → Converses did tells stopped first who (messages ++ message ∷ []) (replies ++ reply ∷ []) (done ++ acts) new after
+-- These messages were answered by these replies, and these acts were done for them. After each reply that is written whole, and at no other time, the
+-- work that is due is done. Only the last may be one that isn't: then it is told besides.
+pub data Converses {F P : Type 0} (did : F → F → List Act → Type 0) (tells : P → ℕ → Option (List ℕ) → P → Type 0) (stopped : F → Bool) (paces : F → F → Type 0) (first : Service F) (who : P)
+    : Bool → List (List ℕ) → List (List ℕ) → List Act → Service F → P → Type 0 where
+  begins : Converses did tells stopped paces first who true [] [] [] first who
+  answered : {whole : Bool} {messages replies : List (List ℕ)} {done acts : List Act} {message reply : List ℕ} {old mid new : Service F} {before after : P}
+      → Converses did tells stopped paces first who true messages replies done old before → IsMessage message → Replies did tells stopped message old before mid after reply acts → PacesIf did paces whole mid new
+      → Converses did tells stopped paces first who whole (messages ++ message ∷ []) (replies ++ reply ∷ []) (done ++ acts) new after
 
 -- ---- the output
 
@@ -42,33 +49,17 @@ pub data Sends : List (List ℕ) → Bool → Option (List ℕ) → Option (List
 
 -- ---- all of it
 
--- The last of these messages was answered, and no work was done after it.
-pub record Owes {F P : Type 0} (did : F → F → List Act → Type 0) (tells : P → ℕ → Option (List ℕ) → P → Type 0) (stopped : F → Bool) (first : Service F) (who : P) (messages : List (List ℕ)) (last : Service F)
-    (after : P) : Type 0 where
-  pub others : List (List ℕ)
-  pub replies : List (List ℕ)
-  pub done : List Act
-  pub old : Service F
-  pub before : P
-  pub converses : Converses did tells stopped first who others replies done old before
-  pub message : List ℕ
-  pub reply : List ℕ
-  pub acts : List Act
-  pub answered_last : Replies did tells stopped message old before last after reply acts
-  pub messages_are : messages ≡ others ++ message ∷ []
-
--- Of the bytes that came, messages were answered, and the last are still to be. While a reply isn't written whole, no work is done.
-pub record Conversation {F P : Type 0} (did : F → F → List Act → Type 0) (tells : P → ℕ → Option (List ℕ) → P → Type 0) (stopped : F → Bool) (whole : Bool) (old : Service F) (before : P) (new : Service F)
+-- Of the bytes that came, messages were answered, and the last are still to be.
+pub record Conversation {F P : Type 0} (did : F → F → List Act → Type 0) (tells : P → ℕ → Option (List ℕ) → P → Type 0) (stopped : F → Bool) (paces : F → F → Type 0) (whole : Bool) (old : Service F) (before : P) (new : Service F)
     (after : P) (pending left : List ℕ) (input rest output written : Option (List ℕ)) : Type 0 where
   pub messages : List (List ℕ)
   pub replies : List (List ℕ)
   pub acts : List Act
-  pub converses : Converses did tells stopped old before messages replies acts new after
+  pub converses : Converses did tells stopped paces old before whole messages replies acts new after
   pub came : List ℕ
   pub consumes : Consumes input rest came
   pub bytes : pending ++ came ≡ concat messages ++ left
   pub sends : Sends replies whole output written
-  pub owes : whole ≡ false → Owes did tells stopped old before messages new after
 
 -- The input has ended: no whole message is left, and each reply was written whole.
 pub record HasEnded (whole : Bool) (left : List ℕ) (rest : Option (List ℕ)) : Type 0 where
@@ -78,7 +69,7 @@ pub record HasEnded (whole : Bool) (left : List ℕ) (rest : Option (List ℕ)) 
 
 -- User 0 is logged in, in the sessions of open files, in all of them unless memory is refused, which changes the file system alone. Then
 -- messages are answered.
-pub record LogsInAndConverses {F P : Type 0} (did : F → F → List Act → Type 0) (tells : P → ℕ → Option (List ℕ) → P → Type 0) (stopped : F → Bool) (old : Service F) (before : P) (new : Service F) (after : P)
+pub record LogsInAndConverses {F P : Type 0} (did : F → F → List Act → Type 0) (tells : P → ℕ → Option (List ℕ) → P → Type 0) (stopped : F → Bool) (paces : F → F → Type 0) (old : Service F) (before : P) (new : Service F) (after : P)
     (why : Stop) (pending : List ℕ) (input rest output written : Option (List ℕ)) : Type 0 where
   pub first : Service F
   pub same : first ≡ record old { server = record old.server { file_system = first.server.file_system } }
@@ -89,5 +80,5 @@ pub record LogsInAndConverses {F P : Type 0} (did : F → F → List Act → Typ
   pub grows : Grows (did old.server.file_system) (did first.server.file_system) logins
   pub left : List ℕ
   pub whole : Bool
-  pub conversation : Conversation did tells stopped whole first before new after pending left input rest output written
+  pub conversation : Conversation did tells stopped paces whole first before new after pending left input rest output written
   pub ended : why ≡ Ended → HasEnded whole left rest

@@ -56,7 +56,7 @@ fn exchange<F: FileSystem, H: Host, W: Write>(
     requires within { size ≤ length connection.old.frames }
     requires message { IsMessage (take size connection.old.frames) }
     ensures conversation { (input : Option (List ℕ)) → (left : List ℕ) × (whole : Bool)
-        × Conversation F.did H.tells F.stopped whole connection.old.service host.old connection.new.service host.new connection.old.frames left input input (W.contents output.old) (W.contents output.new)
+        × Conversation F.did H.tells F.stopped F.paces whole connection.old.service host.old connection.new.service host.new connection.old.frames left input input (W.contents output.old) (W.contents output.new)
         × OnOk result ((connection.new.frames ≡ left) × (whole ≡ true)) }
     ensures why { IfErr result (λ why. why ≢ stop.Ended) }
 {
@@ -81,7 +81,7 @@ fn turn<F: FileSystem, H: Host, R: Read, W: Write>(
     output: &mut W,
 ) -> Result<(), Stop>
     ensures { (left : List ℕ) × (whole : Bool)
-        × Conversation F.did H.tells F.stopped whole connection.old.service host.old connection.new.service host.new connection.old.frames left (R.remaining input.old) (R.remaining input.new) (W.contents output.old) (W.contents output.new)
+        × Conversation F.did H.tells F.stopped F.paces whole connection.old.service host.old connection.new.service host.new connection.old.frames left (R.remaining input.old) (R.remaining input.new) (W.contents output.old) (W.contents output.new)
         × OnOk result ((connection.new.frames ≡ left) × (whole ≡ true))
         × IfErr result (λ why. why ≡ stop.Ended → HasEnded whole left (R.remaining input.new)) }
 {
@@ -106,7 +106,7 @@ fn answer_all<F: FileSystem, H: Host, R: Read, W: Write>(
     output: &mut W,
 ) -> Stop
     ensures { (left : List ℕ) × (whole : Bool)
-        × Conversation F.did H.tells F.stopped whole connection.old.service host.old connection.new.service host.new connection.old.frames left (R.remaining input.old) (R.remaining input.new) (W.contents output.old) (W.contents output.new)
+        × Conversation F.did H.tells F.stopped F.paces whole connection.old.service host.old connection.new.service host.new connection.old.frames left (R.remaining input.old) (R.remaining input.new) (W.contents output.old) (W.contents output.new)
         × (result ≡ stop.Ended → HasEnded whole left (R.remaining input.new)) }
 {
     for _turn in 0..u64::MAX {
@@ -120,8 +120,8 @@ fn answer_all<F: FileSystem, H: Host, R: Read, W: Write>(
 /// Logs user 0 in for open files, and answers messages until the input ends, or one can't be read or answered: then the result says why. Bytes
 /// that aren't a whole message yet are left. It is given up after 2^64 - 1 turns, as an input that timed out.
 ///
-/// Proved: The messages of the input are answered one after the other, each by its plan and by one reply, with work of the file system for which nobody
-/// waits between them, and none after a reply that isn't written whole; once a failure has stopped it, each is answered with `EIO`, and does nothing. Where the input has ended, no whole message is
+/// Proved: The messages of the input are answered one after the other, each by its plan and by one reply, and the work of the file system that is due is done after each
+/// reply that is written whole, and at no other time; once a failure has stopped it, each is answered with `EIO`, and does nothing. Where the input has ended, no whole message is
 /// left, and each reply was written whole.
 pub fn converse<F: FileSystem, H: Host, R: Read, W: Write>(
     connection: &mut Connection<F>,
@@ -129,7 +129,7 @@ pub fn converse<F: FileSystem, H: Host, R: Read, W: Write>(
     input: &mut R,
     output: &mut W,
 ) -> Stop
-    ensures { LogsInAndConverses F.did H.tells F.stopped connection.old.service host.old connection.new.service host.new result connection.old.frames (R.remaining input.old) (R.remaining input.new) (W.contents output.old) (W.contents output.new) }
+    ensures { LogsInAndConverses F.did H.tells F.stopped F.paces connection.old.service host.old connection.new.service host.new result connection.old.frames (R.remaining input.old) (R.remaining input.new) (W.contents output.old) (W.contents output.new) }
 {
     let alloc = connection.service.server.alloc;
     match log_in(&mut connection.service.server.file_system, alloc) {

@@ -1,3 +1,4 @@
 pub mod ServedLemmas
 pub mod RunLemmas
 pub mod PaceLemmas
+pub mod PacingLemmas

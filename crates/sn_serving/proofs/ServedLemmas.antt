@@ -31,7 +31,7 @@ use Rattle.sn_run.specs.Places.{Moves}
 use Rattle.sn_sound.specs.Disks.{IsOfDevice}
 use Rattle.sn_sound.proofs.DiskLemmas.{one_size}
 use Rattle.sn_sound.proofs.WorldLemmas.{opens_to_found}
-use Rattle.sn_serving.specs.Served.{IsIn, IsMountOf, Leads, MeansSome, Served, Unmounts, place_in}
+use Rattle.sn_serving.specs.Served.{IsIn, IsMountOf, Leads, MeansSome, Served, Unmounts, place_in, room_in}
 
 -- ---- events, one after the other
 
@@ -53,7 +53,7 @@ leads_more a b x y old mid new first more state is =
 -- ---- what is held, as it is seen
 
 abbrev pub served_of : Held → Bool → Served
-served_of h has_stopped = record { world = h.world; has_stopped = has_stopped; disk = h.disk }
+served_of h has_stopped = record { world = h.world; has_stopped = has_stopped; disk = h.disk; room = room_in h }
 
 pub in_it : (h : Held) (has_stopped : Bool) (state : State) → Means h has_stopped state → IsIn state (served_of h has_stopped)
 in_it h has_stopped (Running world) m = (m.0, (runs_with h world h.point m.1).is)
@@ -122,17 +122,17 @@ is_mount sectors old h has_stopped world device m image =
 -- ---- steps
 
 -- steps alone, as many as have replies
-abbrev pub Steps : Bool → Served → Served → Type 0
-Steps told old new = (replies : List Reply) × (IsTrue told → Leads (replicate (length replies) event.Step) replies old new)
+abbrev pub SomeSteps : Bool → Served → Served → Type 0
+SomeSteps told old new = (replies : List Reply) × (IsTrue told → Leads (replicate (length replies) event.Step) replies old new)
 
-pub steps_none : (told : Bool) (s : Served) → Steps told s s
+pub steps_none : (told : Bool) (s : Served) → SomeSteps told s s
 steps_none told s = ([], λ is. leads_none s)
 
 replicate_joined : (m n : ℕ) → replicate m event.Step ++ replicate n event.Step ≡ replicate (m + n) event.Step
 replicate_joined zero n = ap (λ (k : ℕ). replicate k event.Step) (omega arith)
 replicate_joined (suc m) n = ap (λ (es : List Event). event.Step ∷ es) (replicate_joined m n) ∙ ap (λ (k : ℕ). replicate k event.Step) {x = suc (m + n)} {y = suc m + n} (omega arith)
 
-pub steps_more : (told : Bool) (old mid new : Served) → Steps told old mid → Steps told mid new → Steps told old new
+pub steps_more : (told : Bool) (old mid new : Served) → SomeSteps told old mid → SomeSteps told mid new → SomeSteps told old new
 steps_more told old mid new first more = (
   first.0 ++ more.0,
   λ is. subst (λ (es : List Event). Leads es (first.0 ++ more.0) old new)
@@ -140,7 +140,7 @@ steps_more told old mid new first more = (
       (leads_more (replicate (length first.0) event.Step) (replicate (length more.0) event.Step) first.0 more.0 old mid new (first.1 is) (more.1 is)),
 )
 
-pub steps_one : (told : Bool) (reply : Reply) (old new : Served) → (IsTrue told → Leads (event.Step ∷ []) (reply ∷ []) old new) → Steps told old new
+pub steps_one : (told : Bool) (reply : Reply) (old new : Served) → (IsTrue told → Leads (event.Step ∷ []) (reply ∷ []) old new) → SomeSteps told old new
 steps_one told reply old new leads = (reply ∷ [], leads)
 
 -- ---- looks

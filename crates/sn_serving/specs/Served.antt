@@ -1,27 +1,36 @@
 -- A mounted file system as it is seen from outside, and what its events lead to.
-use Rattle.std.specs.Prelude.{◌≡◌, ℕ, Bool, true, false, List, IsTrue, Option}
+use Rattle.std.specs.Prelude.{◌≡◌, ◌-◌, ℕ, Bool, true, false, List, IsTrue, Option}
 use Rattle.sn_cp_progress.specs.Meaning.{Means}
 use Rattle.sn_device.specs.Crash.{LeavesOnly}
 use Rattle.sn_device.specs.Disk.{Always, Disk}
+use Rattle.sn_events.specs.Answers.{left_of}
 use Rattle.sn_held.specs.Held.{Held}
 use Rattle.sn_held.specs.Moments.{ShowsState}
+use Rattle.sn_held.specs.Rooms.{left}
 use Rattle.sn_limits.specs.Versions.{limits_written}
 use Rattle.sn_model.specs.declared.call.Event.{Event}
 use Rattle.sn_model.specs.declared.end.End.{End}
 use Rattle.sn_model.specs.declared.reply.Reply.{Reply}
 use Rattle.sn_model.specs.Machine as machine
 use Rattle.sn_model.specs.Machine.{Mishap, Running, RunBy, State, Stopped}
+use Rattle.sn_model.specs.Settling.{nameless_in}
 use Rattle.sn_model.specs.World.{World}
 use Rattle.sn_model.specs.Worlds.{IsFound}
 use Rattle.sn_mount.specs.Recovering.{LeavesTheWorld}
 use Rattle.sn_run.specs.Places.{Moves, Place}
 use Rattle.sn_run.specs.Runs.{IsRunOf}
+use Rattle.sn_serving.specs.declared.pace.Room.{Room}
 
--- the world that it holds, whether it has stopped, and the disk of its device
+-- the world that it holds, whether it has stopped, the disk of its device, and what is left of that, of the log and of the point in progress
 pub record Served : Type 0 where
   pub world : World
   pub has_stopped : Bool
   pub disk : Disk
+  pub room : Room
+
+-- what is left of what is held
+abbrev pub room_in : Held → Room
+room_in h = record { steps_left = left_of h.point; log_left = 255 - h.at.place; free = h.room.free; left = left limits_written h.room (nameless_in h.world.live) }
 
 -- A machine in this state is served: one that runs over the world that is held, or one that has stopped, of which the disk is an image of one
 -- of two worlds, whatever a crash leaves.

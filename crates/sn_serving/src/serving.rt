@@ -1,5 +1,5 @@
 //! A mounted file system that answers events as they are chosen.
-ghost use Rattle.std.specs.Prelude.{◌≡◌, ◌++◌, ◌∷◌, [], List, IsTrue, IfErr, IfOk, length, replicate};
+ghost use Rattle.std.specs.Prelude.{◌≡◌, ◌++◌, ◌∷◌, [], false, List, IsTrue, IfErr, IfOk, length, replicate};
 ghost use Rattle.sn_check.specs.Verdicts.{IsCause};
 ghost use Rattle.sn_device.specs.Disk.{reads};
 ghost use Rattle.sn_held.specs.Images.{IsImage};
@@ -11,6 +11,7 @@ ghost use Rattle.sn_model.specs.declared.end.End.TheVariants as ending;
 ghost use Rattle.sn_model.specs.declared.reply.Reply.{Reply as Told};
 ghost use Rattle.sn_run.specs.Ending.{IsLastEnd};
 ghost use Rattle.sn_run.specs.Runs.{IsRunOf};
+ghost use Rattle.sn_serving.specs.Pacing.{AreMade, MakesDue, Paces};
 ghost use Rattle.sn_serving.specs.Served.{IsMountOf, Leads, Unmounts};
 ghost use Rattle.sn_walk.specs.Views.{attributes_at};
 
@@ -23,7 +24,7 @@ use sn_run::Server;
 use std::alloc::Global;
 use std::marker::Model;
 
-/// A mounted file system: the world that it holds, whether it has stopped, and the disk of its device.
+/// A mounted file system: the world that it holds, whether it has stopped, the disk of its device, and what is left of it.
 #[derive(Drop)]
 pub struct Serving<D: Device + Drop> {
     server: Server<D>,
@@ -39,9 +40,9 @@ impl<D: Device + Drop> Model for Serving<D> {
     ghost coded = { Prim.hlevel (codes, map.code) };
 
     ghost use Rattle.sn_run.specs.Servers.{IsServer, is_stopped, standing};
-    ghost use Rattle.sn_serving.specs.Served.{MeansSome};
+    ghost use Rattle.sn_serving.specs.Served.{MeansSome, room_in};
 
-    ghost view = { λ s. record { world = (standing s.server).world; has_stopped = is_stopped s.server; disk = (standing s.server).disk } };
+    ghost view = { λ s. record { world = (standing s.server).world; has_stopped = is_stopped s.server; disk = (standing s.server).disk; room = room_in (standing s.server) } };
 
     ghost invariant = { λ s. IsServer s.server × MeansSome D.tells_bytes (standing s.server) (is_stopped s.server) };
 }
@@ -123,7 +124,9 @@ impl<D: Device + Drop> Serving<D> {
     }
 
     /// What is left of the log, of the disk, and of the point in progress. Of one that has stopped it says nothing.
-    pub fn room(&self) -> Room {
+    pub fn room(&self) -> Room
+        ensures { IsTrue D.tells_bytes → self.now.has_stopped ≡ false → result ≡ self.now.room }
+    {
         match &self.server {
             Server::Mounted(fs) => Room {
                 steps_left: fs.steps_left(),
@@ -142,30 +145,42 @@ impl<D: Device + Drop> Serving<D> {
 
     // Makes so many steps, fewer where one is refused or the last of a point. Whether it was that.
     fn make_steps(&mut self, count: u64) -> bool
-        ensures { (replies : List Told) × (IsTrue D.tells_bytes → Leads (replicate (length replies) event.Step) replies self.old self.new) }
+        ensures { (replies : List Told) × AreMade count replies result × (IsTrue D.tells_bytes → Leads (replicate (length replies) event.Step) replies self.old self.new) }
     {
         for _step in 0..count {
-            match self.step() {
-                Reply::Progress(Progress::More) => {}
-                Reply::Progress(Progress::Done) => return true,
+            let progress = match self.step() {
+                Reply::Progress(progress) => progress,
                 _ => return false,
+            };
+            match progress {
+                Progress::More => {}
+                Progress::Done => return true,
             }
         }
         false
     }
 
+    // Makes the steps that are due. Whether they ended a point.
+    fn make_due(&mut self) -> bool
+        ensures steps { (replies : List Told) × (IsTrue D.tells_bytes → Leads (replicate (length replies) event.Step) replies self.old self.new) }
+        ensures due { IsTrue D.tells_bytes → MakesDue self.old self.new result }
+    {
+        if self.has_stopped() {
+            return false;
+        }
+        self.make_steps(steps_due(&self.room()))
+    }
+
     /// Makes the steps that are due after a call that was logged (`steps_due`), so that a point in progress ends before the log
     /// is full; after its end the next one begins where it is due. A step that is refused ends them: the next call says why.
     ///
-    /// Proved: Nothing is done but steps.
+    /// Proved: Nothing is done but steps, which are those that are due: where they end a point, then those that are due for the next one.
     pub fn keep_pace(&mut self)
-        ensures { (replies : List Told) × (IsTrue D.tells_bytes → Leads (replicate (length replies) event.Step) replies self.old self.new) }
+        ensures steps { (replies : List Told) × (IsTrue D.tells_bytes → Leads (replicate (length replies) event.Step) replies self.old self.new) }
+        ensures due { IsTrue D.tells_bytes → Paces self.old self.new }
     {
-        if self.has_stopped() {
-            return;
-        }
-        if self.make_steps(steps_due(&self.room())) {
-            self.make_steps(steps_due(&self.room()));
+        if self.make_due() {
+            self.make_due();
         }
     }
 

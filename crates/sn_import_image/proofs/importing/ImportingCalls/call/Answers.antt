@@ -12,7 +12,7 @@ returns-then-room-before g c =
     let told = g.D.Device.tells_bytes in
     let call = c.args.call.now in
     let reply = c.call-reply.result in
-    let k = c.keep_pace.ensures in
+    let k = c.keep_pace.ensures.steps in
     let inside = c.self.inside in
     let new : Seen g.row.E.Denot = (c.keep_pace.new.self, inside.errors, inside.is_told) in
     subst (λ (s : Seen g.row.E.Denot). Grows (Did told s) (Did told new) (Called call reply ∷ [])) c.self.view_is

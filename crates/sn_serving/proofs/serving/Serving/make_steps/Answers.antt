@@ -1,14 +1,21 @@
-use Rattle.sn_serving.proofs.ServedLemmas.{steps_more, steps_none, steps_one}
+use Rattle.std.proofs.Common.{refl, arith, true, false}
+use Rattle.sn_serving.specs.Pacing.{refused}
+use Rattle.sn_serving.proofs.PacingLemmas.{ends_point, every_step, last_step, next_step}
+use Rattle.sn_serving.proofs.ServedLemmas.{steps_none}
 use Rattle.sn_serving.proofs.serving.Serving.make_steps.Goals as goal
 
 pub loop-step-init : goal.loop-step-init
-loop-step-init g c = steps_none _ c.args.self.now
-
-pub returns-in-Progress-Done : goal.returns-in-Progress-Done
-returns-in-Progress-Done g c = steps_more _ _ _ _ c.loop-step.invariant (steps_one _ c.step.result _ _ c.step.ensures)
+loop-step-init g c = record { some = steps_none _ c.args.self.now; are = refl }
 
 pub returns-in_default : goal.returns-in_default
-returns-in_default g c = steps_more _ _ _ _ c.loop-step.invariant (steps_one _ c.step.result _ _ c.step.ensures)
+returns-in_default g c = last_step _ c.args.count c.loop-step._step false _ _ _ c.step.result c.loop-step.invariant (omega arith) (λ others. refused c.in_default.not-Progress) c.step.ensures
+
+pub returns-in-Done : goal.returns-in-Done
+returns-in-Done g c =
+    last_step _ c.args.count c.loop-step._step true _ _ _ c.step.result c.loop-step.invariant (omega arith) (ends_point c.step.result c.in-Progress.progress c.in-Progress.is c.in-Done.is) c.step.ensures
 
 pub loop-step-preserved : goal.loop-step-preserved
-loop-step-preserved g c = steps_more _ _ _ _ c.loop-step.invariant (steps_one _ c.step.result _ _ c.step.ensures)
+loop-step-preserved g c = next_step _ c.loop-step._step _ _ _ c.step.result c.in-Progress.progress c.loop-step.invariant c.in-Progress.is c.in-More.is c.step.ensures
+
+pub returns : goal.returns
+returns g c = every_step _ c.args.count c.loop-step._step _ _ c.loop-step.invariant (omega arith)
