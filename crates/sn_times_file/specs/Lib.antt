@@ -1,3 +1,4 @@
 pub mod Kept
 pub mod Faults
 pub mod Keeping
+pub mod Laws

@@ -26,7 +26,7 @@
 //! [`restore`] are these, over bytes.
 //!
 //! The way through: `writer` and `reading` are the two ways, over `entry` and `checksum`; `saved` is what was read, and `fault` why something wasn't.
-//! `keeping` decides which times are kept, and which of them count.
+//! `keeping` decides which times are kept, and which of them count, and `laws` says that these are those that objects had.
 //!
 //! Memory: a [`Writer`] has the bytes, and for a moment twice where a section is added, and lends the times. [`decode`] has beside the bytes only
 //! the times, in the form in which [`Times`](sn_times::Times) takes them.
@@ -43,12 +43,14 @@ mod checksum;
 mod entry;
 mod fault;
 mod keeping;
+mod laws;
 mod reading;
 mod saved;
 mod writer;
 
 pub use fault::{Unreadable, Unwritable};
 pub use keeping::{keep, restore};
+pub use laws::times_laws;
 pub use reading::decode;
 pub use saved::{Saved, Section};
 pub use writer::Writer;
