@@ -343,10 +343,7 @@ fn marks_of<'a>(
 fn makes_object(op: &Op<'_>) -> bool
     ensures { result ≡ dating.makes_object op.now }
 {
-    matches!(
-        op,
-        Op::Mknod { .. } | Op::Mkdir { .. } | Op::Create { .. }
-    )
+    matches!(op, Op::Mknod { .. } | Op::Mkdir { .. } | Op::Create { .. })
 }
 
 /// Whether a message was refused once it had made an object, whose number isn't known.
