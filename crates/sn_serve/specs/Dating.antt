@@ -204,7 +204,7 @@ makes_object (op.Mkdir mode umask name) = true
 makes_object (op.Create flags mode umask name) = true
 makes_object other = false
 
--- whether it was refused once it had made one, whose number isn't known
+-- whether that was refused once it had changed something: then the number of the object that it may have made isn't known
 abbrev pub is_lost : Bool → Op → Result Told Errno → Bool
 is_lost changed op (Ok told) = false
 is_lost changed op (Err errno) = changed && makes_object op

@@ -346,7 +346,7 @@ fn makes_object(op: &Op<'_>) -> bool
     matches!(op, Op::Mknod { .. } | Op::Mkdir { .. } | Op::Create { .. })
 }
 
-/// Whether a message was refused once it had made an object, whose number isn't known.
+/// Whether a message that makes an object was refused once it had changed something. The number of what it may have made isn't known.
 fn is_lost(changed: bool, op: &Op<'_>, told: &Result<Told, Errno>) -> bool
     ensures { result ≡ dating.is_lost changed op.now told.now }
 {
@@ -381,8 +381,8 @@ fn mark_each(
     mark_one(times, now, marks.fourth);
 }
 
-/// Marks the times of what a message was about. `changed` says whether it changed something, also where it was refused. Where it had made an object by then, whose
-/// number isn't known, every object has the time of now: too young a time is one that a backup copies for nothing, and too old a one is a change that it misses.
+/// Marks the times of what a message was about. `changed` says whether it changed something, also where it was refused. Where it may have made an object by then,
+/// whose number isn't known, every object has the time of now: a backup copies more for it, where it would miss a change for a time that is too old.
 pub(crate) fn mark(
     times: &mut Times,
     changed: bool,
