@@ -1,6 +1,7 @@
 -- How the plan of a function is followed by those of what it calls.
 use Rattle.std.proofs.Common.{◌≡◌, ◌∙◌, ℕ, ◌&&◌, ◌||◌, Bool, true, false, List, [], ◌∷◌, ◌++◌, ap, refl, subst, append_assoc, sym}
-use Rattle.std.proofs.lemmas.List.{append-nil, list_any-append}
+use Rattle.std.proofs.lemmas.List.{append-nil}
+use Rattle.std.proofs.lemmas.List.Folds.{list_any-append}
 use Rattle.std.specs.List.{list_any}
 use Rattle.std.specs.Prelude.{Option, Result, Ok, Err, IfErr, IfOk, IsErrAnd, if◌then◌else◌}
 use Rattle.sn_fuse_replies.specs.declared.errno.Errno.{Errno}
@@ -46,8 +47,8 @@ changed_by s t b is = is ∙ ap (λ (x : Bool). s.changed || x) (sym (or-none b)
 -- by some acts, and then by others
 changed_on : {F : Type 0} (s t u : Server F) (x y : List Act) → t.changed ≡ (s.changed || list_any is_change x) → u.changed ≡ (t.changed || list_any is_change y)
     → u.changed ≡ (s.changed || list_any is_change (x ++ y))
-changed_on s t u x y first then =
-    then ∙ ap (λ (b : Bool). b || list_any is_change y) first ∙ or_more s.changed (list_any is_change x) (list_any is_change y)
+changed_on s t u x y first more =
+    more ∙ ap (λ (b : Bool). b || list_any is_change y) first ∙ or_more s.changed (list_any is_change x) (list_any is_change y)
     ∙ ap (λ (b : Bool). s.changed || b) (sym (list_any-append is_change x y))
 
 -- what a server serves, and whether it was changed

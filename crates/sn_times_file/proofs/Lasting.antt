@@ -100,21 +100,24 @@ module _ (old : Dates) (name : List ℕ) (low : ℕ) (some : 0 < low) where
   -- where it has a section among these
   waits : (names : List (List ℕ)) (high : ℕ) (d : Dates) → low ≤ high → (length name == 0) ≡ false → list_any (is_name name) names ≡ true → Waits old name low (high + length names) (with_sections (map (section_of old) names) high d)
   waits [] high d from long e = absurd (true≢false (sym e))
-  waits (other ∷ names) high d from long e = told (is_name name other) refl
+  waits (other ∷ names) high d from long e = told (is_name name other) refl (waits names (high + 1) next (omega (arith, from)) long)
     where
       next : Dates
       next = with_section d high (section_of old other)
 
-      further : Waits old name low ((high + 1) + length names) (with_sections (map (section_of old) names) (high + 1) next) → Waits old name low (high + length (other ∷ names)) (with_sections (map (section_of old) names) (high + 1) next)
+      Later : Type 0
+      Later = Waits old name low ((high + 1) + length names) (with_sections (map (section_of old) names) (high + 1) next)
+
+      further : Later → Waits old name low (high + length (other ∷ names)) (with_sections (map (section_of old) names) (high + 1) next)
       further w = record { at = w.at; from = w.from; below = omega (arith, w.below); home = w.home; tree = w.tree }
 
-      told : (b : Bool) → is_name name other ≡ b → Waits old name low (high + length (other ∷ names)) (with_sections (map (section_of old) names) (high + 1) next)
-      told true t =
+      told : (b : Bool) → is_name name other ≡ b → (list_any (is_name name) names ≡ true → Later) → Waits old name low (high + length (other ∷ names)) (with_sections (map (section_of old) names) (high + 1) next)
+      told true t later =
           let longer : (length other == 0) ≡ false = subst (λ (n : List ℕ). (length n == 0) ≡ false) (tells_apart exact_bytes name other t) long in
           further (all_more names (high + 1) next
-          (subst (λ (b : Bool). Waits old name low (high + 1) (cond b (with_live d (section_of old other).tree (fin.get d.trees 0)) (with_tree (with_name d other high) high (Some (section_of old other).tree)))) (sym longer)
-          (waits_first high d other from t)))
-      told false f = further (waits names (high + 1) next (omega (arith, from)) long (sym (ap (λ (b : Bool). b || list_any (is_name name) names) f) ∙ e))
+              (subst (λ (b : Bool). Waits old name low (high + 1) (cond b (with_live d (section_of old other).tree (fin.get d.trees 0)) (with_tree (with_name d other high) high (Some (section_of old other).tree)))) (sym longer)
+              (waits_first high d other from t)))
+      told false f later = further (later (sym (ap (λ (b : Bool). b || list_any (is_name name) names) f) ∙ e))
 
 -- ---- the live tree
 
