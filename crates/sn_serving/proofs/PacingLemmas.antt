@@ -8,7 +8,7 @@ use Rattle.sn_model.specs.declared.reply.Reply.{Reply}
 use Rattle.sn_model.specs.declared.reply.Reply.TheVariants as reply
 use Rattle.sn_serving.specs.Pacing.{AreMade, all, ends, more}
 use Rattle.sn_serving.specs.Served.{Leads, Served}
-use Rattle.sn_serving.proofs.ServedLemmas.{SomeSteps, steps_more, steps_one}
+use Rattle.sn_serving.proofs.ServedLemmas.{SomeSteps, steps_more, steps_none, steps_one}
 
 -- so many replies that the point goes on
 abbrev goes_on : ℕ → List Reply
@@ -16,15 +16,16 @@ goes_on count = replicate count (reply.Progress More)
 
 goes_on_more : (count : ℕ) → goes_on count ++ reply.Progress More ∷ [] ≡ goes_on (count + 1)
 goes_on_more zero = refl
-goes_on_more (suc count) = ap (λ (replies : List Reply). reply.Progress More ∷ replies) (goes_on_more count)
+goes_on_more (suc count) = ap (λ (replies : List Reply). reply.Progress More ∷ replies) (goes_on_more count) ∙ ap goes_on {x = suc (count + 1)} {y = suc count + 1} (omega arith)
 
 all_made : (count : ℕ) → AreMade count (goes_on count) false
 all_made zero = all
 all_made (suc count) = more (all_made count)
 
 made_then : (before count : ℕ) {replies : List Reply} {ended : Bool} → AreMade count replies ended → AreMade (before + count) (goes_on before ++ replies) ended
-made_then zero count made = made
-made_then (suc before) count made = more (made_then before count made)
+made_then zero count {replies = replies} {ended = ended} made = subst (λ (n : ℕ). AreMade n replies ended) {x = count} {y = 0 + count} (omega arith) made
+made_then (suc before) count {replies = replies} {ended = ended} made =
+    subst (λ (n : ℕ). AreMade n (goes_on (suc before) ++ replies) ended) {x = suc (before + count)} {y = suc before + count} (omega arith) (more (made_then before count made))
 
 -- so many steps were made, and none was a point's last
 pub record AreSteps (told : Bool) (count : ℕ) (old new : Served) : Type 0 where
@@ -35,8 +36,13 @@ pub record AreSteps (told : Bool) (count : ℕ) (old new : Served) : Type 0 wher
 abbrev pub Makes : Bool → ℕ → Bool → Served → Served → Type 0
 Makes told count ended old new = (replies : List Reply) × AreMade count replies ended × (IsTrue told → Leads (replicate (length replies) event.Step) replies old new)
 
+pub none_yet : (told : Bool) (s : Served) → AreSteps told 0 s s
+unfolding steps_none
+none_yet told s = record { some = steps_none told s; are = refl }
+
 pub next_step : (told : Bool) (count : ℕ) (old mid new : Served) (last : Reply) (progress : Progress) → AreSteps told count old mid → last ≡ reply.Progress progress → progress ≡ More
     → (IsTrue told → Leads (event.Step ∷ []) (last ∷ []) mid new) → AreSteps told (count + 1) old new
+unfolding steps_more steps_one
 next_step told count old mid new last progress before is goes leads = record {
   some = steps_more told old mid new before.some (steps_one told last mid new leads);
   are =
@@ -47,6 +53,7 @@ next_step told count old mid new last progress before is goes leads = record {
 
 pub last_step : (told : Bool) (count at : ℕ) (ended : Bool) (old mid new : Served) (last : Reply) → AreSteps told at old mid → at < count → ((others : ℕ) → AreMade (suc others) (last ∷ []) ended)
     → (IsTrue told → Leads (event.Step ∷ []) (last ∷ []) mid new) → Makes told count ended old new
+unfolding steps_more steps_one
 last_step told count at ended old mid new last before within made leads =
     let whole : at + suc (count - (at + 1)) ≡ count = omega (arith, within) in
     let steps : SomeSteps told old new = steps_more told old mid new before.some (steps_one told last mid new leads) in (

@@ -125,14 +125,14 @@ is_mount sectors old h has_stopped world device m image =
 abbrev pub SomeSteps : Bool → Served → Served → Type 0
 SomeSteps told old new = (replies : List Reply) × (IsTrue told → Leads (replicate (length replies) event.Step) replies old new)
 
-pub steps_none : (told : Bool) (s : Served) → SomeSteps told s s
+unfoldable pub steps_none : (told : Bool) (s : Served) → SomeSteps told s s
 steps_none told s = ([], λ is. leads_none s)
 
-replicate_joined : (m n : ℕ) → replicate m event.Step ++ replicate n event.Step ≡ replicate (m + n) event.Step
+pub replicate_joined : (m n : ℕ) → replicate m event.Step ++ replicate n event.Step ≡ replicate (m + n) event.Step
 replicate_joined zero n = ap (λ (k : ℕ). replicate k event.Step) (omega arith)
 replicate_joined (suc m) n = ap (λ (es : List Event). event.Step ∷ es) (replicate_joined m n) ∙ ap (λ (k : ℕ). replicate k event.Step) {x = suc (m + n)} {y = suc m + n} (omega arith)
 
-pub steps_more : (told : Bool) (old mid new : Served) → SomeSteps told old mid → SomeSteps told mid new → SomeSteps told old new
+unfoldable pub steps_more : (told : Bool) (old mid new : Served) → SomeSteps told old mid → SomeSteps told mid new → SomeSteps told old new
 steps_more told old mid new first more = (
   first.0 ++ more.0,
   λ is. subst (λ (es : List Event). Leads es (first.0 ++ more.0) old new)
@@ -140,7 +140,7 @@ steps_more told old mid new first more = (
       (leads_more (replicate (length first.0) event.Step) (replicate (length more.0) event.Step) first.0 more.0 old mid new (first.1 is) (more.1 is)),
 )
 
-pub steps_one : (told : Bool) (reply : Reply) (old new : Served) → (IsTrue told → Leads (event.Step ∷ []) (reply ∷ []) old new) → SomeSteps told old new
+unfoldable pub steps_one : (told : Bool) (reply : Reply) (old new : Served) → (IsTrue told → Leads (event.Step ∷ []) (reply ∷ []) old new) → SomeSteps told old new
 steps_one told reply old new leads = (reply ∷ [], leads)
 
 -- ---- looks

@@ -115,8 +115,8 @@ module _ (old : Dates) (name : List ℕ) (low : ℕ) (some : 0 < low) where
       told true t later =
           let longer : (length other == 0) ≡ false = subst (λ (n : List ℕ). (length n == 0) ≡ false) (tells_apart exact_bytes name other t) long in
           further (all_more names (high + 1) next
-              (subst (λ (b : Bool). Waits old name low (high + 1) (cond b (with_live d (section_of old other).tree (fin.get d.trees 0)) (with_tree (with_name d other high) high (Some (section_of old other).tree)))) (sym longer)
-              (waits_first high d other from t)))
+          (subst (λ (b : Bool). Waits old name low (high + 1) (cond b (with_live d (section_of old other).tree (fin.get d.trees 0)) (with_tree (with_name d other high) high (Some (section_of old other).tree)))) (sym longer)
+          (waits_first high d other from t)))
       told false f later = further (later (sym (ap (λ (b : Bool). b || list_any (is_name name) names) f) ∙ e))
 
 -- ---- the live tree

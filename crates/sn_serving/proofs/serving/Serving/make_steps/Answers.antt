@@ -1,11 +1,10 @@
-use Rattle.std.proofs.Common.{refl, arith, true, false}
+use Rattle.std.proofs.Common.{arith, true, false}
 use Rattle.sn_serving.specs.Pacing.{refused}
-use Rattle.sn_serving.proofs.PacingLemmas.{ends_point, every_step, last_step, next_step}
-use Rattle.sn_serving.proofs.ServedLemmas.{steps_none}
+use Rattle.sn_serving.proofs.PacingLemmas.{ends_point, every_step, last_step, next_step, none_yet}
 use Rattle.sn_serving.proofs.serving.Serving.make_steps.Goals as goal
 
 pub loop-step-init : goal.loop-step-init
-loop-step-init g c = record { some = steps_none _ c.args.self.now; are = refl }
+loop-step-init g c = none_yet _ c.args.self.now
 
 pub returns-in_default : goal.returns-in_default
 returns-in_default g c = last_step _ c.args.count c.loop-step._step false _ _ _ c.step.result c.loop-step.invariant (omega arith) (λ others. refused c.in_default.not-Progress) c.step.ensures
