@@ -31,7 +31,7 @@ pub struct Marks<'a> {
 }
 
 fn one_mark<'a>(first: Option<Mark<'a>>) -> Marks<'a>
-    ensures { result ≡ record dating.no_marks { first = first } }
+    ensures { result ≡ record dating.no_marks { first = first.entry } }
 {
     Marks {
         first,
@@ -335,8 +335,13 @@ fn marks_of<'a>(
 {
     match told {
         Ok(told) => marks_by(subjects, now, op, told),
-        Err(_) if changed => parts_by(subjects, op),
-        Err(_) => no_marks(),
+        Err(_) => {
+            if changed {
+                parts_by(subjects, op)
+            } else {
+                no_marks()
+            }
+        }
     }
 }
 

@@ -2,7 +2,7 @@
 use Rattle.std.proofs.Common.{◌≡◌, ◌+◌, ◌/◌, ◌%◌, ◌^◌, ◌<◌, ◌==◌, ◌&&◌, ◌||◌, ℕ, Bool, true, false, cond, not, List, Option, None, Some, Result, Ok, Err, nat_lt, refl, sym, ap, subst, ◌∙◌, true≢false, arith, eq-eqb, eqb-true}
 use Rattle.std.specs.Prelude.{bit_and, unwrap_or}
 use Rattle.std.proofs.lemmas.Bool.{lt-ltb}
-use Rattle.std.proofs.lemmas.Nat.{and_block}
+use Rattle.std.proofs.lemmas.Nat.{and_block, and_le_r}
 use Rattle.sn_acl.specs.Modes.{mode_bits, mode_of, with_mode}
 use Rattle.sn_acl.specs.declared.entries.Entry.{Entry}
 use Rattle.sn_archive_laws.proofs.Modes.{bits_small, small}
@@ -14,9 +14,11 @@ use Rattle.sn_import_laws.proofs.Modes.{asked_bits, bits_argument, own_mode}
 use Rattle.sn_limits.specs.declared.kind.Kind.{Kind}
 use Rattle.sn_limits.specs.declared.kind.Kind.TheVariants.{Directory, File}
 use Rattle.sn_limits.specs.declared.limits.Limits.{Limits}
-use Rattle.sn_model.specs.AccessCalls.{ModeBits, by_owner, chmod_outcome, chown_outcome, given_to, id_argument, keeps_set_gid, may_set_gid, mode_bits_argument, ownership_at, to_group, to_owner, with_mode_bits}
+use Rattle.sn_model.specs.declared.argument.ModeBits.{ModeBits}
+use Rattle.sn_model.specs.AccessCalls.{by_owner, chmod_outcome, chown_outcome, given_to, id_argument, keeps_set_gid, may_set_gid, mode_bits_argument, ownership_at, to_group, to_owner, with_mode_bits}
 use Rattle.sn_model.specs.Calls.{status_of}
-use Rattle.sn_model.specs.Outcomes.{Outcome, does}
+use Rattle.sn_model.specs.Outcomes.{does}
+use Rattle.sn_model.specs.declared.outcome.Outcome.{Outcome}
 use Rattle.sn_model.specs.Tests.{forbidden, full, live, plain}
 use Rattle.sn_model.specs.declared.change.Change.TheVariants.{SetAttributes}
 use Rattle.sn_model.specs.declared.change.Ownership.{Ownership}
@@ -26,7 +28,7 @@ use Rattle.sn_model.specs.declared.reply.Rule.TheVariants as rule
 use Rattle.sn_model.specs.declared.session.Session.{Session}
 use Rattle.sn_serve_files.specs.Flags.{has}
 use Rattle.sn_serve_names.specs.Entries.{attributes_of, bit_if, kind_bits}
-use Rattle.sn_serve_setattr.specs.Flags.{has_mode, has_owner, keeps_all, same_group, same_user, sets_group, sets_user, value_if}
+use Rattle.sn_serve_setattr.specs.Flags.{has_mode, has_owner, is_live, is_owner, keeps_all, same_group, same_user, sets_group, sets_user, value_if}
 use Rattle.sn_walk.specs.Chains.{◌>>=◌}
 use Rattle.sn_walk.specs.Views.{ViewedTrees, is_directory}
 use Rattle.sn_walk.specs.declared.view.Attributes.{Attributes}
@@ -46,15 +48,15 @@ two true b h = (refl, h)
 two false b h = cc
 
 either : (a b : Bool) → (a || b) ≡ true → (a ≡ false → b ≡ true)
-either true b h no = absurd (true≢false no)
-either false b h no = h
+either true b h isnt = absurd (true≢false isnt)
+either false b h isnt = h
 
 -- S_ISGID is seen in the mode
 seen : (kind : Kind) (sticky : Bool) (low : ℕ) → low < 512 → has (kind_bits kind + 1024 + bit_if sticky 512 + low) 1024 ≡ true
-seen Directory true low small = eq-eqb _ 1024 (omega (arith, and_block 9 35 2 low 0 (omega arith) (omega arith)))
-seen Directory false low small = eq-eqb _ 1024 (omega (arith, and_block 9 34 2 low 0 (omega arith) (omega arith)))
-seen File true low small = eq-eqb _ 1024 (omega (arith, and_block 9 67 2 low 0 (omega arith) (omega arith)))
-seen File false low small = eq-eqb _ 1024 (omega (arith, and_block 9 66 2 low 0 (omega arith) (omega arith)))
+seen Directory true low small = eq-eqb _ 1024 (omega (arith, and_le_r low 0, and_block 9 35 2 low 0 (omega arith) (omega arith)))
+seen Directory false low small = eq-eqb _ 1024 (omega (arith, and_le_r low 0, and_block 9 34 2 low 0 (omega arith) (omega arith)))
+seen File true low small = eq-eqb _ 1024 (omega (arith, and_le_r low 0, and_block 9 67 2 low 0 (omega arith) (omega arith)))
+seen File false low small = eq-eqb _ 1024 (omega (arith, and_le_r low 0, and_block 9 66 2 low 0 (omega arith) (omega arith)))
 
 -- the lowest eleven bits
 lowest : (kind : Kind) (set_gid sticky : Bool) (low : ℕ) → low < 512 → (kind_bits kind + bit_if set_gid 1024 + bit_if sticky 512 + low) % 2048 ≡ low + bit_if set_gid 1024 + bit_if sticky 512
@@ -89,6 +91,9 @@ owned s number found kept =
 by_root : (s : Session) (number : ℕ) (found : Found) → mode_bits (mode_of found.attributes.acl) < 512 → Kept s number found → found.attributes.set_gid ≡ true → (s.cred.uid == 0) ≡ true
 by_root s number found low kept set = asked (s.cred.uid == 0) refl
   where
+    last : ((s.cred.uid == 0) || not (has (told_of number found).mode 1024)) ≡ true
+    last = (three (is_live (told_of number found)) (is_owner s.cred.uid (told_of number found)) ((s.cred.uid == 0) || not (has (told_of number found).mode 1024)) kept).2
+
     shown : has (told_of number found).mode 1024 ≡ true
     shown =
         ap (λ (b : Bool). has (kind_bits found.attributes.kind + bit_if b 1024 + bit_if found.attributes.sticky 512 + mode_bits (mode_of found.attributes.acl)) 1024) set
@@ -96,7 +101,7 @@ by_root s number found low kept set = asked (s.cred.uid == 0) refl
 
     asked : (b : Bool) → (s.cred.uid == 0) ≡ b → b ≡ true
     asked true is = refl
-    asked false is = absurd (true≢false (sym (either (s.cred.uid == 0) (not (has (told_of number found).mode 1024)) (three _ _ _ kept).2 is) ∙ ap not shown))
+    asked false is = absurd (true≢false (sym (either (s.cred.uid == 0) (not (has (told_of number found).mode 1024)) last is) ∙ ap not shown))
 
 keeps_gid : (s : Session) (number : ℕ) (found : Found) (others : Bool) → mode_bits (mode_of found.attributes.acl) < 512 → Kept s number found → ((s.cred.uid == 0) ≡ true → others ≡ true)
     → (found.attributes.set_gid && others) ≡ found.attributes.set_gid
