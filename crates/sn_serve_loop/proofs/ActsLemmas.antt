@@ -47,7 +47,7 @@ module _ {F P : Type 0} (did : F → F → List Act → Type 0) (tells : P → �
   paced_grows paces false old new same = subst (λ (s : Service F). Grows (did old.server.file_system) (did s.server.file_system) []) (sym same) (grows_none did old.server.file_system)
 
   -- what was done for all of them goes on from what was done before
-  pub conversation_grows : (paces : F → F → Type 0) {whole : Bool} {first : Service F} {who : P} {last : Service F} {after : P} {messages replies : List (List ℕ)} {acts : List Act}
+  pub conversation_grows : (paces : F → F → Type 0) {first : Service F} {who : P} {whole : Bool} {last : Service F} {after : P} {messages replies : List (List ℕ)} {acts : List Act}
       → Converses did tells stopped paces first who whole messages replies acts last after → Grows (did first.server.file_system) (did last.server.file_system) acts
   conversation_grows paces {first = first} begins = grows_none did first.server.file_system
   conversation_grows paces {first = first} (answered {whole} {done = done} {acts} {old = old} {mid} {new} t is r p) =
