@@ -1,5 +1,5 @@
 -- What a mount shows of a file system that is served.
-use Rattle.std.specs.Prelude.{◌≡◌, ℕ, Bool, true, false, IsTrue, List, Option, None, Some, Result, Ok, Err}
+use Rattle.std.specs.Prelude.{◌≡◌, ℕ, Bool, IsTrue, List, Option, None, Some, Result, Ok, Err}
 use Rattle.std.specs.Option.{option_and_then, option_map}
 use Rattle.sn_homes.specs.Homes.{Places, met_with, number_of, object_at, without}
 use Rattle.sn_live_view.specs.Looking.{known_by}

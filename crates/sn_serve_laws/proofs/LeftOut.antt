@@ -1,25 +1,22 @@
 -- A call that would set what is there.
-use Rattle.std.proofs.Common.{◌≡◌, ◌+◌, ◌/◌, ◌%◌, ◌^◌, ◌<◌, ◌==◌, ◌&&◌, ◌||◌, ℕ, Bool, true, false, cond, not, List, Option, None, Some, Result, Ok, Err, nat_lt, refl, sym, ap, subst, ◌∙◌, true≢false, arith, eq-eqb, eqb-true}
-use Rattle.std.specs.Prelude.{bit_and, unwrap_or}
+use Rattle.std.proofs.Common.{◌≡◌, ◌+◌, ◌%◌, ◌^◌, ◌<◌, ◌==◌, ◌&&◌, ◌||◌, ℕ, Bool, true, false, cond, not, Option, None, Some, Result, Ok, Err, refl, sym, ap, subst, ◌∙◌, true≢false, arith, eq-eqb, eqb-true}
+use Rattle.std.specs.Prelude.{unwrap_or}
 use Rattle.std.proofs.lemmas.Bool.{lt-ltb}
 use Rattle.std.proofs.lemmas.Nat.{and_block, and_le_r}
 use Rattle.sn_acl.specs.Modes.{mode_bits, mode_of, with_mode}
-use Rattle.sn_acl.specs.declared.entries.Entry.{Entry}
 use Rattle.sn_archive_laws.proofs.Modes.{bits_small, small}
-use Rattle.sn_fuse.specs.declared.operation.NewAttributes.{NewAttributes}
 use Rattle.sn_fuse_replies.specs.declared.answer.Attributes.{Attributes as Told}
 use Rattle.sn_import.specs.declared.object.Rights.{Rights}
 use Rattle.sn_import.specs.Calls.{bits_of}
 use Rattle.sn_import_laws.proofs.Modes.{asked_bits, bits_argument, own_mode}
 use Rattle.sn_limits.specs.declared.kind.Kind.{Kind}
 use Rattle.sn_limits.specs.declared.kind.Kind.TheVariants.{Directory, File}
-use Rattle.sn_limits.specs.declared.limits.Limits.{Limits}
 use Rattle.sn_model.specs.declared.argument.ModeBits.{ModeBits}
 use Rattle.sn_model.specs.AccessCalls.{by_owner, chmod_outcome, chown_outcome, given_to, id_argument, keeps_set_gid, may_set_gid, mode_bits_argument, ownership_at, to_group, to_owner, with_mode_bits}
 use Rattle.sn_model.specs.Calls.{status_of}
 use Rattle.sn_model.specs.Outcomes.{does}
 use Rattle.sn_model.specs.declared.outcome.Outcome.{Outcome}
-use Rattle.sn_model.specs.Tests.{forbidden, full, live, plain}
+use Rattle.sn_model.specs.Tests.{forbidden, live, plain}
 use Rattle.sn_model.specs.declared.change.Change.TheVariants.{SetAttributes}
 use Rattle.sn_model.specs.declared.change.Ownership.{Ownership}
 use Rattle.sn_model.specs.declared.reply.Errno.TheVariants.{Einval}
@@ -28,12 +25,11 @@ use Rattle.sn_model.specs.declared.reply.Rule.TheVariants as rule
 use Rattle.sn_model.specs.declared.session.Session.{Session}
 use Rattle.sn_serve_files.specs.Flags.{has}
 use Rattle.sn_serve_names.specs.Entries.{attributes_of, bit_if, kind_bits}
-use Rattle.sn_serve_setattr.specs.Flags.{has_mode, has_owner, is_live, is_owner, keeps_all, same_group, same_user, sets_group, sets_user, value_if}
+use Rattle.sn_serve_setattr.specs.Flags.{has_mode, has_owner, is_live, is_owner, keeps_all, sets_group, sets_user, value_if}
 use Rattle.sn_walk.specs.Chains.{◌>>=◌}
 use Rattle.sn_walk.specs.Views.{ViewedTrees, is_directory}
-use Rattle.sn_walk.specs.declared.view.Attributes.{Attributes}
 use Rattle.sn_walk.specs.declared.walking.Found.{Found}
-use Rattle.sn_serve_laws.specs.Laws.{ChmodIsLeftOut, ChownIsLeftOut, IsThere}
+use Rattle.sn_serve_laws.specs.Laws.{ChmodIsLeftOut, ChownIsLeftOut}
 
 -- ---- what is known
 

@@ -1,8 +1,8 @@
 -- The steps that are due end a point in time.
-use Rattle.std.proofs.Common.{◌≡◌, ℕ, zero, suc, ◌-◌, arith}
+use Rattle.std.proofs.Common.{zero, suc, ◌-◌, arith}
 use Rattle.std.proofs.lemmas.Grind.{div_ceil_times}
 use Rattle.std.specs.Int.{div_ceil}
-use Rattle.sn_serving.specs.Paces.{PointsEndInTime, left_after}
+use Rattle.sn_serving.specs.Paces.{PointsEndInTime}
 
 pub points_end : PointsEndInTime
 points_end zero steps = let (least, most) = div_ceil_times steps 1 (omega arith) in omega (arith, least, most)

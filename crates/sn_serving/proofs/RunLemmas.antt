@@ -1,14 +1,8 @@
 -- What was served is a run.
-use Rattle.std.proofs.Common.{inl, inr, refl, List, []}
-use Rattle.sn_device.specs.Disk.{Disk}
-use Rattle.sn_model.specs.declared.call.Event.{Event}
-use Rattle.sn_model.specs.declared.end.End.{End}
-use Rattle.sn_model.specs.declared.reply.Reply.{Reply}
+use Rattle.std.proofs.Common.{inr, refl, []}
 use Rattle.sn_model.specs.Machine.{Running}
-use Rattle.sn_model.specs.World.{World}
-use Rattle.sn_run.specs.Runs.{IsRunOf}
 use Rattle.sn_run.proofs.CutLemmas.{machine_run, run_leaves}
-use Rattle.sn_serving.specs.Served.{IsMountOf, Leads, Served, ServedIsRun, Unmounts, place_in}
+use Rattle.sn_serving.specs.Served.{ServedIsRun, place_in}
 
 pub served_is_run : ServedIsRun
 served_is_run world events replies end disk last old new mount leads unmounts =

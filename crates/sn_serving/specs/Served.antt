@@ -1,5 +1,5 @@
 -- A mounted file system as it is seen from outside, and what its events lead to.
-use Rattle.std.specs.Prelude.{◌≡◌, ◌-◌, ℕ, Bool, true, false, List, IsTrue, Option}
+use Rattle.std.specs.Prelude.{◌≡◌, ◌-◌, Bool, true, false, List, IsTrue, Option}
 use Rattle.sn_cp_progress.specs.Meaning.{Means}
 use Rattle.sn_device.specs.Crash.{LeavesOnly}
 use Rattle.sn_device.specs.Disk.{Always, Disk}

@@ -1,5 +1,5 @@
 -- The times that one mount left, with which the next begins.
-use Rattle.std.proofs.Common.{◌≡◌, ◌≢◌, ◌<◌, ◌≤◌, ◌+◌, ◌/◌, ◌%◌, ℕ, ◌==◌, Bool, true, false, true≢false, cond, ◌||◌, List, [], ◌∷◌, length, map, Option, None, Some, is_some, nat_le, refl, sym, ap, subst, ◌∙◌, arith}
+use Rattle.std.proofs.Common.{◌≡◌, ◌≢◌, ◌<◌, ◌≤◌, ◌+◌, ◌/◌, ◌%◌, ℕ, ◌==◌, Bool, true, false, true≢false, cond, ◌||◌, List, [], ◌∷◌, length, map, Option, None, Some, is_some, refl, sym, ap, subst, ◌∙◌, arith}
 use Rattle.std.specs.Cmp.{nat_cmp_total, eq_by_cmp_equiv, unsigned_ties}
 use Rattle.std.specs.Cmp.Lexicographic.{nat_list_cmp_total, slice_cmp}
 use Rattle.std.specs.FinMap as fin
@@ -10,9 +10,9 @@ use Rattle.std.proofs.lemmas.Bool.{le-leb}
 use Rattle.std.proofs.lemmas.Map.Lookups.{exact_bytes, exact_unsigned}
 use Rattle.std.proofs.lemmas.Map.Views.{tells_apart}
 use Rattle.sn_fuse.specs.declared.operation.Time.{Time}
-use Rattle.sn_times.specs.Dates.{Dates, Tree, all_forgotten, bare, is_met, met, moved, named_tree, stamps_at, stamps_in, taken_if, tree_of, with_name, with_tree}
+use Rattle.sn_times.specs.Dates.{Dates, Tree, all_forgotten, bare, is_met, met, moved, stamps_at, stamps_in, taken_if, tree_of, with_name, with_tree}
 use Rattle.sn_times.proofs.DatesLemmas.{stamps-with_tree}
-use Rattle.sn_times_file.specs.Keeping.{live_section, section_of, with_live, with_section, with_sections}
+use Rattle.sn_times_file.specs.Keeping.{section_of, with_live, with_section, with_sections}
 use Rattle.sn_times_file.specs.Kept.{Named}
 use Rattle.sn_times_file.specs.Laws.{LiveTimesLast, SnapshotTimesLast, taken}
 

@@ -1,4 +1,4 @@
-use Rattle.std.proofs.Common.{◌∙◌, ℕ, List, ap}
+use Rattle.std.proofs.Common.{ℕ, List, ap}
 use Rattle.std.specs.Prelude.{true, false}
 use Rattle.sn_model.specs.declared.call.Call.TheVariants.{Access as AccessCall}
 use Rattle.sn_plan.specs.Asking.{login_by}

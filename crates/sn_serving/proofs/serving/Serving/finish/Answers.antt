@@ -1,4 +1,4 @@
-use Rattle.std.proofs.Common.{subst, sym}
+use Rattle.std.proofs.Common.{subst}
 use Rattle.sn_serving.specs.Served.{Served, Unmounts}
 use Rattle.sn_serving.proofs.ServedLemmas.{unmounts}
 use Rattle.sn_serving.proofs.serving.Serving.finish.Goals as goal

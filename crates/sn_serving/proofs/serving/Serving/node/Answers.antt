@@ -2,7 +2,7 @@ use Rattle.std.proofs.Common.{◌≡◌, ◌∙◌, false, sym, ap}
 use Rattle.sn_fs.specs.Filesystem.{has_stopped, held}
 use Rattle.sn_run.specs.Servers.{is_stopped}
 use Rattle.sn_serving.specs.Served.{Served}
-use Rattle.sn_serving.proofs.ServedLemmas.{look_keeps, look_means}
+use Rattle.sn_serving.proofs.ServedLemmas.{look_means}
 use Rattle.sn_serving.proofs.serving.Serving.node.Goals as goal
 use Rattle.sn_serving.proofs.serving.Serving.node.Goals.{in-Mounted, in-Unmounted}
 

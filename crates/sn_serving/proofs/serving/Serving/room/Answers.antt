@@ -1,7 +1,7 @@
-use Rattle.std.proofs.Common.{◌≡◌, ◌∙◌, true≢false, false, sym, ap}
-use Rattle.sn_fs.specs.Filesystem.{has_stopped, held}
+use Rattle.std.proofs.Common.{◌≡◌, ◌∙◌, true≢false, false, ap}
+use Rattle.sn_fs.specs.Filesystem.{has_stopped}
 use Rattle.sn_run.specs.Servers.{is_stopped}
-use Rattle.sn_serving.specs.Served.{Served, room_in}
+use Rattle.sn_serving.specs.Served.{Served}
 use Rattle.sn_serving.proofs.serving.Serving.room.Goals as goal
 
 pub returns-in-Mounted : goal.returns-in-Mounted
