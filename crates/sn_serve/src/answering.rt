@@ -195,8 +195,8 @@ pub fn refuse_message(message: &[u8], out: &mut Vec<u8>) -> Result<(), AllocErro
 /// Proved: Where the system checks, each call is user 0's, what is made is given to the user and group in the head, nothing is asked of a process, and
 /// attributes may be held for a year; where the server does, they may not be held.
 ///
-/// Proved: A message that was done marks the times of what it was about (`specs/Dating`), and one that was refused marks what it had changed by then: nothing, where no call
-/// of it changed something. An answer has the times that are kept then.
+/// Proved: A message that was done marks the times of what it was about (`specs/Dating`), and one that was refused those of what it had changed by then, which is nothing where no
+/// call of it changed something, and every object where it may have made one. An answer has the times that are kept then.
 ///
 /// Proved: A snapshot has its times under the name by which a LOOKUP found it or a MKDIR made it, and under none once it is removed.
 pub fn answer<F: FileSystem, H: Host>(
