@@ -3,6 +3,7 @@ use Rattle.std.proofs.Common.{◌≡◌, ◌∙◌, ℕ, Bool, List, [], ◌∷�
 use Rattle.std.specs.Prelude.{IfErr, IsErr, IsTrue, Result, Ok, Err, OnOk}
 use Rattle.sn_device.specs.Disk.{Disk, reads}
 use Rattle.sn_device.specs.Sectors.{Contents}
+use Rattle.sn_device.specs.declared.status.Status.{Status}
 use Rattle.sn_device.proofs.CrashLemmas.{LeavesOnly-now}
 use Rattle.sn_held.specs.Images.{IsImage}
 use Rattle.sn_held.specs.Moments.{ShowsState}
@@ -17,7 +18,8 @@ use Rattle.sn_model.specs.Tree.{Tree}
 use Rattle.sn_model.specs.World.{Trees, World, trees_of}
 use Rattle.sn_run.specs.Places.{Place}
 use Rattle.sn_run.proofs.CutLemmas.{found_settled}
-use Rattle.sn_serving.specs.Served.{IsIn, Leads, Served, Unmounts, place_in}
+use Rattle.sn_serving.specs.Served.{IsIn, Leads, Served, Unmounts}
+use Rattle.sn_serving.proofs.RunLemmas.{arrives, ended_in, place_in}
 use Rattle.sn_export_reading.specs.Serving.{InState, IsStepOf, Reads}
 use Rattle.sn_export_reading.specs.declared.fault.ExportFault.{ExportFault}
 use Rattle.sn_export_reading.specs.declared.fault.ExportFault.TheVariants as export
@@ -34,7 +36,7 @@ in_state told s (Stopped before after) is here = tt
 pub steps : (told : Bool) (session : ℕ) (c : Call) (reply : Reply) (old new : Served) → (IsTrue told → Leads (event.Call session c ∷ []) (reply ∷ []) old new)
     → (world : World) → RunsOver told old world → IsStepOf world session c reply (RunsOver told new)
 steps told session c reply old new leads world over =
-    let a = leads over.0 (Running world) over.1 in
+    let a = arrives (leads over.0) (Running world) over.1 in
     let step = a.run.1.step in
     record {
       met = step.0;
@@ -49,15 +51,15 @@ trees_settled c world after image same =
     let live : settled world.live ≡ world.live = ap (λ (w : World). w.live) (found_settled c world image) in
     ap (λ (t : Trees). record t { live = settled t.live }) same ∙ ap (λ (t : Tree). record { live = t; frozen = world.frozen }) live
 
-pub keeps_trees : (told : Bool) (end : End) (written : Result (Unit {0}) ExportFault) (s : Served) (c : Contents) (world : World) (last : Disk) → IsImage c world
-    → OnOk written (Reads (trees_of world) (RunsOver told s)) → Unmounts end s last → OnOk (outcome_of end written) (HasTreesOf world last)
-keeps_trees told ending.Clean (Ok done) s c world last image read unmounts =
-    let u = unmounts (Running read.runs.world) read.runs.serves.1 in
-    λ left may. (settle read.runs.world, LeavesOnly-now s.disk last (ShowsState (Running read.runs.world)) u.lasts left may, trees_settled c world read.runs.world image read.runs.same)
-keeps_trees told ending.Clean (Err why) s c world last image read unmounts = tt
-keeps_trees told ending.Memory written s c world last image read unmounts = tt
-keeps_trees told ending.Stopped written s c world last image read unmounts = tt
-keeps_trees told (ending.Mount why) written s c world last image read unmounts = tt
+pub keeps_trees : (told : Bool) (end : End) (written : Result (Unit {0}) ExportFault) (s : Served) (c : Contents) (world : World) (last : Disk) (last_status : Status) → IsImage c world
+    → OnOk written (Reads (trees_of world) (RunsOver told s)) → Unmounts end s last last_status → OnOk (outcome_of end written) (HasTreesOf world last)
+keeps_trees told ending.Clean (Ok done) s c world last last_status image read unmounts =
+    let u = ended_in s unmounts (Running read.runs.world) read.runs.serves.1 in
+    λ left may. (settle read.runs.world, LeavesOnly-now unmounts.before.held.disk last (ShowsState (Running read.runs.world)) u.lasts left may, trees_settled c world read.runs.world image read.runs.same)
+keeps_trees told ending.Clean (Err why) s c world last last_status image read unmounts = tt
+keeps_trees told ending.Memory written s c world last last_status image read unmounts = tt
+keeps_trees told ending.Stopped written s c world last last_status image read unmounts = tt
+keeps_trees told (ending.Mount why) written s c world last last_status image read unmounts = tt
 
 -- what is so of an export that ended well is so where the unmount did too
 pub on_written : (X : Type 0) (end : End) (written : Result (Unit {0}) ExportFault) → OnOk written X → OnOk (outcome_of end written) X

@@ -2,6 +2,7 @@
 use Rattle.std.proofs.Common.{◌≡◌, ◌∙◌, ℕ, Bool, true, false, ◌||◌, List, refl, sym, ap, subst}
 use Rattle.std.specs.Prelude.{IfOk, IsErrAnd, IsTrue, Option, Result, Ok, Err}
 use Rattle.sn_device.specs.Disk.{Disk, reads}
+use Rattle.sn_device.specs.declared.status.Status.{Status}
 use Rattle.sn_held.specs.Images.{IsImage}
 use Rattle.sn_model.specs.declared.end.End.{End}
 use Rattle.sn_model.specs.declared.end.End.TheVariants as ending
@@ -32,10 +33,10 @@ quiet_where_whole Q ending.Memory result is_told q = tt
 quiet_where_whole Q ending.Stopped result is_told q = tt
 quiet_where_whole Q (ending.Mount why) result is_told q = tt
 
-pub carried_out : {E : Type 0} (told : Bool) (names : Names) (path : List ℕ) (input : Option (List ℕ)) (outcome : Result Made ImportFault) (disk last : Disk) (result : Result (Unit {0}) ImportFault) (end : End)
+pub carried_out : {E : Type 0} (told : Bool) (names : Names) (path : List ℕ) (input : Option (List ℕ)) (outcome : Result Made ImportFault) (disk : Disk) (status : Status) (last : Disk) (last_status : Status) (result : Result (Unit {0}) ImportFault) (end : End)
     (first new : Seen E) (acts : List Act) → Did told new first acts → IsWork names path input acts result → IsLastEnd end → first.2 ≡ false → outcome ≡ outcome_of end result new.2
-    → (IsTrue told → (world : World) → IsImage (reads disk) world → IsMountOf world disk first.0) → (IsTrue told → Unmounts end new.0 last) → IsCarriedOut told names path input outcome disk last
-carried_out told names path input outcome disk last result end first new acts d work is_last none is mounted ended = record {
+    → (IsTrue told → (world : World) → IsImage (reads disk) world → IsMountOf world disk status first.0) → (IsTrue told → Unmounts end new.0 last last_status) → IsCarriedOut told names path input outcome disk status last last_status
+carried_out told names path input outcome disk status last last_status result end first new acts d work is_last none is mounted ended = record {
   acts = acts;
   result = result;
   work = work;
@@ -45,5 +46,5 @@ carried_out told names path input outcome disk last result end first new acts d 
   events = d.events;
   replies = d.replies;
   are = d.are;
-  run = λ known world image. served_is_run world d.events d.replies end disk last first.0 new.0 (mounted known world image) (d.leads known) (ended known);
+  run = λ known world image. served_is_run world d.events d.replies end disk status last last_status first.0 new.0 (mounted known world image) (d.leads known) (ended known);
 }

@@ -1,6 +1,8 @@
 -- What an import does to an image.
 use Rattle.std.specs.Prelude.{◌≡◌, ℕ, Bool, IsTrue, List, [], ◌++◌, if◌then◌else◌, Option, Result, Ok, Err}
 use Rattle.sn_device.specs.Disk.{Disk, reads}
+use Rattle.sn_device.specs.declared.status.Status.{Status}
+use Rattle.sn_examine.specs.Failing.{IsSoOf}
 use Rattle.sn_held.specs.Images.{IsImage}
 use Rattle.sn_model.specs.declared.call.Event.{Event}
 use Rattle.sn_model.specs.declared.end.End.{End}
@@ -11,6 +13,7 @@ use Rattle.sn_model.specs.World.{World}
 use Rattle.sn_check.specs.Verdicts.{IsCause}
 use Rattle.sn_run.specs.Ending.{IsLastEnd}
 use Rattle.sn_run.specs.Runs.{IsRunOf}
+use Rattle.sn_serving.specs.Served.{IsRunOver}
 use Rattle.sn_import_entry.specs.declared.names.Names.{Names}
 use Rattle.sn_import_calls.specs.Acts.{Act}
 use Rattle.sn_import_run.specs.Imports.{IsImport}
@@ -46,7 +49,7 @@ outcome_of (ending.Mount why) done is_told = Err (fault.Mount why)
 
 -- Where there is a mount, the calls of the import are all that is called, and where the device tells its bytes, a run of the machine from the world that
 -- the disk was an image of, with all that a crash leaves of it.
-pub record IsCarriedOut (told : Bool) (names : Names) (path : List ℕ) (input : Option (List ℕ)) (outcome : Result Made ImportFault) (disk last : Disk) : Type 0 where
+pub record IsCarriedOut (told : Bool) (names : Names) (path : List ℕ) (input : Option (List ℕ)) (outcome : Result Made ImportFault) (disk : Disk) (status : Status) (last : Disk) (last_status : Status) : Type 0 where
   pub acts : List Act
   pub result : Result (Unit {0}) ImportFault
   pub work : IsWork names path input acts result
@@ -56,10 +59,11 @@ pub record IsCarriedOut (told : Bool) (names : Names) (path : List ℕ) (input :
   pub events : List Event
   pub replies : List Reply
   pub are : AreEventsOf acts events replies
-  pub run : IsTrue told → (world : World) → IsImage (reads disk) world → IsRunOf world events replies end disk last
+  pub run : IsTrue told → (world : World) → IsImage (reads disk) world → IsRunOver world events replies end disk status last last_status
 
--- Without a mount nothing is called, and a crash leaves that world. The cause is that of a check.
-pub record IsUnmounted (told : Bool) (why : MountFault) (sectors : ℕ) (outcome : Result Made ImportFault) (disk last : Disk) : Type 0 where
+-- Without a mount nothing is called, and a crash leaves that world. The cause is that of a check, and it is the device only where that has failed.
+pub record IsUnmounted (told : Bool) (why : MountFault) (outcome : Result Made ImportFault) (disk : Disk) (status : Status) (last : Disk) (last_status : Status) : Type 0 where
   pub outcome_is : outcome ≡ Err (fault.Mount why)
-  pub cause : IsTrue told → IsCause sectors (reads disk) why
+  pub cause : IsTrue told → IsCause status.sectors (reads disk) why
+  pub failed : IsSoOf why status last_status
   pub run : IsTrue told → (world : World) → IsImage (reads disk) world → IsRunOf world [] [] (ending.Mount why) disk last

@@ -43,7 +43,7 @@ fn import_into<C: Calls, R: Read>(
 ///
 /// Proved: What is called are the login of user 0, the look at the path, and the calls of the archive's entries (`import` of sn_import_run), with steps of
 /// consistency points after them: over each device that tells its bytes, from the world that its disk is an image of, this is a run of the
-/// machine, and a crash leaves what that leaves.
+/// machine, and a crash leaves what that leaves; where the device counted no failure and hasn't ended, none occurred in it.
 /// Proved: Where all is made and the mount is ended, nothing is written to the output of reports; a fault of the mount has the cause of a check.
 pub fn import_image<D: Device + Drop, R: Read, E: Write + Drop>(
     alloc: Global,
@@ -53,8 +53,8 @@ pub fn import_image<D: Device + Drop, R: Read, E: Write + Drop>(
     archive: &mut R,
     errors: E,
 ) -> Imported<D, E>
-    ensures imported { ((why : Why) × IsUnmounted D.tells_bytes why (D.status device).sectors result.outcome (D.disk device) (D.disk result.device))
-        ⊎ IsCarriedOut D.tells_bytes names.now path.now (R.remaining archive.old) result.outcome (D.disk device) (D.disk result.device) }
+    ensures imported { ((why : Why) × IsUnmounted D.tells_bytes why result.outcome (D.disk device) (D.status device) (D.disk result.device) (D.status result.device))
+        ⊎ IsCarriedOut D.tells_bytes names.now path.now (R.remaining archive.old) result.outcome (D.disk device) (D.status device) (D.disk result.device) (D.status result.device) }
     ensures quiet { IfOk result.outcome (λ made. made ≡ whole → result.errors ≡ errors) }
 {
     let serving = match Serving::new(alloc, device) {

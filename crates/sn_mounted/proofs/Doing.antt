@@ -1,5 +1,5 @@
 -- What was done, act by act, is part of a run.
-use Rattle.std.proofs.Common.{◌≡◌, Bool, List, [], ◌∷◌, ◌++◌, length, replicate, refl, sym, subst}
+use Rattle.std.proofs.Common.{◌≡◌, Bool, List, [], ◌∷◌, ◌++◌, Result, Ok, Err, length, replicate, sym, subst}
 use Rattle.std.proofs.lemmas.List.{append-nil}
 use Rattle.std.specs.Prelude.{IsTrue}
 use Rattle.sn_model.specs.declared.call.Event.{Event}
@@ -7,8 +7,9 @@ use Rattle.sn_model.specs.declared.call.Event.TheVariants as event
 use Rattle.sn_model.specs.declared.reply.Reply.{Reply}
 use Rattle.sn_plan.specs.Acts.{Act, Called, Counted, Found, Seen, Grows}
 use Rattle.sn_serving.specs.Served.{Leads, Served}
-use Rattle.sn_serving.proofs.ServedLemmas.{leads_more, leads_none}
-use Rattle.sn_mounted.specs.Doing.{Did, DidFrom, Does, begins, calls, counts, does, finds, sees, steps}
+use Rattle.sn_serving.proofs.ServedLemmas.{leads_missed, leads_more, leads_none}
+use Rattle.sn_plan.specs.declared.errors.LookFault.{LookFault}
+use Rattle.sn_mounted.specs.Doing.{Did, DidFrom, Does, LooksAt, begins, calls, cause_of, counts, does, finds, sees, steps}
 use Rattle.sn_mounted.specs.Runs.{AreEventsOf, DidIsRun, IsLook, IsPartOfRun, call, look, none, step}
 use Rattle.sn_mounted.specs.Shown.{Shown}
 
@@ -33,19 +34,18 @@ events_of_steps [] = none
 events_of_steps (reply ∷ replies) = step (events_of_steps replies)
 
 -- what one act does is part of a run
-looks_on : (told : Bool) (act : Act) (old new : Shown) → IsLook act → (IsTrue told → new.served ≡ old.served) → IsPartOfRun told old new (act ∷ [])
-looks_on told act old new is same = record {
-  events = [];
-  replies = [];
-  are = look is none;
-  leads = λ known. subst (λ (s : Served). Leads [] [] old.served s) (sym (same known)) (leads_none old.served);
-}
+looks_on : (told : Bool) (act : Act) (old new : Shown) → IsLook act → (IsTrue told → Leads [] [] old.served new.served) → IsPartOfRun told old new (act ∷ [])
+looks_on told act old new is leads = record { events = []; replies = []; are = look is none; leads = leads }
+
+pub looked : {T : Type 0} (result : Result T LookFault) (old new : Served) → LooksAt result old new → Leads [] [] old new
+looked (Ok it) old new same = subst (λ (s : Served). Leads [] [] old s) (sym same) (leads_none old)
+looked (Err fault) old new missed = leads_missed (cause_of fault) old new missed
 
 act_runs : (told : Bool) (act : Act) (old new : Shown) → Does told act old new → IsPartOfRun told old new (act ∷ [])
 act_runs told (Called session c reply) old new (calls leads places) = record { events = event.Call session c ∷ []; replies = reply ∷ []; are = call none; leads = leads }
-act_runs told (Found path found) old new (finds same is) = looks_on told (Found path found) old new tt same
-act_runs told (Seen number seen) old new (sees same places is) = looks_on told (Seen number seen) old new tt same
-act_runs told (Counted space) old new (counts left) = looks_on told (Counted space) old old tt (λ known. refl)
+act_runs told (Found path found) old new (finds same is) = looks_on told (Found path found) old new tt (λ known. looked found old.served new.served (same known))
+act_runs told (Seen number seen) old new (sees same places is) = looks_on told (Seen number seen) old new tt (λ known. looked seen old.served new.served (same known))
+act_runs told (Counted space) old new (counts left) = looks_on told (Counted space) old old tt (λ known. leads_none old.served)
 
 runs_more : (told : Bool) (a b : List Act) (first old new : Shown) → IsPartOfRun told first old a → IsPartOfRun told old new b → IsPartOfRun told first new (a ++ b)
 runs_more told a b first old new h more = record {

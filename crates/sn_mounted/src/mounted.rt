@@ -2,6 +2,7 @@
 ghost use Rattle.std.specs.Prelude.{◌≡◌, ◌∷◌, [], false, List, IsTrue, IfErr, IfOk, OnErr, OnOk, length, replicate};
 ghost use Rattle.sn_check.specs.Verdicts.{IsCause};
 ghost use Rattle.sn_device.specs.Disk.{reads};
+ghost use Rattle.sn_examine.specs.Failing.{IsSoOf};
 ghost use Rattle.sn_held.specs.Images.{IsImage};
 ghost use Rattle.sn_homes.specs.Homes.{number_of};
 ghost use Rattle.std.specs.Option.{option_map};
@@ -13,7 +14,9 @@ ghost use Rattle.sn_model.specs.declared.call.Event.{Event as Chosen};
 ghost use Rattle.sn_model.specs.declared.call.Event.TheVariants as event;
 ghost use Rattle.sn_model.specs.declared.end.End.TheVariants as ending;
 ghost use Rattle.sn_model.specs.declared.reply.Reply.{Reply as Told};
+ghost use Rattle.sn_mounted.specs.Doing.{LooksAt, cause_of};
 ghost use Rattle.sn_mounted.specs.Shown.{Finds, Sees, met_by, object_by, object_in, places_after};
+ghost use Rattle.sn_plan.specs.declared.errors.LookFault.TheVariants as fault;
 ghost use Rattle.sn_run.specs.Ending.{IsLastEnd};
 ghost use Rattle.sn_run.specs.Runs.{IsRunOf};
 ghost use Rattle.sn_serving.specs.Pacing.{Paces};
@@ -72,6 +75,7 @@ fn number_in(homes: &mut Homes, known: &Option<Known>) -> Result<Option<u64>, Lo
     ensures met { OnOk result (homes.new ≡ met_by homes.old (object_in known.now)) }
     ensures number { IfOk result (λ number. number ≡ option_map (number_of homes.new) (object_in known.now)) }
     ensures err { OnErr result (homes.new ≡ homes.old) }
+    ensures memory { IfErr result (λ why. why ≡ fault.Memory) }
 {
     match known {
         Some(known) => match homes.number(&known.object) {
@@ -82,7 +86,9 @@ fn number_in(homes: &mut Homes, known: &Option<Known>) -> Result<Option<u64>, Lo
     }
 }
 
-fn fault_of(unseen: Unseen) -> LookFault {
+fn fault_of(unseen: Unseen) -> LookFault
+    ensures { cause_of result ≡ unseen }
+{
     match unseen {
         Unseen::Memory => LookFault::Memory,
         Unseen::Read => LookFault::Read,
@@ -103,11 +109,12 @@ impl<D: Device + Drop> Mounted<D> {
     /// Mounts a device, as `Serving::new` (`sn_serving`) does, or says why not and hands it back.
     pub fn new(alloc: Global, device: D) -> Result<Mounted<D>, Unmounted<D>>
         ensures mounted { IsTrue D.tells_bytes → (world : World) → IsImage (reads (D.disk device)) world
-            → IfOk result (λ m. IsMountOf world (D.disk device) m.served) }
+            → IfOk result (λ m. IsMountOf world (D.disk device) (D.status device) m.served) }
         ensures places { IfOk result (λ m. m.places ≡ []) }
         ensures unmounted { IsTrue D.tells_bytes → (world : World) → IsImage (reads (D.disk device)) world
             → IfErr result (λ u. (events : List Chosen) → IsRunOf world events [] (ending.Mount u.fault) (D.disk device) (D.disk u.device)) }
         ensures cause { IsTrue D.tells_bytes → IfErr result (λ u. IsCause (D.status device).sectors (reads (D.disk device)) u.fault) }
+        ensures failed { IfErr result (λ u. IsSoOf u.fault (D.status device) (D.status u.device)) }
     {
         let blocks = data_blocks(device.sectors());
         match Serving::new(alloc, device) {
@@ -138,7 +145,7 @@ impl<D: Device + Drop> Mounted<D> {
     }
 
     fn found(&mut self, path: Path<'_>) -> Result<Option<Known>, LookFault>
-        ensures quiet { IsTrue D.tells_bytes → self.new.served ≡ self.old.served }
+        ensures looks { IsTrue D.tells_bytes → LooksAt result self.old.served self.new.served }
         ensures places { self.new.places ≡ self.old.places }
         ensures known { IsTrue D.tells_bytes → IfOk result (λ known. known ≡ known_by (viewed_trees (trees_of self.old.served.world)) path.entry) }
     {
@@ -149,7 +156,7 @@ impl<D: Device + Drop> Mounted<D> {
     }
 
     fn seen(&mut self, object: Object) -> Result<Option<Attributes>, LookFault>
-        ensures quiet { IsTrue D.tells_bytes → self.new.served ≡ self.old.served }
+        ensures looks { IsTrue D.tells_bytes → LooksAt result self.old.served self.new.served }
         ensures places { self.new.places ≡ self.old.places }
         ensures known { IsTrue D.tells_bytes → IfOk result (λ attributes. attributes ≡ attributes_at (viewed_trees (trees_of self.old.served.world)) object) }
     {
@@ -161,7 +168,7 @@ impl<D: Device + Drop> Mounted<D> {
 
     // What a path leads user 0 to.
     fn known_by(&mut self, path: &[u8]) -> Result<Option<Known>, LookFault>
-        ensures quiet { IsTrue D.tells_bytes → self.new.served ≡ self.old.served }
+        ensures looks { IsTrue D.tells_bytes → LooksAt result self.old.served self.new.served }
         ensures places { self.new.places ≡ self.old.places }
         ensures known { IsTrue D.tells_bytes → IfOk result (λ known. object_in known ≡ object_by self.old.served.world (parsed path.now)) }
     {
@@ -173,7 +180,7 @@ impl<D: Device + Drop> Mounted<D> {
 
     // The number of what a path leads user 0 to.
     fn look_along(&mut self, path: &[u8]) -> Result<Option<u64>, LookFault>
-        ensures quiet { IsTrue D.tells_bytes → self.new.served ≡ self.old.served }
+        ensures looks { IsTrue D.tells_bytes → LooksAt result self.old.served self.new.served }
         ensures found { Finds D.tells_bytes path.now result self.old self.new }
     {
         let known = self.known_by(path)?;
@@ -182,7 +189,7 @@ impl<D: Device + Drop> Mounted<D> {
 
     // The attributes of the object with a number.
     fn look_at(&mut self, number: u64) -> Result<Option<Attributes>, LookFault>
-        ensures quiet { IsTrue D.tells_bytes → self.new.served ≡ self.old.served }
+        ensures looks { IsTrue D.tells_bytes → LooksAt result self.old.served self.new.served }
         ensures places { self.new.places ≡ self.old.places }
         ensures seen { Sees D.tells_bytes number result self.old }
     {
@@ -213,7 +220,7 @@ impl<D: Device + Drop> Mounted<D> {
 
     /// Unmounts, as `Serving::finish` does.
     pub fn finish(self) -> (End, D)
-        ensures ended { IsTrue D.tells_bytes → Unmounts result.0 self.served (D.disk result.1) }
+        ensures ended { IsTrue D.tells_bytes → Unmounts result.0 self.served (D.disk result.1) (D.status result.1) }
         ensures told { IsLastEnd result.0 }
     {
         let Mounted { serving, .. } = self;

@@ -9,6 +9,7 @@ use Rattle.sn_check.specs.declared.verdict.Verdict.TheVariants as verdict
 use Rattle.sn_device.specs.Sectors.{Contents}
 use Rattle.sn_device.specs.Memory.{first}
 use Rattle.sn_device.specs.Status.{uncalled}
+use Rattle.sn_device.specs.declared.status.Status.{Status}
 use Rattle.sn_device.specs.declared.fill.Fill.{Fill}
 use Rattle.sn_model.specs.declared.call.Event.{Event}
 use Rattle.sn_model.specs.declared.fault.Damage.{Damage}
@@ -125,10 +126,12 @@ pub record ServesMount (asked : CheckerWord) (outcome : Result (Unit {0}) ServeF
   pub input : Option (List ℕ)
   pub rest : Option (List ℕ)
   pub disk : Disk
+  pub status : Status
   pub last : Disk
+  pub last_status : Status
   pub dates : Dates
   pub left : Dates
-  pub served : IsServed told tells_anything (checker_of asked maps_all) dates left tt tt input rest old new outcome disk last
+  pub served : IsServed told tells_anything (checker_of asked maps_all) dates left tt tt input rest old new outcome disk status last last_status
 
 -- nothing was written, or replies up to a fault
 abbrev pub BeginsToServe : CheckerWord → Option (List ℕ) → Option (List ℕ) → Type 0

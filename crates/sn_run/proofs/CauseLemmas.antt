@@ -138,7 +138,7 @@ stop_cause Before first last (e ∷ events) (reply ∷ replies) run had stopped 
     (stop_cause (Before ⊎ (reply ≡ answer.Unmounted mount.Memory)) run.0 last events replies run.2 (one_cause first run.0 e reply run.1 Before had) stopped)
 
 -- a mount that succeeds counts no failure
-mount_unfailing : (n : ℕ) (old new : Status) → CostsMount n old new → new.failures ≡ old.failures
+pub mount_unfailing : (n : ℕ) (old new : Status) → CostsMount n old new → new.failures ≡ old.failures
 mount_unfailing n old new (inl is) = ap (λ (x : Status). x.failures) is
 mount_unfailing n old new (inr (count, few, gate, is)) = ap (λ (x : Status). x.failures) is
 

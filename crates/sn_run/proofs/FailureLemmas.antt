@@ -15,15 +15,16 @@ use Rattle.sn_events.specs.Answers.{IsBehindFinish, MayMeet}
 use Rattle.sn_run.specs.Laws.{Unfailing}
 use Rattle.sn_run.specs.Runs.{Goes, Standing}
 
-not_ended : (b : Bool) → (b ≡ true → ⊥) → b ≡ false
+pub not_ended : (b : Bool) → (b ≡ true → ⊥) → b ≡ false
 not_ended true never = absurd (never refl)
 not_ended false never = refl
 
-never_failed : (old new : Status) → new.failures ≡ old.failures → has_ended new ≡ false → HasFailed old new → ⊥
+pub never_failed : (old new : Status) → new.failures ≡ old.failures → has_ended new ≡ false → HasFailed old new → ⊥
 never_failed old new same goes_on (inl rose) = omega (arith, same, rose)
 never_failed old new same goes_on (inr ended) = true≢false (sym ended ∙ goes_on)
 
-met_unfailing : (h mid : Held) (e : Event) (met : Option Mishap) (new : Status) → MayMeet h mid e met new → new.failures ≡ h.status.failures → has_ended new ≡ false → Unfailing met
+-- what an event encounters where the device counts no failure
+pub met_unfailing : (h mid : Held) (e : Event) (met : Option Mishap) (new : Status) → MayMeet h mid e met new → new.failures ≡ h.status.failures → has_ended new ≡ false → Unfailing met
 met_unfailing h mid e None new may same goes_on = tt
 met_unfailing h mid e (Some Memory) new may same goes_on = tt
 met_unfailing h mid e (Some Read) new may same goes_on = never_failed h.status new same goes_on may

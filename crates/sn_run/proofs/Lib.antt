@@ -1,7 +1,7 @@
 pub mod CauseLemmas
 pub mod EndingLemmas
 pub mod CutLemmas
-mod FailureLemmas
+pub mod FailureLemmas
 mod PointedLemmas
 pub mod RestartLemmas
 pub mod RunLemmas

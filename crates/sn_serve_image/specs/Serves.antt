@@ -2,6 +2,8 @@
 use Rattle.std.specs.Prelude.{◌≡◌, ℕ, Bool, IsTrue, List, [], ◌++◌, Option, Result, Ok, Err}
 use Rattle.sn_check.specs.Verdicts.{IsCause}
 use Rattle.sn_device.specs.Disk.{Disk, reads}
+use Rattle.sn_device.specs.declared.status.Status.{Status}
+use Rattle.sn_examine.specs.Failing.{IsSoOf}
 use Rattle.sn_held.specs.Images.{IsImage}
 use Rattle.sn_model.specs.World.{World}
 use Rattle.sn_model.specs.declared.call.Event.{Event}
@@ -20,7 +22,7 @@ use Rattle.sn_serve_loop.specs.Connections.{IsNew}
 use Rattle.sn_serve_loop.specs.Conversations.{LogsInAndConverses}
 use Rattle.sn_serve_loop.specs.declared.stop.Stop.{Stop}
 use Rattle.sn_serve_loop.specs.declared.stop.Stop.TheVariants as stop
-use Rattle.sn_serving.specs.Served.{Unmounts}
+use Rattle.sn_serving.specs.Served.{IsRunOver, Unmounts}
 use Rattle.sn_times.specs.Dates.{Dates}
 use Rattle.sn_serve_image.specs.declared.fault.ServeFault.{ServeFault}
 use Rattle.sn_serve_image.specs.declared.fault.ServeFault.TheVariants as fault
@@ -45,7 +47,7 @@ stopped shown = shown.served.has_stopped
 
 -- Over a mount user 0 is logged in for all open files, and the messages of the input are answered one after the other, with the times of objects that were given; then it is unmounted, and the times are those that messages left.
 pub record IsServedFrom {P : Type 0} (told : Bool) (tells : P → ℕ → Option (List ℕ) → P → Type 0) (checker : Checker) (dates left : Dates) (mounted : Shown) (before after : P) (input rest output written : Option (List ℕ))
-    (outcome : Result (Unit {0}) ServeFault) (last : Disk) : Type 0 where
+    (outcome : Result (Unit {0}) ServeFault) (last : Disk) (last_status : Status) : Type 0 where
   pub first : Service Shown
   pub new : IsNew first mounted checker dates
   pub ended : Service Shown
@@ -55,23 +57,24 @@ pub record IsServedFrom {P : Type 0} (told : Bool) (tells : P → ℕ → Option
   pub end : End
   pub told_end : IsLastEnd end
   pub outcome_is : outcome ≡ outcome_of end why
-  pub unmounts : IsTrue told → Unmounts end ended.server.file_system.served last
+  pub unmounts : IsTrue told → Unmounts end ended.server.file_system.served last last_status
 
--- All that was called is a part of a run: where the device tells its bytes, from the world that the disk was an image of, with all that a crash leaves of it.
+-- All that was called is a run: where the device tells its bytes, from the world that the disk was an image of, with all that a crash leaves of it, and no failure is invented in it.
 pub record IsServed {P : Type 0} (told : Bool) (tells : P → ℕ → Option (List ℕ) → P → Type 0) (checker : Checker) (dates left : Dates) (before after : P) (input rest output written : Option (List ℕ))
-    (outcome : Result (Unit {0}) ServeFault) (disk last : Disk) : Type 0 where
+    (outcome : Result (Unit {0}) ServeFault) (disk : Disk) (status : Status) (last : Disk) (last_status : Status) : Type 0 where
   pub mounted : Shown
   pub places : mounted.places ≡ []
-  pub served : IsServedFrom told tells checker dates left mounted before after input rest output written outcome last
+  pub served : IsServedFrom told tells checker dates left mounted before after input rest output written outcome last last_status
   pub events : List Event
   pub replies : List Reply
   pub are : AreEventsOf (served.conversation.logins ++ served.conversation.conversation.acts) events replies
-  pub run : IsTrue told → (world : World) → IsImage (reads disk) world → IsRunOf world events replies served.end disk last
+  pub run : IsTrue told → (world : World) → IsImage (reads disk) world → IsRunOver world events replies served.end disk status last last_status
 
--- Without a mount no message is read, and a crash leaves that world. The cause is that of a check.
-pub record IsUnmounted (told : Bool) (why : MountFault) (sectors : ℕ) (outcome : Result (Unit {0}) ServeFault) (disk last : Disk) : Type 0 where
+-- Without a mount no message is read, and a crash leaves that world. The cause is that of a check, and it is the device only where that has failed.
+pub record IsUnmounted (told : Bool) (why : MountFault) (outcome : Result (Unit {0}) ServeFault) (disk : Disk) (status : Status) (last : Disk) (last_status : Status) : Type 0 where
   pub outcome_is : outcome ≡ Err (fault.Mount why)
-  pub cause : IsTrue told → IsCause sectors (reads disk) why
+  pub cause : IsTrue told → IsCause status.sectors (reads disk) why
+  pub failed : IsSoOf why status last_status
   pub run : IsTrue told → (world : World) → IsImage (reads disk) world → IsRunOf world [] [] (ending.Mount why) disk last
 
 -- Without memory for what is kept, nothing is done.

@@ -37,7 +37,7 @@ fn serve_mounted<D: Device + Drop, H: Host, R: Read, W: Write>(
     requires nodes { table_of new_connection.nodes ≡ root_alone }
     requires files { new_connection.files ≡ replicate 4032 None }
     requires frames { new_connection.frames ≡ [] }
-    ensures { IsServedFrom D.tells_bytes H.tells checker times result.times mounted host.old host.new (R.remaining input.old) (R.remaining input.new) (W.contents output.old) (W.contents output.new) result.outcome (D.disk result.device) }
+    ensures { IsServedFrom D.tells_bytes H.tells checker times result.times mounted host.old host.new (R.remaining input.old) (R.remaining input.new) (W.contents output.old) (W.contents output.new) result.outcome (D.disk result.device) (D.status result.device) }
 {
     let mut connection = new_connection.of(alloc, mounted, checker, times);
     let stop = converse(&mut connection, host, input, output);
@@ -58,6 +58,8 @@ fn serve_mounted<D: Device + Drop, H: Host, R: Read, W: Write>(
 /// Proved: The messages of the input are answered one after the other, each by its plan and by one reply, as who sent it with the groups that are told of
 /// its process, or where the system checks as user 0; what is called is a run of the machine from the world that the disk is an image of, with steps of consistency points between messages; a
 /// crash leaves what that leaves.
+/// Proved: No failure is invented: where the device counted none and hasn't ended, none occurred in that run, and what is looked for is missed only for memory, for a read that the device
+/// failed, or once a failure has stopped the mount.
 pub fn serve_image<D: Device + Drop, H: Host, R: Read, W: Write>(
     alloc: Global,
     device: D,
@@ -68,8 +70,8 @@ pub fn serve_image<D: Device + Drop, H: Host, R: Read, W: Write>(
     output: &mut W,
 ) -> Served<D>
     ensures { IsRefused result.outcome (D.disk device) (D.disk result.device) × (output.new ≡ output.old)
-        ⊎ ((why : Why) × IsUnmounted D.tells_bytes why (D.status device).sectors result.outcome (D.disk device) (D.disk result.device) × (output.new ≡ output.old))
-        ⊎ IsServed D.tells_bytes H.tells checker times result.times host.old host.new (R.remaining input.old) (R.remaining input.new) (W.contents output.old) (W.contents output.new) result.outcome (D.disk device) (D.disk result.device) }
+        ⊎ ((why : Why) × IsUnmounted D.tells_bytes why result.outcome (D.disk device) (D.status device) (D.disk result.device) (D.status result.device) × (output.new ≡ output.old))
+        ⊎ IsServed D.tells_bytes H.tells checker times result.times host.old host.new (R.remaining input.old) (R.remaining input.new) (W.contents output.old) (W.contents output.new) result.outcome (D.disk device) (D.status device) (D.disk result.device) (D.status result.device) }
 {
     let Ok(new_connection) = NewConnection::new(alloc) else {
         return Served {

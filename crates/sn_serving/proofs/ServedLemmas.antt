@@ -1,5 +1,5 @@
 -- What events lead a mounted file system to.
-use Rattle.std.proofs.Common.{◌≡◌, ◌+◌, ℕ, zero, suc, Bool, false, List, [], ◌∷◌, ◌++◌, length, replicate, refl, sym, ap, subst, ◌∙◌, true≢false, length-append, arith}
+use Rattle.std.proofs.Common.{◌≡◌, ◌+◌, ◌*◌, ◌≤◌, ℕ, zero, suc, inl, inr, Bool, false, List, [], ◌∷◌, ◌++◌, length, replicate, refl, sym, ap, subst, ◌∙◌, true≢false, length-append, arith}
 use Rattle.std.specs.Prelude.{IsTrue, IfErr, OnOk, Result, Ok, Err}
 use Rattle.sn_cp_progress.specs.Meaning.{Means}
 use Rattle.sn_cp_progress.proofs.MeaningLemmas.{counted_with, runs_with}
@@ -21,41 +21,35 @@ use Rattle.sn_model.specs.declared.call.Event.{Event}
 use Rattle.sn_model.specs.declared.call.Event.TheVariants as event
 use Rattle.sn_model.specs.declared.end.End.{End}
 use Rattle.sn_model.specs.declared.reply.Reply.{Reply}
-use Rattle.sn_model.specs.Machine.{Running, RunBy, State, Stopped}
+use Rattle.sn_model.specs.Machine.{Running, State, Stopped}
 use Rattle.sn_model.specs.World.{World}
 use Rattle.sn_model.specs.Worlds.{IsFound}
 use Rattle.sn_mount.proofs.AllowedLemmas.{world_stays}
+use Rattle.sn_mount.specs.Costs.{CostsMount}
 use Rattle.sn_opening.specs.Opens.{Opens}
 use Rattle.sn_run.specs.Ending.{EndsSo}
-use Rattle.sn_run.specs.Places.{Moves}
 use Rattle.sn_sound.specs.Disks.{IsOfDevice}
 use Rattle.sn_sound.proofs.DiskLemmas.{one_size}
 use Rattle.sn_sound.proofs.WorldLemmas.{opens_to_found}
-use Rattle.sn_serving.specs.Served.{IsIn, IsMountOf, Leads, MeansSome, Served, Unmounts, place_in, room_in}
+use Rattle.sn_serving.specs.Served.{Holding, IsIn, IsMountOf, Leads, MeansSome, Misses, Served, Unmounts, answers, misses, rests, seen}
 
 -- ---- events, one after the other
 
-pub run_joined : {S : Type 0} (By : S → Event → Reply → S → Type 0) (old mid new : S) (a b : List Event) (x y : List Reply) → RunBy By old a x mid → RunBy By mid b y new → RunBy By old (a ++ b) (x ++ y) new
-run_joined {S} By old mid new [] b [] y run more = subst (λ (s : S). RunBy By s b y new) run more
-run_joined By old mid new [] b (r ∷ x) y run more = absurd run
-run_joined By old mid new (e ∷ a) b [] y run more = absurd run
-run_joined By old mid new (e ∷ a) b (r ∷ x) y run more = (run.0, run.1, run_joined By run.0 mid new a b x y run.2 more)
-
 pub leads_none : (s : Served) → Leads [] [] s s
-leads_none s state is = record { next = state; is_in = is; run = refl }
+leads_none s = rests
+
+joined : {a b : List Event} {x y : List Reply} {old mid new : Served} → Leads a x old mid → Leads b y mid new → Leads (a ++ b) (x ++ y) old new
+joined rests more = more
+joined (answers answered first) more = answers answered (joined first more)
+joined (misses missed first) more = misses missed (joined first more)
 
 pub leads_more : (a b : List Event) (x y : List Reply) (old mid new : Served) → Leads a x old mid → Leads b y mid new → Leads (a ++ b) (x ++ y) old new
-leads_more a b x y old mid new first more state is =
-    let f = first state is in
-    let m = more f.next f.is_in in
-    record { next = m.next; is_in = m.is_in; run = run_joined Moves (place_in state old) (place_in f.next mid) (place_in m.next new) a b x y f.run m.run }
+leads_more a b x y old mid new first more = joined first more
 
 -- ---- what is held, as it is seen
 
-abbrev pub served_of : Held → Bool → Served
-served_of h has_stopped = record { world = h.world; has_stopped = has_stopped; disk = h.disk; room = room_in h }
-
-pub in_it : (h : Held) (has_stopped : Bool) (state : State) → Means h has_stopped state → IsIn state (served_of h has_stopped)
+-- what it means is what it is seen in
+pub in_it : (h : Held) (has_stopped : Bool) (state : State) → Means h has_stopped state → IsIn state (seen h has_stopped)
 in_it h has_stopped (Running world) m = (m.0, (runs_with h world h.point m.1).is)
 in_it h has_stopped (Stopped before after) m = m
 
@@ -65,32 +59,33 @@ runs h has_stopped world running is (Running other) m =
     subst (λ (w : World). Means h has_stopped (Running w)) same m
 runs h has_stopped world running is (Stopped before after) m = absurd (true≢false (sym m.0 ∙ running))
 
--- it means each state that it may be in, since it means some
-pub meant : (h : Held) (has_stopped : Bool) → (state : State) × Means h has_stopped state → (state : State) → IsIn state (served_of h has_stopped) → Means h has_stopped state
-meant h has_stopped some (Running world) is = runs h has_stopped world is.0 is.1 some.0 some.1
-meant h has_stopped some (Stopped before after) is = is
+meant : (h : Held) (has_stopped : Bool) (some state : State) → Means h has_stopped some → IsIn state (seen h has_stopped) → Means h has_stopped state
+meant h has_stopped some (Running world) m is = runs h has_stopped world is.0 is.1 some m
+meant h has_stopped some (Stopped before after) m is = is
+
+-- it means each state that it is in, since it means some
+pub means_it : (s : Served) (before : Holding s) (state : State) → IsIn state s → Means before.held s.has_stopped state
+means_it s before state is = meant before.held s.has_stopped before.state state before.means (subst (IsIn state) before.is is)
+
+holding : (told : Bool) (h : Held) (has_stopped : Bool) → MeansSome told h has_stopped → IsTrue told → Holding (seen h has_stopped)
+holding told h has_stopped some is = record { held = h; is = refl; state = (some is).0; means = (some is).1 }
 
 pub answered : (told : Bool) (e : Event) (reply : Reply) (old : Held) (had_stopped : Bool) (new : Held) (has_stopped : Bool)
-    → MeansSome told old had_stopped → (IsTrue told → Answers e reply old had_stopped new has_stopped) → IsTrue told → Leads (e ∷ []) (reply ∷ []) (served_of old had_stopped) (served_of new has_stopped)
-answered told e reply old had_stopped new has_stopped some answers is state here =
-    let a = answers is state (meant old had_stopped (some is) state here) in
-    record {
-      next = a.next;
-      is_in = in_it new has_stopped a.next a.means;
-      run = (place_in a.next (served_of new has_stopped), record { step = (a.met, tt, a.step); lasts = a.lasts }, refl);
-    }
+    → MeansSome told old had_stopped → (IsTrue told → Answers e reply old had_stopped new has_stopped) → IsTrue told → Leads (e ∷ []) (reply ∷ []) (seen old had_stopped) (seen new has_stopped)
+unfolding holding
+answered told e reply old had_stopped new has_stopped some all is =
+    answers {old = seen old had_stopped} {mid = seen new has_stopped} (record { before = holding told old had_stopped some is; next = new; is = refl; answers = all is }) rests
 
 pub means_next : (told : Bool) (e : Event) (reply : Reply) (old : Held) (had_stopped : Bool) (new : Held) (has_stopped : Bool)
     → MeansSome told old had_stopped → (IsTrue told → Answers e reply old had_stopped new has_stopped) → MeansSome told new has_stopped
-means_next told e reply old had_stopped new has_stopped some answers is =
+means_next told e reply old had_stopped new has_stopped some all is =
     let state = some is in
-    let a = answers is state.0 state.1 in
+    let a = all is state.0 state.1 in
     (a.next, a.means)
 
-pub unmounts : (told : Bool) (end : End) (h : Held) (has_stopped : Bool) (disk : Disk) (status : Status) → MeansSome told h has_stopped → (IsTrue told → EndsSo end h has_stopped disk status) → IsTrue told → Unmounts end (served_of h has_stopped) disk
-unmounts told end h has_stopped disk status some ends is state here =
-    let e = ends is state (meant h has_stopped (some is) state here) in
-    record { met = e.met; ends = e.ends; lasts = e.lasts }
+pub unmounts : (told : Bool) (end : End) (h : Held) (has_stopped : Bool) (disk : Disk) (status : Status) → MeansSome told h has_stopped → (IsTrue told → EndsSo end h has_stopped disk status) → IsTrue told → Unmounts end (seen h has_stopped) disk status
+unfolding holding
+unmounts told end h has_stopped disk status some ends is = record { before = holding told h has_stopped some is; ends = ends is }
 
 -- ---- the mount
 
@@ -110,13 +105,15 @@ means_some told sectors old h has_stopped device mounts is =
     let found = clean_image sectors (reads old) (device is) m.clean in
     (Running found.0, (m.runs found.0 found.1).means)
 
-pub is_mount : (sectors : ℕ) (old : Disk) (h : Held) (has_stopped : Bool) (world : World) → IsOfDevice sectors (reads old) → Mounts sectors old h has_stopped → IsImage (reads old) world → IsMountOf world old (served_of h has_stopped)
-is_mount sectors old h has_stopped world device m image =
+pub is_mount : (old : Disk) (status : Status) (h : Held) (has_stopped : Bool) (world : World) → IsOfDevice status.sectors (reads old) → Mounts status.sectors old h has_stopped → CostsMount h.at.blocks status h.status
+    → 8 * h.at.blocks ≤ status.sectors → IsImage (reads old) world → IsMountOf world old status (seen h has_stopped)
+is_mount old status h has_stopped world device m costs within image =
     let it = m.runs world image in
     record {
       is_in = in_it h has_stopped (Running world) it.means;
-      found = image_found sectors (reads old) world device m.clean image;
+      found = image_found status.sectors (reads old) world device m.clean image;
       leaves = it.leaves;
+      costs = (h.at.blocks, within, costs);
     }
 
 -- ---- steps
@@ -126,7 +123,7 @@ abbrev pub SomeSteps : Bool → Served → Served → Type 0
 SomeSteps told old new = (replies : List Reply) × (IsTrue told → Leads (replicate (length replies) event.Step) replies old new)
 
 unfoldable pub steps_none : (told : Bool) (s : Served) → SomeSteps told s s
-steps_none told s = ([], λ is. leads_none s)
+steps_none told s = ([], λ is. rests)
 
 pub replicate_joined : (m n : ℕ) → replicate m event.Step ++ replicate n event.Step ≡ replicate (m + n) event.Step
 replicate_joined zero n = ap (λ (k : ℕ). replicate k event.Step) (omega arith)
@@ -145,11 +142,6 @@ steps_one told reply old new leads = (reply ∷ [], leads)
 
 -- ---- looks
 
--- one that fails leaves what is served
-unseen_keeps : (fault : LookFault) (old new : Held) (has_stopped : Bool) → IsUnseen fault old new → served_of new has_stopped ≡ served_of old has_stopped
-unseen_keeps look.Memory old new has_stopped is = ap (λ (h : Held). served_of h has_stopped) is
-unseen_keeps look.Read old new has_stopped is = ap (λ (h : Held). served_of h has_stopped) is.0
-
 -- what the device counts of a read decides nothing
 counted_means : (h : Held) (has_stopped : Bool) (status : Status) (state : State) → Means h has_stopped state → Means (record h { status = status }) has_stopped state
 counted_means h has_stopped status (Running world) m = (m.0, counted_with h.point h world status m.1)
@@ -160,18 +152,37 @@ unseen_means look.Memory old new has_stopped state is m = subst (λ (h : Held). 
 unseen_means look.Read old new has_stopped state is m =
     subst (λ (h : Held). Means h has_stopped state) (sym is.0) (counted_means old has_stopped new.status state m)
 
+-- a look that misses what it looks for is no event
+pub leads_missed : (fault : LookFault) (old new : Served) → Misses fault old new → Leads [] [] old new
+leads_missed look.Memory old new same = subst (λ (s : Served). Leads [] [] old s) (sym same) rests
+leads_missed look.Read old new (inl stopped) = subst (λ (s : Served). Leads [] [] old s) (sym stopped.1) rests
+leads_missed look.Read old new (inr missed) = misses missed rests
+
+missed_for : (fault : LookFault) (old new : Held) (had_stopped has_stopped : Bool) → has_stopped ≡ had_stopped → IsUnseen fault old new → Misses fault (seen old had_stopped) (seen new has_stopped)
+missed_for look.Memory old new had_stopped has_stopped same is = λ i. seen (is i) (same i)
+missed_for look.Read old new had_stopped has_stopped same is = inr (record { same = λ i. seen (is.0 i) (same i); failed = is.1 })
+
 module _ {T : Type 0} (told : Bool) (result : Result T LookFault) (old new : Held) (had_stopped has_stopped : Bool) (same : has_stopped ≡ had_stopped)
     (quiet : IsTrue told → OnOk result (new ≡ old)) (unseen : IsTrue told → IfErr result (λ fault. IsUnseen fault old new)) where
-  kept_by : (r : Result T LookFault) → OnOk r (new ≡ old) → IfErr r (λ fault. IsUnseen fault old new) → served_of new had_stopped ≡ served_of old had_stopped
-  kept_by (Ok x) is _ = ap (λ (h : Held). served_of h had_stopped) is
-  kept_by (Err fault) _ is = unseen_keeps fault old new had_stopped is
-
   meant_by : (r : Result T LookFault) (state : State) → OnOk r (new ≡ old) → IfErr r (λ fault. IsUnseen fault old new) → Means old had_stopped state → Means new had_stopped state
   meant_by (Ok x) state is _ m = subst (λ (h : Held). Means h had_stopped state) (sym is) m
   meant_by (Err fault) state _ is m = unseen_means fault old new had_stopped state is m
 
-  pub look_keeps : IsTrue told → served_of new has_stopped ≡ served_of old had_stopped
-  look_keeps is = ap (served_of new) same ∙ kept_by result (quiet is) (unseen is)
-
   pub look_means : MeansSome told old had_stopped → MeansSome told new has_stopped
   look_means some is = ((some is).0, subst (λ (b : Bool). Means new b (some is).0) (sym same) (meant_by result (some is).0 (quiet is) (unseen is) (some is).1))
+
+  kept_by : (r : Result T LookFault) → OnOk r (new ≡ old) → OnOk r (seen new has_stopped ≡ seen old had_stopped)
+  kept_by (Ok x) is = λ i. seen (is i) (same i)
+  kept_by (Err fault) is = tt
+
+  -- one that found leaves what is served
+  pub look_keeps : IsTrue told → OnOk result (seen new has_stopped ≡ seen old had_stopped)
+  look_keeps is = kept_by result (quiet is)
+
+  missed_by : (r : Result T LookFault) → IfErr r (λ fault. IsUnseen fault old new) → IfErr r (λ fault. Misses fault (seen old had_stopped) (seen new has_stopped))
+  missed_by (Ok x) is = tt
+  missed_by (Err fault) is = missed_for fault old new had_stopped has_stopped same is
+
+  -- and one that didn't what its fault says
+  pub look_misses : IsTrue told → IfErr result (λ fault. Misses fault (seen old had_stopped) (seen new has_stopped))
+  look_misses is = missed_by result (unseen is)

@@ -1,7 +1,8 @@
 //! A mounted file system that answers events as they are chosen.
-ghost use Rattle.std.specs.Prelude.{◌≡◌, ◌++◌, ◌∷◌, [], false, List, IsTrue, IfErr, IfOk, length, replicate};
+ghost use Rattle.std.specs.Prelude.{◌≡◌, ◌++◌, ◌∷◌, [], false, List, IsTrue, IfErr, IfOk, OnOk, length, replicate};
 ghost use Rattle.sn_check.specs.Verdicts.{IsCause};
 ghost use Rattle.sn_device.specs.Disk.{reads};
+ghost use Rattle.sn_examine.specs.Failing.{IsSoOf};
 ghost use Rattle.sn_held.specs.Images.{IsImage};
 ghost use Rattle.sn_live_view.specs.Looking.{known_by};
 ghost use Rattle.sn_model.specs.World.{World, trees_of, viewed_trees};
@@ -12,7 +13,7 @@ ghost use Rattle.sn_model.specs.declared.reply.Reply.{Reply as Told};
 ghost use Rattle.sn_run.specs.Ending.{IsLastEnd};
 ghost use Rattle.sn_run.specs.Runs.{IsRunOf};
 ghost use Rattle.sn_serving.specs.Pacing.{AreMade, MakesDue, Paces};
-ghost use Rattle.sn_serving.specs.Served.{IsMountOf, Leads, Unmounts};
+ghost use Rattle.sn_serving.specs.Served.{IsMountOf, Leads, Misses, Unmounts};
 ghost use Rattle.sn_walk.specs.Views.{attributes_at};
 
 use crate::pace::{Room, steps_due};
@@ -24,7 +25,7 @@ use sn_run::Server;
 use std::alloc::Global;
 use std::marker::Model;
 
-/// A mounted file system: the world that it holds, whether it has stopped, the disk of its device, and what is left of it.
+/// A mounted file system: the world that it holds, whether it has stopped, the disk and the counts of its device, and what is left of it.
 #[derive(Drop)]
 pub struct Serving<D: Device + Drop> {
     server: Server<D>,
@@ -40,9 +41,9 @@ impl<D: Device + Drop> Model for Serving<D> {
     ghost coded = { Prim.hlevel (codes, map.code) };
 
     ghost use Rattle.sn_run.specs.Servers.{IsServer, is_stopped, standing};
-    ghost use Rattle.sn_serving.specs.Served.{MeansSome, room_in};
+    ghost use Rattle.sn_serving.specs.Served.{MeansSome, seen};
 
-    ghost view = { λ s. record { world = (standing s.server).world; has_stopped = is_stopped s.server; disk = (standing s.server).disk; room = room_in (standing s.server) } };
+    ghost view = { λ s. seen (standing s.server) (is_stopped s.server) };
 
     ghost invariant = { λ s. IsServer s.server × MeansSome D.tells_bytes (standing s.server) (is_stopped s.server) };
 }
@@ -50,15 +51,16 @@ impl<D: Device + Drop> Model for Serving<D> {
 impl<D: Device + Drop> Serving<D> {
     /// Mounts a device, as `mount` does, or says why not and hands it back.
     ///
-    /// Proved: A device that can't be mounted is refused for the cause of a check.
+    /// Proved: A device that can't be mounted is refused for the cause of a check, and for the device only where that has failed.
     /// Proved: What is mounted runs over the world that the disk is an image of, and a crash leaves no other from the mount's
     /// first sync on; where nothing is mounted, that is a run without a reply.
     pub fn new(alloc: Global, device: D) -> Result<Serving<D>, Unmounted<D>>
         ensures mounted { IsTrue D.tells_bytes → (world : World) → IsImage (reads (D.disk device)) world
-            → IfOk result (IsMountOf world (D.disk device)) }
+            → IfOk result (IsMountOf world (D.disk device) (D.status device)) }
         ensures unmounted { IsTrue D.tells_bytes → (world : World) → IsImage (reads (D.disk device)) world
             → IfErr result (λ u. (events : List Chosen) → IsRunOf world events [] (ending.Mount u.fault) (D.disk device) (D.disk u.device)) }
         ensures cause { IsTrue D.tells_bytes → IfErr result (λ u. IsCause (D.status device).sectors (reads (D.disk device)) u.fault) }
+        ensures failed { IfErr result (λ u. IsSoOf u.fault (D.status device) (D.status u.device)) }
     {
         match mount(alloc, device) {
             Ok(fs) => Ok(Serving {
@@ -79,6 +81,8 @@ impl<D: Device + Drop> Serving<D> {
     ///
     /// Proved, also of `Serving::step`: The reply is that of a step of the machine, from each state in which what is served may
     /// be, and a crash in its course leaves the state before it or after it.
+    /// Proved, also of `Serving::step`: What it encounters has the causes, and what it writes the bounds, that an event of a run has (`Server::call` of `sn_run`): `EIO`
+    /// comes only where the device failed in it or is at its end, and `ENOSPC` only where the call doesn't fit right after a whole consistency point.
     pub fn call(&mut self, session: u32, call: &Call) -> Reply
         ensures { IsTrue D.tells_bytes → Leads (event.Call session call.now ∷ []) (result ∷ []) self.old self.new }
     {
@@ -96,9 +100,11 @@ impl<D: Device + Drop> Serving<D> {
     ///
     /// Proved, also of `Serving::node`: What user 0 is told is what the model's walk finds in the world that is served, and nothing
     /// changes.
+    /// Proved, also of `Serving::node`: `Read` is told only where it has stopped or a read of the device failed, of which nothing is left but what the device counts.
     pub fn find(&mut self, path: Path<'_>) -> Result<Option<Known>, LookFault>
         ensures found { IsTrue D.tells_bytes → IfOk result (λ known. known ≡ known_by (viewed_trees (trees_of self.old.world)) path.entry) }
-        ensures quiet { IsTrue D.tells_bytes → self.new ≡ self.old }
+        ensures quiet { IsTrue D.tells_bytes → OnOk result (self.new ≡ self.old) }
+        ensures missed { IsTrue D.tells_bytes → IfErr result (λ fault. Misses fault self.old self.new) }
     {
         if self.has_stopped() {
             return Err(LookFault::Read);
@@ -112,7 +118,8 @@ impl<D: Device + Drop> Serving<D> {
     /// What is known of an object, as `Fs::node` (`sn_fs`) does. Faults are those of [`Serving::find`].
     pub fn node(&mut self, object: Object) -> Result<Option<Attributes>, LookFault>
         ensures found { IsTrue D.tells_bytes → IfOk result (λ attributes. attributes ≡ attributes_at (viewed_trees (trees_of self.old.world)) object) }
-        ensures quiet { IsTrue D.tells_bytes → self.new ≡ self.old }
+        ensures quiet { IsTrue D.tells_bytes → OnOk result (self.new ≡ self.old) }
+        ensures missed { IsTrue D.tells_bytes → IfErr result (λ fault. Misses fault self.old self.new) }
     {
         if self.has_stopped() {
             return Err(LookFault::Read);
@@ -189,7 +196,7 @@ impl<D: Device + Drop> Serving<D> {
     ///
     /// Proved: The end is that of the machine, and a crash in the course of the unmount leaves what was there before it.
     pub fn finish(self) -> (End, D)
-        ensures ended { IsTrue D.tells_bytes → Unmounts result.0 self (D.disk result.1) }
+        ensures ended { IsTrue D.tells_bytes → Unmounts result.0 self (D.disk result.1) (D.status result.1) }
         ensures told { IsLastEnd result.0 }
     {
         let Serving { server } = self;

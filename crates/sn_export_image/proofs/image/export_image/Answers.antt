@@ -36,7 +36,7 @@ pub returns-clause-kept : goal.returns-clause-kept
 returns-clause-kept g c = λ told world image.
     (let m = c.in-Ok.ensures.mounted told world image in
     subst (λ (r : Result (Unit {0}) ImageFault). OnOk r (HasTreesOf world (g.D.Device.disk c.finish-end.result.1))) (sym c.of_end.ensures)
-    (keeps_trees g.D.Device.tells_bytes c.finish-end.result.0 c.write_tree-written.result c.exporting.inside.serving (reads (g.D.Device.disk c.args.device)) world _ image
+    (keeps_trees g.D.Device.tells_bytes c.finish-end.result.0 c.write_tree-written.result c.exporting.inside.serving (reads (g.D.Device.disk c.args.device)) world _ _ image
     (subst (λ (s : Served). OnOk c.write_tree-written.result (Reads (trees_of world) (RunsOver g.D.Device.tells_bytes s))) (sym c.exporting.view_is) (c.write_tree-written.ensures.kept world (told, m.is_in) m.found))
     (c.finish-end.ensures.ended told)))
 

@@ -21,5 +21,5 @@ returns g c =
       end = c.finish-end.result.0;
       told_end = c.finish-end.ensures.told;
       outcome_is = c.outcome_of.ensures;
-      unmounts = λ is. subst (λ (s : Shown). Unmounts c.finish-end.result.0 s.served (g.D.Device.disk c.finish-end.result.1)) c.into_parts-file_system.ensures.file_system (c.finish-end.ensures.ended is);
+      unmounts = λ is. subst (λ (s : Shown). Unmounts c.finish-end.result.0 s.served (g.D.Device.disk c.finish-end.result.1) (g.D.Device.status c.finish-end.result.1)) c.into_parts-file_system.ensures.file_system (c.finish-end.ensures.ended is);
     }

@@ -14,7 +14,7 @@ pub returns-in-Ok-clause-mounted : goal.returns-in-Ok-clause-mounted
 returns-in-Ok-clause-mounted g c = λ told world image.
     (let device = c.args.device in
     let laws = g.met.D.Device in
-    is_mount _ (g.D.Device.disk device) _ _ world (record { whole = laws.whole device told; count = laws.count device told }) (c.in-Ok.ensures.mounted told) image)
+    is_mount (g.D.Device.disk device) (g.D.Device.status device) _ _ world (record { whole = laws.whole device told; count = laws.count device told }) (c.in-Ok.ensures.mounted told) c.in-Ok.ensures.costs c.in-Ok.ensures.within image)
 
 pub returns-in-Err-clause-unmounted : goal.returns-in-Err-clause-unmounted
 returns-in-Err-clause-unmounted g c = λ told world image events.
