@@ -1,7 +1,7 @@
 -- What is served is a machine over a world, and an export keeps its trees.
-use Rattle.std.proofs.Common.{◌≡◌, ◌∙◌, ℕ, Bool, List, [], ◌∷◌, ap, refl, subst}
+use Rattle.std.proofs.Common.{◌≡◌, ◌∙◌, ℕ, Bool, [], ◌∷◌, ap, refl, subst}
 use Rattle.std.specs.Prelude.{IfErr, IsErr, IsTrue, Result, Ok, Err, OnOk}
-use Rattle.sn_device.specs.Disk.{Disk, reads}
+use Rattle.sn_device.specs.Disk.{Disk}
 use Rattle.sn_device.specs.Sectors.{Contents}
 use Rattle.sn_device.specs.declared.status.Status.{Status}
 use Rattle.sn_device.proofs.CrashLemmas.{LeavesOnly-now}
@@ -19,7 +19,7 @@ use Rattle.sn_model.specs.World.{Trees, World, trees_of}
 use Rattle.sn_run.specs.Places.{Place}
 use Rattle.sn_run.proofs.CutLemmas.{found_settled}
 use Rattle.sn_serving.specs.Served.{IsIn, Leads, Served, Unmounts}
-use Rattle.sn_serving.proofs.RunLemmas.{arrives, ended_in, place_in}
+use Rattle.sn_serving.proofs.RunLemmas.{arrives, ended_in}
 use Rattle.sn_export_reading.specs.Serving.{InState, IsStepOf, Reads}
 use Rattle.sn_export_reading.specs.declared.fault.ExportFault.{ExportFault}
 use Rattle.sn_export_reading.specs.declared.fault.ExportFault.TheVariants as export

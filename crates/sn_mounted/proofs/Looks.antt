@@ -1,20 +1,18 @@
 -- Looks that fail to read.
-use Rattle.std.proofs.Common.{◌≡◌, ◌∙◌, inl, inr, ℕ, zero, suc, Bool, true, false, List, [], ◌∷◌, ◌++◌, Result, Ok, Err, length, replicate, refl, sym, ap, arith, true≢false}
+use Rattle.std.proofs.Common.{◌≡◌, ◌∙◌, ℕ, zero, suc, true, false, List, [], ◌∷◌, ◌++◌, Result, Ok, Err, length, replicate, refl, ap, arith}
 use Rattle.std.specs.List.{AllByRecursion}
 use Rattle.std.specs.Prelude.{Option}
 use Rattle.sn_walk.specs.declared.view.Attributes.{Attributes}
 use Rattle.sn_block.specs.Counts.{IsLater}
 use Rattle.sn_block.proofs.CountLemmas.{later-join, later-same}
 use Rattle.sn_device.specs.Status.{has_ended}
-use Rattle.sn_model.specs.declared.call.Event.{Event}
 use Rattle.sn_model.specs.declared.call.Event.TheVariants as event
-use Rattle.sn_model.specs.declared.reply.Reply.{Reply}
-use Rattle.sn_plan.specs.Acts.{Act, Called, Counted, Found, Seen}
+use Rattle.sn_plan.specs.Acts.{Act, Found, Seen}
 use Rattle.sn_plan.specs.declared.errors.LookFault.{LookFault}
 use Rattle.sn_plan.specs.declared.errors.LookFault.TheVariants.{Memory, Read}
-use Rattle.sn_serving.specs.Served.{Leads, Served}
+use Rattle.sn_serving.specs.Served.{Served}
 use Rattle.sn_serving.proofs.RunLemmas.{IsNoRestart, goes_on, later, missed_none, stays_running}
-use Rattle.sn_mounted.specs.Doing.{Did, Does, LooksAt, begins, calls, cause_of, counts, does, finds, sees, steps}
+use Rattle.sn_mounted.specs.Doing.{Did, Does, LooksAt, begins, calls, counts, does, finds, sees, steps}
 use Rattle.sn_mounted.specs.Runs.{HasRead, NoMissIsInvented}
 use Rattle.sn_mounted.specs.Shown.{Shown}
 use Rattle.sn_mounted.proofs.Doing.{looked}

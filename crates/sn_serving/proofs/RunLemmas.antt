@@ -8,7 +8,6 @@ use Rattle.sn_device.specs.Status.{has_ended}
 use Rattle.sn_device.specs.declared.status.Status.{Status}
 use Rattle.sn_events.specs.Answers.{AnswersFrom}
 use Rattle.sn_events.proofs.ReadLemmas.{fails_read}
-use Rattle.sn_held.specs.Held.{Held}
 use Rattle.sn_held.specs.Moments.{LastsOver, ShowsState}
 use Rattle.sn_device.specs.Crash.{LeavesOnly}
 use Rattle.sn_limits.specs.Versions.{limits_written}
@@ -26,7 +25,7 @@ use Rattle.sn_run.specs.Runs.{Standing}
 use Rattle.sn_run.proofs.CauseLemmas.{mount_unfailing}
 use Rattle.sn_run.proofs.CutLemmas.{machine_run, run_leaves}
 use Rattle.sn_run.proofs.FailureLemmas.{fin_failures, met_unfailing, never_failed, not_ended, run_unfailing}
-use Rattle.sn_serving.specs.Served.{Holding, IsAnswered, IsIn, IsMountOf, Leads, Misses, MissesARead, Served, ServedIsRun, Unmounts, answers, misses, rests}
+use Rattle.sn_serving.specs.Served.{IsAnswered, IsIn, IsMountOf, Leads, Misses, MissesARead, Served, ServedIsRun, Unmounts, answers, misses, rests}
 use Rattle.sn_serving.proofs.ServedLemmas.{in_it, means_it}
 
 abbrev pub place_in : State → Served → Place
