@@ -1,5 +1,5 @@
 #!/usr/bin/env python3
-"""Makes docs/PROVED.md of the marked lines of doc in the sources, by the groups of crates.txt from the program down.
+"""Makes docs/PROVED.md of the marked lines of doc in the sources, by the groups of crates.txt from the program down, those of tests last.
 
     bench/proved.py [check]
 
@@ -23,8 +23,9 @@ MARK = re.compile(r"Proved(?:, also of (?P<also>[^:]+(?:::[^:]+)*))?: (?P<said>.
 FUNCTION = re.compile(r"(?P<indent>\s*)(?:pub(?:\([^)]*\))? )?(?:const )?fn (?P<name>\w+)")
 TYPE = re.compile(r"(?:pub )?(?:struct|enum|trait|type) (?P<name>\w+)")
 OWNER = re.compile(r"(?:pub )?(?P<kind>impl|trait)\b")
-# Groups of crates whose lines are asked of nobody: they are tests, or only tests use them.
+# Groups of crates whose lines are asked of nobody: they are tests, or only tests use them. They come last, after what tests compare with.
 TESTS = ("Test support", "Cases", "Tests")
+LAST = ("Reference", *TESTS)
 
 
 def groups_of(text):
@@ -123,7 +124,7 @@ def rows_of_crate(name):
 def page_of(groups, head, words):
     """The page, and what it lacks."""
     made, lacking = [head], [it for it in words if it not in groups and it not in sum(groups.values(), [])]
-    for group, crates in reversed(groups.items()):
+    for group, crates in sorted(reversed(groups.items()), key=lambda it: LAST.index(it[0]) + 1 if it[0] in LAST else 0):
         parts = []
         for crate in reversed(crates):
             rows = rows_of_crate(crate)
