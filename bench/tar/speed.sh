@@ -17,7 +17,7 @@ work=$(mktemp -d)
 trap 'rm -rf "$work"' EXIT
 if [ $# -eq 0 ]; then "$top/snapfs" --build; fi
 
-python3 - "$top/bench" "$work" <<'P'
+python3 - "$top/bench/plain" "$work" <<'P'
 import sys
 from pathlib import Path
 

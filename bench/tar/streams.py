@@ -17,7 +17,7 @@ import tarfile
 import tempfile
 from pathlib import Path
 
-sys.path.insert(0, str(Path(__file__).resolve().parent.parent))
+sys.path.insert(0, str(Path(__file__).resolve().parent.parent / "plain"))
 from names import to_image
 
 DATA = Path(__file__).resolve().parent.parent.parent / "crates/sn_tests_messages/data/tar"
@@ -298,7 +298,7 @@ def place(name):
 
 
 def places():
-    yield "# The paths of an image for names of archives (bench/tar/streams.py), by split and by the names of bench/names.py."
+    yield "# The paths of an image for names of archives (bench/tar/streams.py), by split and by the names of bench/plain/names.py."
     names = [b"", b".", b"./", b"/", b"//", b"a", b"./a", b"/a", b"a/", b"a//b", b"a/./b", b"/./a/.", b"..", b"../a", b"a/..", b"a/../b", b"/..", b"...", b"..a", b"a..", b".a"]
     names += ["caf\u00e9/x".encode(), b"a b", b"a\nb", b"\x7f", b"\xff\xfe", b"%41", b"%25", b"%20", b"a\0b", b"a/\0", b"\0"]
     names += [b"n" * 255, b"n" * 256, b"\x01" * 85, b"\x01" * 86, b"n" * 256 + b"/..", b"../" + b"n" * 256, b"a\0/..", b"/".join([b"n" * 254] * 4) + b"/n", b"/".join([b"n" * 255] * 3) + b"/" + b"n" * 254, b"/".join([b"n" * 255] * 4), b"/".join([b"n" * 255] * 3) + b"/" + b"n" * 255, b"n/" * 511, b"n/" * 512, b"/" * 3000 + b"a", b"./" * 2000 + b"b"]
