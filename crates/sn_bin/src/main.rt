@@ -1,5 +1,7 @@
 //! The command `snapfs`: the words of the command line and the streams of the process, handed to
 //! [`sn_program::program`], which does the rest.
+//!
+//! The way through: `words` reads the command line, and `main` hands it on.
 #![tactic(auto)]
 
 use sn_program::{Person, ProgramFault, Replies, program, refuse};

@@ -4,8 +4,8 @@
 //! [`WordsFault`]. The words are `clap`'s to read, and `specs/Tasks` says which of them ask for which task: a task comes
 //! only of those, and those are refused only where memory is. No word is empty or begins with a dash.
 //!
-//! `commands` has the commands as `clap` knows them, which `specs/Commands` writes out, and `task` makes a task of the
-//! words that were found under their names.
+//! The way through: `commands` has the commands as `clap` knows them, which `specs/Commands` writes out, `task` makes a task of the
+//! words that were found under their names, and `command` has [`parse`].
 //!
 //! What the sources leave open is decided in `docs/DECISIONS.md`, under "Scripts and the program".
 //!

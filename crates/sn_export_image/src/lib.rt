@@ -7,6 +7,9 @@
 //! The trees aren't changed: after an export without a fault the disk is an image of the same, whatever a crash leaves (`HasTreesOf`). The mount may
 //! write as any does, and the unmount makes a consistency point.
 //!
+//! The way through: `exporting` answers the calls of an export, `image` mounts, has the stream written and unmounts, and `fault` says why
+//! an export has no end.
+//!
 //! What the sources leave open is decided in `docs/DECISIONS.md`, under "Archives of trees".
 //!
 //! ```text

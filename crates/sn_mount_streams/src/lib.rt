@@ -12,7 +12,8 @@
 //! ```text
 //! let mut output = Replies::to(rt.stdout());
 //! let (mut host, mut requests) = (ThisHost::new(&rt), Requests::of(&mut input));
-//! let served = serve_image(alloc, device, &mut host, maps_all(&rt), &mut requests, &mut output);
+//! let checker = Checker::Server { maps_all: maps_all(&rt) };
+//! let served = serve_image(alloc, device, &mut host, checker, times, &mut requests, &mut output);
 //! ```
 #![tactic(auto)]
 

@@ -12,6 +12,9 @@
 //! shows. Each fault is a [`ProgramFault`], whose text is the line on standard error and whose status the
 //! shell sees. `specs/Tasks` says what is left of what the words ask for.
 //!
+//! The way through: `command` has [`program`], which does a task by `run`, `copy`, `checking`, `export`, `import` or `serve`; `script` reads
+//! events, `output` writes, `fault` and `ending` say what comes of it, and `person` shows it.
+//!
 //! What the sources leave open is decided in `docs/DECISIONS.md`, under "Scripts and the program".
 //!
 //! ```text
