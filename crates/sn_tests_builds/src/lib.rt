@@ -15,7 +15,7 @@
 //! - each read of the device that fails is told, and none of these builds writes.
 //!
 //! A build that is refused memory is made again, of the same root and overlay: so where each allocation is refused in
-//! turn (`bench/refusals.sh`), the same has to be printed.
+//! turn (`bench/crashes/refusals.sh`), the same has to be printed.
 //!
 //! `runs` goes through the courses, `looking` compares, and `seen` counts what came up.
 //!

@@ -2,7 +2,7 @@
 //!
 //! What is expected of an image is the line of a check that a reading in Python gives by `docs/FORMAT.md`, and that a mount agrees
 //! with it: it succeeds, or reports the same fault and has written nothing. Of a script it is the first line that a grammar in Python
-//! refuses by `docs/SCRIPT.md`. Both tables are made by `bench/spoilt.py`.
+//! refuses by `docs/SCRIPT.md`. Both tables are made by `bench/hostile/spoilt.py`.
 
 use crate::read_row;
 use anyhow::{Context, Result, bail};

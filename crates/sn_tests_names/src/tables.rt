@@ -9,7 +9,7 @@ use sn_testing_tables::{Case, Report};
 use std::alloc::Global;
 use std::str;
 
-/// Compares names with the answers of `bench/names.py`, and values of ACLs with those of Linux.
+/// Compares names with the answers of `bench/plain/names.py`, and values of ACLs with those of Linux.
 pub fn run(report: &mut Report<'_>) -> Result<()> {
     report.table("names/names.txt", name_answer)?;
     report.table("names/acl_values.txt", value_answer)

@@ -1,6 +1,6 @@
 //! Cases of the ids of a mount: what a table of nodes answers to lists of steps.
 //!
-//! The tables are in the data of `sn_tests_messages`: `bench/node_tables.py` makes them, and says what the steps are. A step that is
+//! The tables are in the data of `sn_tests_messages`: `bench/plain/node_tables.py` makes them, and says what the steps are. A step that is
 //! refused memory is made again, since it has to leave the table unchanged.
 //!
 //! No clause promises what comes out, since it is compared: `sn_tests_messages` runs it.

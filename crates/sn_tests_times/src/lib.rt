@@ -1,6 +1,6 @@
 //! Cases of the times of objects: what a table of times says after lists of marks, which bytes keep it for the next mount, and what that one makes of them.
 //!
-//! The tables are in the data of `sn_tests_messages`: `bench/times_tables.py` makes them, with Python's `struct` and `hashlib`, and says what the
+//! The tables are in the data of `sn_tests_messages`: `bench/plain/times_tables.py` makes them, with Python's `struct` and `hashlib`, and says what the
 //! steps are.
 //!
 //! No clause promises what comes out, since it is compared: `sn_tests_messages` runs it.

@@ -2,7 +2,7 @@
 //!
 //! `disks` reads one of a list of its sectors, and has what is known of each. On each of them a row of calls begins, over which all
 //! that `sn_tests_hostile` sweeps with is swept; and `taking` looks at how they become disks of version 2. The lists and the rows are
-//! in the data of `sn_tests_restarts`, `bench/version_1` has how they were made, and `docs/HOSTILE.md` says what was found.
+//! in the data of `sn_tests_restarts`, `bench/hostile/version_1` has how they were made, and `docs/HOSTILE.md` says what was found.
 //!
 //! No clause promises what comes out, since it is compared: `sn_tests_restarts` runs it.
 #![tactic(auto)]
