@@ -26,7 +26,7 @@
 //! What the sources leave open is decided in `docs/DECISIONS.md`, under "Building a whole tree".
 //!
 //! ```text
-//! let built = build(alloc, &mut blocks, geometry, &root, &map, changes, SnapshotEdit::None)?;
+//! let built = build(alloc, &mut blocks, geometry, &root.limits, &file, &map, changes, SnapshotEdit::None)?;
 //! let root = RootBody { inode_file: built.inode_file, .. };
 //! ```
 #![tactic(auto)]

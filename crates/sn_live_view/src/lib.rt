@@ -21,8 +21,7 @@
 //! What the sources leave open is decided in `docs/DECISIONS.md`, under "Reading a root on demand".
 //!
 //! ```text
-//! let mut view = LiveView { tree, numbers };
-//! let outcome = mkdir(&limits, &mut view, &caller, &path, mode)?;
+//! let outcome = decide_live(alloc, &mut root, &live, &sessions, session, &call)?;
 //! ```
 #![tactic(auto)]
 

@@ -23,8 +23,8 @@
 //! 12. `Example`: the machine on one small world.
 //! 13. `Texts`: how refusals, faults and their parts are printed.
 //!
-//! A call is added by a variant of [`Call`] and one equation each in `ready`, `outcome_of`,
-//! `TakesMemory`, `IsCall` and `path_of`.
+//! A call is added by a variant of [`Call`] and one equation each in `ready`, `TakesMemory`, `IsCall` and `path_of`;
+//! `CONTRIBUTING.md` has all other places.
 //!
 //! What the sources leave open is decided in `docs/DECISIONS.md`, under "The model".
 #![tactic(auto)]
