@@ -1,13 +1,15 @@
 #!/usr/bin/env python3
-"""Compares what pages tell of crates, cases, messages and minutes with what there is. Prints what differs; the status is 1 then.
+"""Compares what pages tell of crates, cases, messages, minutes and definitions with what there is. Prints what differs; the status is 1 then.
 
     .ci/numbers.py
 
-Each number is counted in `crates.txt`, in the tables of test programs or in what these print (their `stdout`, which the gate compares). A
-row of TOLD is a page, the words around its numbers, and what they have to be: where the words of a page change, its row does too.
+Each number is counted in `crates.txt`, in the tables of test programs, in what these print (their `stdout`, which the gate compares), or by
+`.ci/definitions.py`. A row of TOLD is a page, the words around its numbers, and what they have to be: where the words of a page change, its
+row does too.
 """
 
 import re
+import subprocess
 import sys
 from pathlib import Path
 
@@ -68,6 +70,12 @@ def edits(pattern):
     return [len(found), len({path.parent for path in found})]
 
 
+def definitions(*words):
+    """How many lines of definitions contracts name, and how many their files have."""
+    told = subprocess.run([TOP / ".ci/definitions.py", *words], check=True, capture_output=True, text=True).stdout
+    return re.findall(r"\d+", told.splitlines()[-1])
+
+
 def rounded(count, to):
     return round(count / to) * to
 
@@ -82,10 +90,13 @@ SNAPSHOTS = ("a new snapshot", "one snapshot less", "a snapshot that is brought 
 FAILING = CASES["rows of which one call of the device fails, of each 5"]
 CRASHES = CASES["rows cut short behind each write, by 1 of 7 kinds of crashes"]
 THREE_DEEP = CASES["runs behind each 24 of these writes, cut short behind each 7 of their own, three deep"]
-ARCHITECTURE, TESTED, HOSTILE = "docs/ARCHITECTURE.md", "docs/TESTED.md", "docs/HOSTILE.md"
+ARCHITECTURE, TESTED, HOSTILE, THEOREM = "docs/ARCHITECTURE.md", "docs/TESTED.md", "docs/HOSTILE.md", "docs/THEOREM.md"
 TOLD = [
     ("README.md", r"(\w+) processor minutes from nothing. That program", lambda: re.findall(r"some (\d+) processor", text_of("snapfs"))),
     ("README.md", r"refuses (\w+) wrong bodies", lambda: edits("crates/*/must-fail/*.edit")[:1]),
+    ("README.md", r"some ([\d,]+) lines of definitions", lambda: [rounded(int(definitions()[0]), 100)]),
+    (THEOREM, r"`run` alone \| ([\d,]+) \| ([\d,]+)", lambda: definitions("sn_run/src/running.rt", "run")),
+    (THEOREM, r"`Fs::call` \| ([\d,]+) \| ([\d,]+)", definitions),
     (ARCHITECTURE, r"(\w+) in (\w+) crates, which say", lambda: edits("crates/*/must-fail/*.edit")),
     (ARCHITECTURE, r"some ([\d,]+) in `bench/wrong_bodies`", lambda: [rounded(edits("bench/wrong_bodies/*/*.edit")[0], 100)]),
     (ARCHITECTURE, r"(\w+) test programs run the cases", lambda: [len(list(TOP.glob("crates/sn_tests*/src/main.rt")))]),
