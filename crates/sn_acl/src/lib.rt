@@ -5,7 +5,7 @@
 //! with groups, and clauses see it as a `Credential`. Permissions are numbers below 8. No call takes memory.
 //! The user 0 is granted everything, which is a rule of this library and not of acl(5).
 //!
-//! Begin with `check` in `access.rt`, whose clause cites `denial_of` of `specs/Access.antt`. Then `list.rt` has the
+//! The way through begins with `check` in `access.rt`, whose clause cites `denial_of` of `specs/Access.antt`. Then `list.rt` has the
 //! ACL and its mode, `inheritance.rt` the ACLs of a new object, `text.rt` the texts, and `laws.rt` what follows
 //! from the definitions.
 //!

@@ -6,6 +6,8 @@
 //! stopped, so no word is looked at twice, and a block is never taken twice. The map stays as it was
 //! given: its words change when a root reaches the blocks.
 //!
+//! The way through: `block_allocator` has it all, and `fault` why no block is taken.
+//!
 //! What the sources leave open is decided in `docs/DECISIONS.md`, under "The block map and the allocator".
 //!
 //! ```text

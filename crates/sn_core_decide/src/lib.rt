@@ -2,7 +2,7 @@
 //!
 //! [`decide`] makes a call's tests in their order, as `sn_model` lists them. It answers the call's outcome, its first refusal, or
 //! why there is neither: memory for its answer was refused, or the view found a fault. Both come only once session and arguments
-//! have passed. Nothing is changed. `deciding` dispatches over all calls, by the groups of `groups`. Each call is decided in one
+//! have passed. Nothing is changed. The way through: `deciding` dispatches over all calls, by the groups of `groups`. Each call is decided in one
 //! file, with the tests that calls share in `sn_core_decide_rules`; in the order of `docs/RULES.md`:
 //!
 //! | call | decided in |

@@ -1,7 +1,7 @@
 //! Decisions of the calls on files and descriptors, over the sessions and any view of the trees: `open`, `read` and `write` each
 //! have the call of their name, `descriptors` has close, seek and ftruncate.
 //!
-//! `decide_` and the call's name tests session and arguments, then the descriptor, and reads over the view what its outcome
+//! The way through: `decide_` and the call's name tests session and arguments, then the descriptor, and reads over the view what its outcome
 //! takes; of open the inner function makes the tests over the view. The tests that calls share are in `sn_core_decide_rules`,
 //! where `specs/Decided` says what the outcome of a call is.
 //!

@@ -1,7 +1,7 @@
 //! Decisions of the calls that make, remove or list names, over the sessions and any view of the trees: mkdir, rmdir, unlink,
 //! link and readdir, each in the file of its name.
 //!
-//! Each call is two functions. The inner one makes its tests over a view, for a caller who is logged in; `decide_` and the
+//! The way through: each call is two functions. The inner one makes its tests over a view, for a caller who is logged in; `decide_` and the
 //! call's name tests session and arguments first. The tests that calls share are in `sn_core_decide_rules`, where
 //! `specs/Decided` says what the outcome of a call is.
 //!

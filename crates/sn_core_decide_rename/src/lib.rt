@@ -1,6 +1,6 @@
 //! The decision of rename, over the sessions and any view of the trees.
 //!
-//! The inner function makes its tests over a view, for a caller who is logged in; [`decide_rename`] tests session and arguments
+//! The way through: the inner function makes its tests over a view, for a caller who is logged in; [`decide_rename`] tests session and arguments
 //! first. The tests that calls share are in `sn_core_decide_rules`, where `specs/Decided` says what the outcome of a call is.
 //! It is a crate of its own since its two walks make its proof long.
 //!

@@ -7,7 +7,7 @@
 //! an open file by `reserve`, before its `open`. So `login`, `logout`, `set_umask`, `open`, `close` and
 //! `seek` take none.
 //!
-//! `seats` has the open files by their seats, of which each session has 64, in a slab under its keys.
+//! The way through: `seats` has the open files by their seats, of which each session has 64, in a slab under its keys.
 //! `open_files` counts beside them how many descriptors each live file has, so that whether a file is
 //! held is a look-up; and `sessions` has the calls.
 //!

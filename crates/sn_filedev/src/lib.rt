@@ -19,6 +19,9 @@
 //! none is left, and that a read gives its sector as the block around it had it when it was read, of
 //! which no sector is gathered. That nothing is let go before the file took it is tested.
 //!
+//! The way through: `file` has the device, over `gathered` (what isn't handed over yet) and `block` (the one that was read last); `open`
+//! opens files by their paths, with `lock`.
+//!
 //! What the sources leave open is decided in `docs/DECISIONS.md`, under "The device".
 //!
 //! ```text

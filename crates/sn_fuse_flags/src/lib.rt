@@ -3,6 +3,8 @@
 //! Each set is the number that the message has, seen as its field `0`: bits that have no name here stay as they came, so
 //! what was read and is written again is the same number. The crate `bitflags` writes the operations of sets.
 //!
+//! The way through: the root file has all sets, one after the other.
+//!
 //! ```text
 //! if flags.contains(OpenFlags::TRUNCATE) {
 //! ```

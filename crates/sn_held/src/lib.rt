@@ -22,6 +22,8 @@
 //! dropped since the root's moment: a point takes blocks for them until they are gone from its root. `unlink` and `rmdir`, which
 //! give blocks back, go without the reserve. The charge of a call is that of its change (`decided_changes_pay` of `sn_model`).
 //!
+//! The way through: `specs` in the order above, `room` has the count that runs, and `laws` what follows of the others.
+//!
 //! What the sources leave open is decided in `docs/DECISIONS.md`, under "What a disk opens to" and "Room on the disk".
 //!
 //! ```text

@@ -5,6 +5,9 @@
 //! exactly. No other crate has a number of its own for what is defined here. `specs/Names` and
 //! `specs/SnapshotName` are the grammars of names, which [`is_name`] and [`SnapshotName`] decide.
 //!
+//! The way through: `limits` has the numbers of each version, `sizes` the units of a disk, `kind` what a node is, and `name` and
+//! `snapshot_name` the two grammars.
+//!
 //! What the sources leave open is decided in `docs/DECISIONS.md`, under "Limits".
 //!
 //! ```text

@@ -9,7 +9,7 @@
 //! contract the list function that it computes: `count_free` counts the words that are 0, `next_free`
 //! is the first index of such a word, and `copy_bit` with its two cases for the live bit, and `clear_bit`, map one bit
 //! of each word. `specs/Free.antt` says what is free, and `specs/Bits.antt` what becomes of a bit.
-//! `block_map` has the type, `lanes` the passes, a vector of words at a time, and `plain` the same
+//! The way through: `block_map` has the type, `lanes` the passes, a vector of words at a time, and `plain` the same
 //! passes a word at a time, to which `lanes` leaves the last words.
 //!
 //! What the sources leave open is decided in `docs/DECISIONS.md`, under "The block map and the allocator".

@@ -2,7 +2,7 @@
 //!
 //! `src/` has the types that the layers share: a call and an event, a reply and a refusal, and a
 //! [`Change`], which is what a call decides and what is logged, applied and replayed. `specs/` has the
-//! definitions that the theorems speak of. They are read in this order:
+//! definitions that the theorems speak of. The way through them is this order:
 //!
 //! 1. `Tree`: nodes by number, and numbers by directory and name.
 //! 2. `World`: the live tree, the frozen trees of snapshots, sessions and open files.

@@ -6,7 +6,7 @@
 //! settled, or until no other number is left. Then a new node gets the least of them, and none is
 //! kept back any more.
 //!
-//! [`NumberedTree`] is a `PlainTree` of `sn_plain` with these numbers. `kept_back` has the set of them,
+//! The way through: [`NumberedTree`] is a `PlainTree` of `sn_plain` with these numbers. `kept_back` has the set of them,
 //! which takes its memory at first, so that a close needs none. `specs/Numbers` of `sn_number_table` says which number is
 //! next (`next_number`), and what stays kept back by a change (`kept_after`).
 //!

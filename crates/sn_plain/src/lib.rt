@@ -8,7 +8,7 @@
 //!
 //! The nodes and the names are the maps of `sn_nodes`. Beside each node stands how many names it has and
 //! how many stand for it, and the directory that it is in (`IsCounted` in `specs/Stored`), so that no call
-//! counts over the whole tree. `tests` has the tests that changes share; `making`, `linking`,
+//! counts over the whole tree. The way through: `tests` has the tests that changes share; `making`, `linking`,
 //! `renaming` and `writing` have the changes, each with its test first, then all that takes memory,
 //! then the rest (`moving` has that of a rename, over the nodes). `applying` makes any change, as the
 //! model's `apply` does, and `reading` hands out the bytes of a file.

@@ -2,7 +2,7 @@
 //! session. Nobody but tests makes one: a mounted file system has its tree on the device (`sn_live_world`).
 //!
 //! [`run_plain`] answers a list of events, and its contract is the machine of `sn_model`: the replies
-//! are a run of it from the empty world. Below it, `world` has the tree of `sn_plain` and the sessions of
+//! are a run of it from the empty world. The way through, below it: `world` has the tree of `sn_plain` and the sessions of
 //! `sn_desc`, and serves one call: `deciding` has its outcome, by `sn_core_decide` over the sessions and
 //! the tree as `view` shows it; `choosing` fills in a new node's number; the tree makes the change; and
 //! `calling` sets what becomes of the session and its descriptors (`turn` of `sn_caller`), drops a file that nobody has and

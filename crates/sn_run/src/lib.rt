@@ -22,6 +22,9 @@
 //! - [`step_laws`]: a step makes at most eight writes and a sync, and a point has so many steps at most.
 //! - [`crash_laws`]: the same over lives, each of which begins from what a crash in the one before has left.
 //!
+//! The way through: `specs/Servers` and `specs/Runs`, then `running`, which has [`run`], over `server`, which serves one
+//! event; `watch` has who is told of each, and `laws` what follows.
+//!
 //! What the sources leave open is decided in `docs/DECISIONS.md`, under "Mount and calls over a device".
 //!
 //! ```text

@@ -14,6 +14,8 @@
 //! The levels are a recursion: to look a pointer up, look up the one above it, and read one pointer of
 //! its block. A tree of three levels is no case of its own.
 //!
+//! The way through: `entries` looks pointers up, `reads` reads data blocks and bytes, `fault` has `Damaged`, and `laws` what follows.
+//!
 //! What the sources leave open is decided in `docs/DECISIONS.md`, under "Images and their readers".
 //!
 //! ```text

@@ -6,8 +6,8 @@
 //! it shows. [`walk`] follows a path's names through a tree for a caller, and answers where they
 //! lead, or the first test that fails, with its place.
 //!
-//! Begin with `specs/Paths` and `specs/Walks`, which say what `parse` and `walk` answer, and
-//! `specs/LookUps`, which says what `walk` looks up.
+//! The way through begins with `specs/Paths` and `specs/Walks`, which say what `parse` and `walk` answer, and
+//! `specs/LookUps`, which says what `walk` looks up. `path` parses, `view` and `object` have what a walk sees, and `walking` walks.
 //!
 //! What the sources leave open is decided in `docs/DECISIONS.md`, under "Walks and views".
 //!

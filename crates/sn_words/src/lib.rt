@@ -4,7 +4,7 @@
 //! `specs/Reading.antt` says what a word of each kind spells, `None` where it spells nothing, and is proved in
 //! `proofs` to be the way back: what is read is spelled so, and what is spelled so is read.
 //!
-//! `cut` takes a text apart at a byte, `field` has a function for each kind of word, which answers what
+//! The way through: `cut` takes a text apart at a byte, `field` has a function for each kind of word, which answers what
 //! `specs/Reading.antt` says or that there was no memory. `sn_script` makes lines of words, and prints them.
 //!
 //! ```
