@@ -15,7 +15,7 @@ from pathlib import Path
 
 TOP = Path(__file__).resolve().parent.parent
 WORDS = "no one two three four five six seven eight nine ten eleven twelve thirteen fourteen fifteen sixteen seventeen eighteen".split()
-# Groups of crates.txt that docs/ARCHITECTURE.md needn't list by crate, and in which crates stand in any order.
+# Groups of crates.txt that docs/ARCHITECTURE.md may list as one or not at all, and in which crates come in any order.
 TESTS = ("Test support", "Cases", "Tests")
 
 
@@ -149,18 +149,26 @@ def told_wrong():
             yield f"{page} says '{' '.join(found[0].split())}', and there are {there}"
 
 
-def crates_wrong():
-    """What the page of crates and crates.txt have that differs, and what stands on a crate that comes after it."""
-    listed, uses = groups()
-    names = list(uses)
+def shown_crates():
+    """The crates that the page of crates has below each heading."""
     parts = re.split(r"^### (.+)$", text_of(ARCHITECTURE), flags=re.M)
-    page = {title: set(re.findall(r"^[|-] `(sn_\w+)`(?: \||:)", text.split("\n## ")[0], re.M)) for title, text in zip(parts[1::2], parts[2::2])}
-    for group, crates in listed.items():
-        shown = next((found for title, found in page.items() if group.startswith(title)), set())
-        for crate in sorted(shown ^ set(crates)) if shown or group not in TESTS else ():
+    return {title: set(re.findall(r"^[|-] `(sn_\w+)`(?: \||:)", text.split("\n## ")[0], re.M)) for title, text in zip(parts[1::2], parts[2::2])}
+
+
+def crates_wrong():
+    """What the page of crates and crates.txt have that differs, and what uses a crate that comes after it."""
+    listed, uses = groups()
+    names, page = list(uses), shown_crates()
+    tests = {crate for group in TESTS for crate in listed.get(group, [])}
+    shown_tests = set().union(*(page.get(group, set()) for group in TESTS))
+    pairs = [("tests", shown_tests, tests if shown_tests else set())]
+    for group in (it for it in listed if it not in TESTS):
+        pairs.append((group, next((found for title, found in page.items() if group.startswith(title)), set()), set(listed[group])))
+    for group, shown, there in pairs:
+        for crate in sorted(shown ^ there):
             yield f"{crate}: {'crates.txt' if crate in shown else ARCHITECTURE} doesn't have it under '{group}'"
-        for crate in crates if group not in TESTS else ():
-            yield from (f"{crate} uses {it}, which comes after it" for it in uses[crate] if it in names[names.index(crate) :])
+    for crate in (it for it in names if it not in tests):
+        yield from (f"{crate} uses {it}, which comes after it" for it in uses[crate] if it in names[names.index(crate) :])
 
 
 def main():
