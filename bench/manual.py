@@ -207,7 +207,7 @@ def shown(text):
 
 def usage(page):
     """The commands on the page are those that a person whose words are none of them is shown, by the program or the script."""
-    script = re.findall(r'echo "snapfs ((?:un)?mount [^:]*):', (TOP / "snapfs").read_text())
+    script = re.findall(r'echo "snapfs ((?:mount|unmount|rotate|status) [^:]*):', (TOP / "snapfs").read_text())
     code = sorted(shown((PROGRAM / "help").read_text()) + script)
     told = []
     for command in synopsis(page):
