@@ -76,9 +76,17 @@ if [ -f "$release/snapfs" ]; then
     case_of "the first script" 0 "$(cat examples/first.replies)" bare ./snapfs run "$image" examples/first.snap
     took=$((($(date +%s%N) - began) / 1000000))
     case_of "the first two commands take no five seconds" 0 "" [ "$took" -lt 5000 ]
-    case_of "help is usage, and begins no build" 2 "$USAGE" bare ./snapfs --help
+    case_of "no command is usage, and begins no build" 2 "$USAGE" bare ./snapfs nothing
+    case_of "the version is the release's" 0 "snapfs $(sed -n 's/^version: //p' release/RELEASE)" bare ./snapfs --version
+    bare ./snapfs --help >"$work/help"
+    for word in help --help; do
+        case_of "$word tells the commands" 0 "$(cat "$work/help")" bare ./snapfs "$word"
+    done
+    case_of "each command, as the manual has them" 0 "$(grep -c '^snapfs ' "$work/help")" \
+        sh -c "sed '/^.Sh SYNOPSIS/,/^.Sh DESC/!d' '$top/docs/snapfs.8' | grep -c '^.Nm'"
+    case_of "help with more words is no command" 2 "$USAGE" bare ./snapfs --help mount
     case_of "a build without rt" 1 "$NEEDS_RT" bare ./snapfs --build
-    case_of "the release isn't run where the built program is asked for" 1 "$NOT_BUILT" bare env SNAPFS_BUILT=1 ./snapfs --help
+    case_of "the release isn't run where the built program is asked for" 1 "$NOT_BUILT" bare env SNAPFS_BUILT=1 ./snapfs check "$image"
     case_of "a limit on files gives a fault" 1 "snapfs: file" bare bash -c "ulimit -f 1000; ./snapfs mkfs $work/limited 4096"
     bare ./snapfs mkfs "$image" 256 >/dev/null
     printf '0 login 0 0 -\n0 mkdir /x 0755\n' >"$work/x.snap"
@@ -87,13 +95,15 @@ if [ -f "$release/snapfs" ]; then
     case_of "mount takes an image and a folder" 2 "$USAGE" bare ./snapfs mount "$image"
     case_of "no third word is taken" 2 "$USAGE" bare ./snapfs mount "$image" "$work" more
     case_of "unmount takes a folder" 2 "$USAGE" bare ./snapfs unmount
+    case_of "rotate takes a prefix and a number" 2 "$USAGE" bare ./snapfs rotate "$work" day 31
+    case_of "what isn't mounted has no status" 1 "snapfs: no image is mounted at $work" bare ./snapfs status "$work"
     case_of "what isn't mounted isn't unmounted" 1 "snapfs: no image is mounted at $work" bare ./snapfs unmount "$work"
     below="snapfs: $image is below $work"
     [ "$(id -u)" = 0 ] || below="snapfs: only root mounts for all: add -- COMMAND, which alone sees the mount then"
     case_of "an image isn't mounted over itself" 1 "$below" bare ./snapfs mount "$image" "$work"
     if command -v script >/dev/null; then
         case_of "a person is shown the commands" 2 "$(printf '%s\n' "$USAGE" && cat "$top/crates/sn_tests_program/data/help")" \
-            to_a_person ./snapfs --help
+            to_a_person ./snapfs nothing
     fi
     # Sources changed by one byte: it runs all the same, and says so to a person alone.
     printf '\n' >>crates/sn_limits/src/lib.rt

@@ -23,6 +23,8 @@ OF_LINUX = ["ENOTCONN"]
 OF_SYSTEM = ["mount: ...", "umount: ..."]
 # What a word of the page stands for in a line.
 PLACES = {"N": r"\d+", "KIND": r"C\d", "BLOCK": r"\d+", "...": ".*"}
+# What Ns puts between two words that are one.
+JOINED = "+"
 MACRO = re.compile(r"^\.(?:Ar|Cm|Er|Em|Ev|Fl|Pa|Pq|Ql|Sx|Xr) ")
 
 
@@ -178,10 +180,12 @@ def command_of(lines):
                 is_name = word == "Ar"
             elif word in ("Op", "Oo", "Oc"):
                 shown.append("]" if word == "Oc" else "[")
+            elif word == "Ns":
+                shown[-1] += JOINED
             else:
                 shown.append(word.upper() if is_name else word)
         shown += ["]"] * line.split().count("Op")
-    return " ".join(shown).replace("[ ", "[").replace(" ]", "]").replace(" ...", "..")
+    return " ".join(shown).replace(JOINED + " ", "").replace("[ ", "[").replace(" ]", "]").replace(" ...", "..")
 
 
 def synopsis(page):
@@ -207,7 +211,7 @@ def shown(text):
 
 def usage(page):
     """The commands on the page are those that a person whose words are none of them is shown, by the program or the script."""
-    script = re.findall(r'echo "snapfs ((?:un)?mount [^:]*):', (TOP / "snapfs").read_text())
+    script = re.findall(r'echo "snapfs ((?:mount|unmount|rotate|status) [^:]*):', (TOP / "snapfs").read_text())
     code = sorted(shown((PROGRAM / "help").read_text()) + script)
     told = []
     for command in synopsis(page):

@@ -123,7 +123,7 @@ holds "nothing is mounted then" is_not_mounted "$odd"
 case_of "an image below the folder" 1 "snapfs: $disk is below $work" "$snapfs" mount "$disk" "$work"
 case_of "one that a link leads to" 1 "snapfs: link/a disk.img is below $work/a folder" "$snapfs" mount "link/a disk.img" "$work/a folder"
 case_of "all below the root" 1 "snapfs: $disk is below /" "$snapfs" mount "$disk" /
-for words in "mount" "mount $disk" "mount a b kern" "mount a b kernel c" "mount a b kernel kernel" "mount a b c --" "mount -x b" "mount a -x" "unmount" "unmount a b" "unmount -x"; do
+for words in "mount a b log=" "mount a b log=x kernel" "mount a b log=x log=x" "mount" "mount $disk" "mount a b kern" "mount a b kernel c" "mount a b kernel kernel" "mount a b c --" "mount -x b" "mount a -x" "unmount" "unmount a b" "unmount -x"; do
     # shellcheck disable=SC2086
     case_of "$words" 2 "$USAGE" "$snapfs" $words
 done
@@ -183,11 +183,11 @@ has_all_that_was_made() {
     done
 }
 case_of "an image of more blocks than there is room for" 0 ok "$snapfs" mkfs "$work/full/disk.img" 4096
-"$snapfs" mount "$work/full/disk.img" "$odd" 2>"$work/told"
+"$snapfs" mount "$work/full/disk.img" "$odd" log="$work/told" 2>"$work/err"
 holds "is mounted, and fails" fills_up
 mount -o remount,size=9m "$work/full"
 case_of "it is mounted again where it failed" 0 "" "$snapfs" mount "$work/full/disk.img" "$odd"
-holds "its program told why" [ "$(cat "$work/told")" = "snapfs: stopped" ]
+holds "its program told why, in its log" [ "$(cat "$work/told"):$(cat "$work/err")" = "snapfs: stopped:" ]
 holds "all that was made is there" has_all_that_was_made
 case_of "it is unmounted" 0 "" "$snapfs" unmount "$odd"
 case_of "and sound" 0 "clean" sh -c "'$snapfs' check '$work/full/disk.img' | sed 's/ .*//'"
@@ -307,6 +307,51 @@ if by_user unshare -Urm true 2>/dev/null; then
 else
     echo "left out: this system lets no user make a namespace"
 fi
+
+# ---- The streams and descriptors of who mounts
+mounts_in_a_pipe() {
+    [ "$("$snapfs" mount "$disk" "$odd" 2>&1 6>"$work/six" 12>"$work/twelve" | cat)" = "" ]
+}
+has_no_other_descriptors() {
+    local open
+    for open in "/proc/$(server_of "$disk")"/fd/*; do
+        case $(readlink "$open") in
+            /dev/fuse | */lines* | "$disk") ;;
+            *) readlink "$open" && return 1 ;;
+        esac
+    done
+}
+holds "who reads its lines through a pipe doesn't wait" mounts_in_a_pipe
+holds "the server has no descriptor of its caller's" has_no_other_descriptors
+case_of "unmounted" 0 "" "$snapfs" unmount "$odd"
+cat >"$work/tells" <<TELLS
+#!/bin/sh
+[ "\$1" = serve ] && echo "snapfs: a line" >&2
+exec '$program' "\$@"
+TELLS
+chmod 755 "$work/tells"
+use_program "$work/tells"
+case_of "what is told before it answers is told to who mounts" 0 "snapfs: a line" "$snapfs" mount "$disk" "$odd"
+case_of "unmounted" 0 "" "$snapfs" unmount "$odd"
+echo before >"$work/log"
+case_of "and added to a log" 0 "snapfs: a line" "$snapfs" mount "$disk" "$odd" log="$work/log"
+case_of "unmounted" 0 "" "$snapfs" unmount "$odd"
+holds "after what that had" [ "$(cat "$work/log")" = "$(printf 'before\nsnapfs: a line')" ]
+case_of "a log that is made" 0 $'in\nsnapfs: a line' "$snapfs" mount "$disk" "$odd" log="$work/new.log" -- echo in
+holds "has it" [ "$(cat "$work/new.log")" = "snapfs: a line" ]
+mkfifo "$work/fifo"
+ln -s "$work/log" "$work/linked.log"
+echo >"$work/others.log"
+chown nobody "$work/others.log"
+for log in fifo linked.log others.log full; do
+    case_of "a log that is none: $log" 1 "snapfs: $work/$log is no regular file of who mounts" "$snapfs" mount "$disk" "$odd" log="$work/$log"
+    holds "leaves no mount" is_not_mounted "$odd"
+done
+case_of "a log in a folder that isn't there" 1 "snapfs: $work/nowhere/log can't be written" "$snapfs" mount "$disk" "$odd" log="$work/nowhere/log"
+case_of "by a line of fstab(5)" 0 "snapfs: a line" "$line" "$disk" "$odd" -o rw,log="$work/line.log"
+case_of "unmounted" 0 "" "$snapfs" unmount "$odd"
+holds "the same" [ "$(cat "$work/line.log")" = "snapfs: a line" ]
+use_program "$program"
 
 # ---- Servers that don't come to serve
 cat >"$work/slow" <<SLOW
