@@ -4,7 +4,7 @@
 #
 #     bench/mount/streams.sh [PROGRAM]
 #
-# Run by hand as root where there is /dev/fuse; takes under a minute.
+# Run by hand as root where there is /dev/fuse; takes under a minute. `.ci/closed_streams.sh`, which the gate runs, tries the other commands.
 # (its functions are called by the words of a case)
 # shellcheck disable=SC2317
 # shellcheck source-path=SCRIPTDIR source=shared.sh

@@ -2,7 +2,7 @@
 //! [`sn_program::program`], which does the rest.
 #![tactic(auto)]
 
-use sn_program::{Person, ProgramFault, Replies, program, refuse};
+use sn_program::{ClosedStreams, Person, ProgramFault, Replies, program, refuse};
 use std::env::Env;
 use std::process::ExitCode;
 use std::{env, io};
@@ -21,12 +21,14 @@ fn fault_of(error: io::Error) -> ProgramFault {
 }
 
 fn main(rt: HostRuntime) -> ExitCode {
+    let closed = ClosedStreams::among(&rt.stdin(), &rt.stdout(), &rt.stderr());
     let (mut input, mut out, mut err) = (rt.stdin(), Replies::to(rt.stdout()), rt.stderr());
     let mut person = Person::at(rt.stderr());
     let status = match words(&rt) {
         Ok(words) => {
             let (status, _) = program(
                 &rt,
+                closed,
                 words.as_slice(),
                 &mut input,
                 &mut out,

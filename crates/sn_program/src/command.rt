@@ -28,6 +28,7 @@ use crate::person::{advise, explain, show_commands};
 use crate::run::{Answered, answer, outcome};
 use crate::script::read_events;
 use crate::serve::serve_on;
+use crate::streams::{ClosedStreams, hold_closed};
 use sn_command::{Task, parse};
 use sn_core::{End, Event, Fill, MemDevice, MkfsFault, Reply, Verdict, Watch, mkfs};
 use sn_filedev::{FileDevice, LockFile};
@@ -364,7 +365,7 @@ pub fn refuse<E: Write, P: Write>(fault: ProgramFault, err: &mut E, person: &mut
 /// image was checked and is damaged, 2 for words that are no command, else 1. A fault is reported by a line on standard error, also that of
 /// a run which was cut short and whose remains were saved, where the status is 0. What an import doesn't make is reported there too, with
 /// status 1. An archive and the messages of a mount are read from `input`. `person` is shown which file failed and why, what a damage means, how far a long run has
-/// come, and which commands there are where the words are none.
+/// come, and which commands there are where the words are none. Standard streams that are closed are taken before any file is opened, and until the end: reads of them and writes to them fail.
 ///
 /// Proved: Status 0 comes only where the words ask for a task and it is done: `mkfs` writes one `ok`, `check` a `clean`,
 /// `run` lines of replies, one to each line of some script, and `stop-at` those of a run on a copy of some image, or their
@@ -386,7 +387,15 @@ pub fn program<
     E: Write + Drop,
     P: Write,
     S: AsStr,
->(rt: &R, words: &[S], input: &mut I, out: &mut W, err: E, person: &mut P) -> (u8, E)
+>(
+    rt: &R,
+    closed: ClosedStreams,
+    words: &[S],
+    input: &mut I,
+    out: &mut W,
+    err: E,
+    person: &mut P,
+) -> (u8, E)
     // What was written are the lines of replies, or the front of them. Which bytes a file gave, and what one holds now,
     // can't be said: so nor can the replies of a run on one. Those of a run on a copy are of one from some image on.
     ensures done { result.0 ≡ 0 → (told : Option Why) × IsDone (map S.text words.now) told (W.contents out.old) (W.contents out.new) }
@@ -396,12 +405,19 @@ pub fn program<
     ensures quiet { result.0 ≡ 0 → AsksToStop (map S.text words.now) ⊎ (result.1 ≡ err) }
     ensures status { result.0 ≤ 3 }
 {
-    match parse(rt.alloc(), words) {
-        Ok(task) => perform(rt, task, input, out, err, person),
+    let task = match parse(rt.alloc(), words) {
+        Ok(task) => task,
         Err(fault) => {
             let mut err = err;
             let status = refuse(ProgramFault::from(fault), &mut err, person);
-            (status, err)
+            return (status, err);
+        }
+    };
+    match hold_closed(rt, closed) {
+        Ok(_held) => perform(rt, task, input, out, err, person),
+        Err(fault) => {
+            let mut err = err;
+            (tell_of(fault, task, &mut err, person), err)
         }
     }
 }
