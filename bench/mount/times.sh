@@ -11,6 +11,7 @@
 
 times=$image.times
 OLD=2001-02-03T04:05:06.123456789Z
+LEFT_ALONE="snapfs: $times is left alone"
 
 # The modification time of a file, in seconds.
 modified() {
@@ -154,20 +155,46 @@ case_of "unmounted" 0 "" unmounts
 # ---- Links, and folders that take no file
 echo victim >"$work/victim"
 holds "an old time is left" leaves_old
-holds "the times are behind a link" sh -c "mv '$times' '$work/kept' && ln -s '$work/kept' '$times'"
+holds "the times are behind a link" sh -c "mv '$times' '$work/kept' && cp '$work/kept' '$work/same' && ln -s '$work/kept' '$times'"
 begun=$(date +%s)
-case_of "it is mounted" 0 "" mounts
+case_of "it is mounted" 0 "$LEFT_ALONE" mounts
 holds "a link isn't followed" is_of_mount "$dir/f" "$begun"
-holds "a link leads to something else" ln -sfn "$work/victim" "$times"
-holds "and so does that of a new file" ln -sfn "$work/victim" "$times.new"
 case_of "unmounted" 0 "" unmounts
-holds "times are a file of their own" [ "$(stat -c %F "$times")" = "regular file" ]
+case_of "the link is there still" 0 "$work/kept" readlink "$times"
+holds "the times are behind it" cmp "$work/kept" "$work/same"
+holds "a link leads to something else" ln -sfn "$work/victim" "$times"
+case_of "it is mounted with it" 0 "$LEFT_ALONE" mounts
+case_of "unmounted" 0 "" unmounts
 case_of "what the link led to is as it was" 0 victim cat "$work/victim"
-holds "a folder has their name" sh -c "rm '$times' && mkdir '$times'"
+holds "a new file's name is a link" sh -c "rm '$times' && ln -sfn '$work/victim' '$times.new'"
 case_of "it is mounted" 0 "" mounts
 case_of "and unmounted" 0 "" unmounts
+holds "nothing is written through it" sh -c "! [ -e '$times' ] && [ -L '$times.new' ] && [ \"\$(cat '$work/victim')\" = victim ]"
+holds "a folder has their name" sh -c "rm '$times.new' && mkdir '$times'"
+case_of "it is mounted" 0 "$LEFT_ALONE" mounts
+case_of "and unmounted" 0 "" unmounts
+holds "it is there still" rmdir "$times"
 holds "it is sound" is_sound
-rmdir "$times"
+
+# ---- Files of others, of two names, and too long
+for spoilt in "chown 1001 '$times'" "ln '$times' '$work/second'" "rm '$times' && truncate -s 134217729 '$times'" "rm '$times' && mkfifo '$times'"; do
+    holds "an old time is left" leaves_old
+    holds "$spoilt" sh -c "$spoilt"
+    kept=$(stat -c '%F %i %s' "$times")
+    begun=$(date +%s)
+    case_of "it is mounted after $spoilt" 0 "$LEFT_ALONE" mounts
+    holds "the file has the time of the mount" is_of_mount "$dir/f" "$begun"
+    case_of "unmounted" 0 "" unmounts
+    case_of "what was left alone is there" 0 "$kept" stat -c '%F %i %s' "$times"
+    rm -f "$times" "$work/second"
+done
+holds "an old time is left" leaves_old
+holds "the image has another owner, and so have its times" chown 1001 "$image" "$times"
+case_of "it is mounted" 0 "" mounts
+holds "the file has its time" is_old "$dir/f"
+case_of "unmounted" 0 "" unmounts
+chown 0 "$image"
+rm -f "$times"
 
 mkdir "$work/closed"
 cp "$image" "$work/closed/disk.img"

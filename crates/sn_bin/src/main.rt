@@ -4,7 +4,7 @@
 //! The way through: `words` reads the command line, and `main` hands it on.
 #![tactic(auto)]
 
-use sn_program::{Person, ProgramFault, Replies, program, refuse};
+use sn_program::{ClosedStreams, Person, ProgramFault, Replies, program, refuse};
 use std::env::Env;
 use std::process::ExitCode;
 use std::{env, io};
@@ -23,12 +23,14 @@ fn fault_of(error: io::Error) -> ProgramFault {
 }
 
 fn main(rt: HostRuntime) -> ExitCode {
+    let closed = ClosedStreams::among(&rt.stdin(), &rt.stdout(), &rt.stderr());
     let (mut input, mut out, mut err) = (rt.stdin(), Replies::to(rt.stdout()), rt.stderr());
     let mut person = Person::at(rt.stderr());
     let status = match words(&rt) {
         Ok(words) => {
             let (status, _) = program(
                 &rt,
+                closed,
                 words.as_slice(),
                 &mut input,
                 &mut out,

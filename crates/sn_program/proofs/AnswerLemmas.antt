@@ -10,6 +10,7 @@ use Rattle.sn_program.specs.Tasks.{BeginsToSayRun, BeginsToSayVerdict, IsImporte
 use Rattle.sn_program.specs.declared.ending.Ending.{Ending}
 use Rattle.sn_program.specs.declared.ending.Ending.TheVariants.{Damaged, Done, InPart, Told}
 use Rattle.sn_program.specs.declared.fault.ProgramFault.{ProgramFault}
+use Rattle.sn_output.specs.Outputs.{AppendsFront}
 use Rattle.sn_output.proofs.OutputLemmas.{appends_none}
 
 pub on_err : {T E P : Type 0} (r : Result T E) → P → OnErr r P
@@ -19,6 +20,10 @@ on_err (Err e) h = h
 -- nothing was said yet
 pub begins_none : (o : Option (List ℕ)) → BeginsToSayRun o o
 begins_none o = ([], (0, appends_none o))
+
+-- of a line that may be told
+pub tells_nothing : (o : Option (List ℕ)) (line : List ℕ) → AppendsFront o o line
+tells_nothing o line = (0, appends_none o)
 
 pub verdict_begins : (o : Option (List ℕ)) → BeginsToSayVerdict o o
 verdict_begins o = (Clean 0, (0, appends_none o))

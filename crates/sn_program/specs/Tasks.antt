@@ -174,6 +174,19 @@ Begins (task.Serve image asked) old new = BeginsToServe asked old new
 abbrev pub HasBegun : List (List ℕ) → Option (List ℕ) → Option (List ℕ) → Type 0
 HasBegun words old new = Keeps old new ⊎ ((asked : Task) × AsksFor words asked × Begins asked old new)
 
+-- the line of a mount whose file beside the image isn't what it left, and is left alone
+abbrev pub left_alone_line : List ℕ → List ℕ
+left_alone_line image = codes "snapfs: " ++ image ++ codes ".times is left alone\n"
+
+-- of a mount, standard error may have that line, or the front of it; of another task, nothing
+abbrev pub TellsOfTimes : Task → Option (List ℕ) → Option (List ℕ) → Type 0
+TellsOfTimes (task.Serve image asked) old new = AppendsFront old new (left_alone_line image.now)
+TellsOfTimes asked old new = ⊥
+
+-- the words ask for a mount, of which standard error has that line, or the front of it
+abbrev pub MayTellOfTimes : List (List ℕ) → Option (List ℕ) → Option (List ℕ) → Type 0
+MayTellOfTimes words old new = (asked : Task) × AsksFor words asked × TellsOfTimes asked old new
+
 abbrev pub IsStop : Task → Type 0
 IsStop (task.StopAt cut how image script out) = Unit {0}
 IsStop task = ⊥

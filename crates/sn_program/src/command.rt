@@ -12,7 +12,7 @@ ghost use Rattle.sn_model.specs.declared.reply.Reply.TheVariants as answer_of;
 ghost use Rattle.sn_program.specs.Answers.{AreEventsOf};
 ghost use Rattle.sn_program.specs.Fault.{IsOfFile, fault_in, outcome_of};
 ghost use Rattle.sn_program.specs.Fault.{status_of as exit_of};
-ghost use Rattle.sn_program.specs.Tasks.{AsksToStop, Begins, BeginsOfCopy, BeginsToSay, BeginsToSayRun, BeginsToSayVerdict, HasBegun, IsDamaged, IsDone, IsStop, Leaves, LeavesOfCopy, Says, SaysRun, SaysVerdict, came_of};
+ghost use Rattle.sn_program.specs.Tasks.{AsksToStop, Begins, BeginsOfCopy, BeginsToSay, BeginsToSayRun, BeginsToSayVerdict, HasBegun, IsDamaged, IsDone, IsStop, Leaves, LeavesOfCopy, MayTellOfTimes, Says, SaysRun, SaysVerdict, TellsOfTimes, came_of};
 ghost use Rattle.sn_program.specs.declared.fault.ProgramFault.{ProgramFault as Why};
 ghost use Rattle.sn_program.specs.declared.fault.ProgramFault.TheVariants as fault;
 ghost use Rattle.sn_program.specs.declared.ending.Ending.TheVariants as ended;
@@ -28,6 +28,7 @@ use crate::person::{advise, explain, show_commands};
 use crate::run::{Answered, answer, outcome};
 use crate::script::read_events;
 use crate::serve::serve_on;
+use crate::streams::{ClosedStreams, hold_closed};
 use sn_command::{Task, parse};
 use sn_core::{End, Event, Fill, MemDevice, MkfsFault, Reply, Verdict, Watch, mkfs};
 use sn_filedev::{FileDevice, LockFile};
@@ -260,7 +261,7 @@ fn quietly<E: Drop>(outcome: Result<(), ProgramFault>, err: E) -> Came<E>
     }
 }
 
-/// Does what a task asks for. Only an import writes to standard error.
+/// Does what a task asks for. Only an import and a mount write to standard error.
 fn execute<
     F: FileExt + OpenFile + LockFile + Read + Drop,
     R: Files<File = F> + AllocGlobal + Clock,
@@ -270,7 +271,8 @@ fn execute<
     L: Watch + WatchReads,
 >(rt: &R, task: Task<'_>, input: &mut I, out: &mut W, err: E, watch: &mut L) -> Came<E>
     ensures done { IfOk result.done (λ came. Leaves task.entry came (W.contents out.old) (W.contents out.new)) }
-    ensures quiet { IfOk result.done (λ came. (came ≡ ended.InPart) ⊎ (result.err ≡ err)) }
+    ensures quiet { IfOk result.done (λ came. (came ≡ ended.InPart)
+        ⊎ (((came ≡ ended.Done) × TellsOfTimes task.entry (E.contents err) (E.contents result.err)) ⊎ (result.err ≡ err))) }
     ensures front { OnErr result.done (Keeps (W.contents out.old) (W.contents out.new) ⊎ Begins task.entry (W.contents out.old) (W.contents out.new)) }
     ensures words { IfErr result.done (λ why. why ≢ fault.Usage) }
 {
@@ -294,7 +296,11 @@ fn execute<
         },
         Task::Export { image, path } => quietly(export_on(rt, image, path, out), err),
         Task::Import { image, path } => import_on(rt, image, path, input, err),
-        Task::Serve { image, checker } => quietly(serve_on(rt, image, checker, input, out), err),
+        Task::Serve { image, checker } => {
+            let mut err = err;
+            let outcome = serve_on(rt, image, checker, input, out, &mut err);
+            quietly(outcome, err)
+        }
     }
 }
 
@@ -324,7 +330,7 @@ fn perform<
     ensures done { result.0 ≡ 0 → (told : Option Why) × Leaves task.entry (came_of told) (W.contents out.old) (W.contents out.new) }
     ensures damaged { result.0 ≡ 3 → ((damage : Kind) × (block : ℕ) × Leaves task.entry (ended.Damaged damage block) (W.contents out.old) (W.contents out.new)) × (result.1 ≡ err) }
     ensures front { result.0 ≡ 1 → Keeps (W.contents out.old) (W.contents out.new) ⊎ Begins task.entry (W.contents out.old) (W.contents out.new) }
-    ensures quiet { result.0 ≡ 0 → IsStop task.entry ⊎ (result.1 ≡ err) }
+    ensures quiet { result.0 ≡ 0 → IsStop task.entry ⊎ (TellsOfTimes task.entry (E.contents err) (E.contents result.1) ⊎ (result.1 ≡ err)) }
     ensures status { (result.0 ≤ 1) ⊎ (result.0 ≡ 3) }
 {
     let mut progress = Progress::new(rt, person);
@@ -362,15 +368,15 @@ pub fn refuse<E: Write, P: Write>(fault: ProgramFault, err: &mut E, person: &mut
 
 /// Does what the words ask for, and gives the exit status, and standard error back. The status is 0 where all of it was done, 3 where an
 /// image was checked and is damaged, 2 for words that are no command, else 1. A fault is reported by a line on standard error, also that of
-/// a run which was cut short and whose remains were saved, where the status is 0. What an import doesn't make is reported there too, with
+/// a run which was cut short and whose remains were saved, where the status is 0; so is a file beside the image that a mount leaves alone. What an import doesn't make is reported there too, with
 /// status 1. An archive and the messages of a mount are read from `input`. `person` is shown which file failed and why, what a damage means, how far a long run has
-/// come, and which commands there are where the words are none.
+/// come, and which commands there are where the words are none. Standard streams that are closed are taken before any file is opened, and until the end: reads of them and writes to them fail.
 ///
 /// Proved: Status 0 comes only where the words ask for a task and it is done: `mkfs` writes one `ok`, `check` a `clean`,
 /// `run` lines of replies, one to each line of some script, and `stop-at` those of a run on a copy of some image, or their
 /// front where a fault is reported.
-/// Proved: At status 0 only `stop-at` writes to standard error, and what is for a person goes to a writer of its own; with
-/// status 2 nothing is written, with status 1 nothing or the front of what the words may be answered.
+/// Proved: At status 0 only `stop-at` writes to standard error, and `serve` one line at most, of `IMAGE.times`; what is for a person goes to a writer of
+/// its own; with status 2 nothing is written, with status 1 nothing or the front of what the words may be answered.
 /// Proved: Status 3 comes only where the words ask for a check and one was made: one line with a fault is written then, and
 /// nothing on standard error.
 /// Proved: `export` writes a stream of members and its end, or with status 1 nothing or the front of one.
@@ -386,22 +392,38 @@ pub fn program<
     E: Write + Drop,
     P: Write,
     S: AsStr,
->(rt: &R, words: &[S], input: &mut I, out: &mut W, err: E, person: &mut P) -> (u8, E)
+>(
+    rt: &R,
+    closed: ClosedStreams,
+    words: &[S],
+    input: &mut I,
+    out: &mut W,
+    err: E,
+    person: &mut P,
+) -> (u8, E)
     // What was written are the lines of replies, or the front of them. Which bytes a file gave, and what one holds now,
     // can't be said: so nor can the replies of a run on one. Those of a run on a copy are of one from some image on.
     ensures done { result.0 ≡ 0 → (told : Option Why) × IsDone (map S.text words.now) told (W.contents out.old) (W.contents out.new) }
     ensures damaged { result.0 ≡ 3 → IsDamaged (map S.text words.now) (W.contents out.old) (W.contents out.new) × (result.1 ≡ err) }
     ensures front { result.0 ≢ 0 → result.0 ≢ 3 → HasBegun (map S.text words.now) (W.contents out.old) (W.contents out.new) }
     ensures words { result.0 ≡ 2 → out.new ≡ out.old }
-    ensures quiet { result.0 ≡ 0 → AsksToStop (map S.text words.now) ⊎ (result.1 ≡ err) }
+    ensures quiet { result.0 ≡ 0 → AsksToStop (map S.text words.now)
+        ⊎ (MayTellOfTimes (map S.text words.now) (E.contents err) (E.contents result.1) ⊎ (result.1 ≡ err)) }
     ensures status { result.0 ≤ 3 }
 {
-    match parse(rt.alloc(), words) {
-        Ok(task) => perform(rt, task, input, out, err, person),
+    let task = match parse(rt.alloc(), words) {
+        Ok(task) => task,
         Err(fault) => {
             let mut err = err;
             let status = refuse(ProgramFault::from(fault), &mut err, person);
-            (status, err)
+            return (status, err);
+        }
+    };
+    match hold_closed(rt, closed) {
+        Ok(_held) => perform(rt, task, input, out, err, person),
+        Err(fault) => {
+            let mut err = err;
+            (tell_of(fault, task, &mut err, person), err)
         }
     }
 }

@@ -27,6 +27,8 @@ pub enum Which {
     Output,
     /// The names of users or of groups.
     Accounts,
+    /// What takes the numbers of closed standard streams.
+    Streams,
 }
 
 /// Why the program ends without having done all that was asked. The text is the line on standard

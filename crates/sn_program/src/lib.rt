@@ -10,7 +10,8 @@
 //! what the result is over every device that tells its bytes, and [`export_from`] the same of the archive of a tree, which
 //! `sn_export_image` writes. The messages of a mount are answered by `sn_serve_image`. How far a run or a check is, `sn_progress`
 //! shows. Each fault is a [`ProgramFault`], whose text is the line on standard error and whose status the
-//! shell sees. `specs/Tasks` says what is left of what the words ask for.
+//! shell sees. `specs/Tasks` says what is left of what the words ask for. [`ClosedStreams`] says which standard streams are closed, and their
+//! numbers are taken before any file is opened.
 //!
 //! The way through: `command` has [`program`], which does a task by `run`, `copy`, `checking`, `export`, `import` or `serve`; `script` reads
 //! events, `output` writes, `fault` and `ending` say what comes of it, and `person` shows it.
@@ -18,7 +19,8 @@
 //! What the sources leave open is decided in `docs/DECISIONS.md`, under "Scripts and the program".
 //!
 //! ```text
-//! let (status, _) = program(&rt, &["run", "disk.img", "first.snap"], &mut rt.stdin(), &mut Replies::to(rt.stdout()), rt.stderr(), &mut Person::at(rt.stderr()));
+//! let closed = ClosedStreams::among(&rt.stdin(), &rt.stdout(), &rt.stderr());
+//! let (status, _) = program(&rt, closed, &["run", "disk.img", "first.snap"], &mut rt.stdin(), &mut Replies::to(rt.stdout()), rt.stderr(), &mut Person::at(rt.stderr()));
 //! ```
 #![tactic(auto)]
 
@@ -34,6 +36,7 @@ mod person;
 mod run;
 mod script;
 mod serve;
+mod streams;
 
 pub use checking::check_on;
 pub use command::{program, refuse};
@@ -45,3 +48,4 @@ pub use person::Person;
 pub use run::{Answered, answer, outcome};
 pub use script::read_events;
 pub use sn_mount_streams::Replies;
+pub use streams::ClosedStreams;

@@ -55,6 +55,7 @@ fn name_of<'a>(which: Which, task: Task<'a>) -> &'a str {
         (Which::Saved, Task::StopAt { out, .. }) => out,
         (Which::Input, _) => "standard input",
         (Which::Accounts, _) => "/etc/passwd or /etc/group",
+        (Which::Streams, _) => "/, for a closed standard stream",
         _ => "standard output",
     }
 }

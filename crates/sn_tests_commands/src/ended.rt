@@ -1,4 +1,4 @@
-use sn_program::program;
+use sn_program::{ClosedStreams, program};
 use std::convert::AsStr;
 use std::io;
 use std::io::Read;
@@ -36,7 +36,15 @@ impl Ended {
         let mut out = Vec::new(rt.alloc());
         let mut person = Vec::new(rt.alloc());
         let lines = Vec::new(rt.alloc());
-        let (status, err) = program(rt, words, input, &mut out, lines, &mut person);
+        let (status, err) = program(
+            rt,
+            ClosedStreams::NONE,
+            words,
+            input,
+            &mut out,
+            lines,
+            &mut person,
+        );
         Ended {
             status,
             out,

@@ -1,6 +1,6 @@
 //! How faults are reported where outputs take nothing or little, and those of files.
 
-use sn_program::{ProgramFault, Which, program, tell};
+use sn_program::{ClosedStreams, ProgramFault, Which, program, tell};
 use sn_tests_commands::staying;
 use std::io::{ErrorKind, Write};
 use std::{fs, io, str};
@@ -60,6 +60,7 @@ fn holds_where_closed(rt: &HostRuntime) -> bool {
     let mut person = Vec::new(rt.alloc());
     let (unwritten, err) = program(
         rt,
+        ClosedStreams::NONE,
         &SCRIPT,
         &mut io::empty(),
         &mut Closed,
@@ -68,6 +69,7 @@ fn holds_where_closed(rt: &HostRuntime) -> bool {
     );
     let (untold, _) = program(
         rt,
+        ClosedStreams::NONE,
         &["run"],
         &mut io::empty(),
         &mut Closed,
@@ -96,6 +98,7 @@ fn holds_the_front(rt: &HostRuntime) -> io::Result<bool> {
         };
         let (status, _) = program(
             rt,
+            ClosedStreams::NONE,
             &SCRIPT,
             &mut io::empty(),
             &mut out,
@@ -117,6 +120,7 @@ fn holds_where_cut_short(rt: &HostRuntime) -> bool {
     let cut = ["stop-at", "99", "old", SCRIPT[1], SCRIPT[2], "left.img"];
     let (saved, err) = program(
         rt,
+        ClosedStreams::NONE,
         &cut,
         &mut io::empty(),
         &mut Closed,
@@ -125,6 +129,7 @@ fn holds_where_cut_short(rt: &HostRuntime) -> bool {
     );
     let (unsaid, made) = program(
         rt,
+        ClosedStreams::NONE,
         &["mkfs", "other.img", "256"],
         &mut io::empty(),
         &mut Closed,
@@ -141,6 +146,7 @@ pub fn run_all(rt: &HostRuntime) -> io::Result<u64> {
     fs::write(rt, SCRIPT[2], ASKED)?;
     program(
         rt,
+        ClosedStreams::NONE,
         &["mkfs", SCRIPT[1], "256"],
         &mut io::empty(),
         &mut io::sink(),

@@ -3,16 +3,20 @@
 //!
 //! `lines` holds the lines and the statuses that the manual page tells against those of the program: the tables are in the folder `manual`
 //! of the data of `sn_tests_program`, and `bench/manual.py`, which the gate runs, compares them with the page. `faults` has the outputs,
-//! `images` what a run leaves of a file, also of one in use, and `exports` what is written of one. A run that has ended is that of
-//! `sn_tests_commands`.
+//! `images` what a run leaves of a file, also of one in use, and `exports` what is written of one. `streams` has closed standard streams, and `times` the file
+//! beside an image, both over `files`.
+//! A run that has ended is that of `sn_tests_commands`.
 //!
 //! No clause promises what comes out, since it is compared: `sn_tests_program` runs it.
 #![tactic(auto)]
 
 mod exports;
 mod faults;
+mod files;
 mod images;
 mod lines;
+mod streams;
+mod times;
 
 use anyhow::{Result, ensure};
 use sn_testing_tables::Report;
@@ -24,6 +28,8 @@ pub fn run(report: &mut Report<'_>) -> Result<()> {
     lines::run(report)?;
     images::run(report)?;
     exports::run(report)?;
+    streams::run(report)?;
+    times::run(report)?;
     ensure!(wrong == 0, "faults that are told otherwise");
     Ok(())
 }

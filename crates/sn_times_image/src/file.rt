@@ -1,6 +1,8 @@
 //! The file beside an image.
-ghost use Rattle.std.specs.Prelude.{◌≡◌, ◌++◌, IfOk, string_bytes};
+ghost use Rattle.std.specs.Prelude.{◌≡◌, ◌≤◌, ◌++◌, IfOk, IfSome, length, string_bytes};
+ghost use Rattle.sn_times_image.specs.Looks.{AreOne, MayCount};
 
+use crate::look::{Look, Owners};
 use std::alloc::Global;
 use std::fs::{Files, OpenFile, OpenOptions};
 use std::os::unix::fs::{FileExt, OpenOptionsExt};
@@ -9,8 +11,36 @@ use std::{fs, io};
 /// Who may read and write it: its owner.
 const MODE: u32 = 0o600;
 
-/// The most bytes that are read: those of some 100,000 objects in each of 32 trees are fewer.
-const LONGEST: u64 = 1 << 27;
+/// EACCES and EROFS of errno(3): who opens it may not write it, or nobody may.
+const DENIED: i32 = 13;
+
+const READ_ONLY: i32 = 30;
+
+/// The file with the times of an image's objects, beside it.
+#[derive(Drop)]
+pub struct TimesFile<'a, R: Files + AllocGlobal> {
+    pub(crate) rt: &'a R,
+    image: &'a str,
+    owners: Owners,
+    is_left_alone: bool,
+}
+
+impl<'a, R: Files + AllocGlobal> TimesFile<'a, R> {
+    /// The file beside the image at a path.
+    pub fn beside(rt: &'a R, image: &'a str) -> TimesFile<'a, R> {
+        TimesFile {
+            rt,
+            image,
+            owners: Owners::of(rt, image),
+            is_left_alone: false,
+        }
+    }
+
+    /// Whether something has its path that doesn't count, or couldn't be read or removed. It stays, and nothing takes its place.
+    pub fn is_left_alone(&self) -> bool {
+        self.is_left_alone
+    }
+}
 
 /// The path of the file, and that of one which is to take its place.
 fn path_of(alloc: Global, image: &str, ending: &str) -> io::Result<String>
@@ -19,17 +49,113 @@ fn path_of(alloc: Global, image: &str, ending: &str) -> io::Result<String>
     Ok(format!(in alloc; "{image}{ending}")?)
 }
 
-/// What the file has, which is removed. An error where there is none, where it isn't a regular file or is too long, or where it can't be
-/// read or removed.
-pub(crate) fn take<R: Files + AllocGlobal>(rt: &R, image: &str) -> io::Result<Vec<u8>> {
-    let path = path_of(rt.alloc(), image, ".times")?;
-    let metadata = fs::symlink_metadata(rt, path.as_str())?;
-    if !metadata.is_file() || metadata.len() > LONGEST {
-        return Err(io::ErrorKind::InvalidData.into());
+/// What doesn't count, and so isn't opened, read or removed.
+fn uncounted() -> io::Error {
+    io::ErrorKind::InvalidData.into()
+}
+
+/// A look at what has a path. `None` where nothing has it, and an error where what has it doesn't count.
+fn look_for<R: Files>(rt: &R, path: &str, owners: Owners) -> io::Result<Option<Look>>
+    ensures { IfOk result (λ found. IfSome found (MayCount owners)) }
+{
+    let look = match Look::at(rt, path) {
+        Ok(look) => look,
+        Err(error) => {
+            return match error.kind() {
+                io::ErrorKind::NotFound => Ok(None),
+                _ => Err(error),
+            };
+        }
+    };
+    if owners.may_count(look) {
+        Ok(Some(look))
+    } else {
+        Err(uncounted())
     }
-    let bytes = fs::read(rt, path.as_str())?;
-    fs::remove_file(rt, path.as_str())?;
+}
+
+/// Opens what has a path for reading and writing, which never waits for the other end of a pipe (fifo(7)), or where it can't be written for
+/// reading alone.
+fn open<F: Drop, R: Files<File = F>>(rt: &R, path: &str) -> io::Result<F> {
+    let mut how = OpenOptions::new();
+    let error = match how.read(true).write(true).open(rt, path) {
+        Ok(file) => return Ok(file),
+        Err(error) => error,
+    };
+    match error.raw_os_error() {
+        Some(DENIED | READ_ONLY) => fs::open(rt, path),
+        _ => Err(error),
+    }
+}
+
+/// The bytes of an open file that counts, and that its path still leads to.
+fn read_still<F: FileExt>(
+    alloc: Global,
+    file: &F,
+    owners: Owners,
+    first: Look,
+    opened: Look,
+    again: Look,
+) -> io::Result<Vec<u8>>
+    requires counts { MayCount owners first }
+    requires one { AreOne first opened again }
+    ensures { IfOk result (λ bytes. length bytes.items ≡ first.size) }
+{
+    let mut bytes = vec![in alloc; 0; first.size as usize]?;
+    file.read_exact_at(&mut bytes, 0)?;
     Ok(bytes)
+}
+
+/// The bytes of a file that counts by a first look at its path. An error where what is opened, or what has the path then, is another one.
+fn read<F: OpenFile + FileExt + Drop, R: Files<File = F> + AllocGlobal>(
+    rt: &R,
+    path: &str,
+    owners: Owners,
+    first: Look,
+) -> io::Result<Vec<u8>>
+    requires { MayCount owners first }
+    ensures { IfOk result (λ bytes. length bytes.items ≡ first.size) }
+{
+    let file = open(rt, path)?;
+    let opened = Look::of(&file.metadata()?);
+    let again = Look::at(rt, path)?;
+    if first.is_still(opened, again) {
+        read_still(rt.alloc(), &file, owners, first, opened, again)
+    } else {
+        Err(uncounted())
+    }
+}
+
+/// What the file beside an image has, which is removed. `None` where there is none. An error where it doesn't count, or can't be read or removed.
+fn take_file<F: OpenFile + FileExt + Drop, R: Files<File = F> + AllocGlobal>(
+    rt: &R,
+    image: &str,
+    owners: Owners,
+) -> io::Result<Option<Vec<u8>>>
+    ensures { IfOk result (λ given. IfSome given (λ bytes. length bytes.items ≤ 134217728)) }
+{
+    let path = path_of(rt.alloc(), image, ".times")?;
+    let Some(look) = look_for(rt, path.as_str(), owners)? else {
+        return Ok(None);
+    };
+    let bytes = read(rt, path.as_str(), owners, look)?;
+    fs::remove_file(rt, path.as_str())?;
+    Ok(Some(bytes))
+}
+
+/// What the file has, which is removed: at most 128 MiB. `None` where there is none, or where it is left alone.
+pub(crate) fn take<F: OpenFile + FileExt + Drop, R: Files<File = F> + AllocGlobal>(
+    file: &mut TimesFile<'_, R>,
+) -> Option<Vec<u8>>
+    ensures { IfSome result (λ bytes. length bytes.items ≤ 134217728) }
+{
+    match take_file(file.rt, file.image, file.owners) {
+        Ok(given) => given,
+        Err(_) => {
+            file.is_left_alone = true;
+            None
+        }
+    }
 }
 
 /// Writes a new file, whose bytes are stored then.
@@ -44,16 +170,22 @@ fn write_new<F: OpenFile + FileExt + Drop, R: Files<File = F>>(
     file.sync_all()
 }
 
-/// Puts a file with these bytes in the place of whatever has its path. It is made anew under another path and renamed, so no link is
-/// followed. Where that fails, what had the path stays.
+/// Puts a file with these bytes in the place of one that counts, or of none. It is made anew under another path, where what counts is removed first, and
+/// renamed, so no link is followed. Nothing is written where what has either path doesn't count, or was left alone before.
 pub(crate) fn leave<F: OpenFile + FileExt + Drop, R: Files<File = F> + AllocGlobal>(
-    rt: &R,
-    image: &str,
+    file: &TimesFile<'_, R>,
     bytes: &[u8],
 ) -> io::Result<()> {
-    let new = path_of(rt.alloc(), image, ".times.new")?;
-    let path = path_of(rt.alloc(), image, ".times")?;
-    let _ = fs::remove_file(rt, new.as_str());
+    if file.is_left_alone {
+        return Ok(());
+    }
+    let rt = file.rt;
+    let new = path_of(rt.alloc(), file.image, ".times.new")?;
+    let path = path_of(rt.alloc(), file.image, ".times")?;
+    look_for(rt, path.as_str(), file.owners)?;
+    if look_for(rt, new.as_str(), file.owners)?.is_some() {
+        fs::remove_file(rt, new.as_str())?;
+    }
     write_new(rt, new.as_str(), bytes)?;
     fs::rename(rt, new.as_str(), path.as_str())
 }

@@ -7,7 +7,7 @@ ghost use Rattle.sn_times_image.specs.Beginning.{MayBegin};
 ghost use Rattle.sn_times_image.specs.Identity.{identity_of};
 ghost use Rattle.sn_times_image.specs.Looking.{OnlyReads};
 
-use crate::file::{leave, take};
+use crate::file::{TimesFile, leave, take};
 use crate::identity::identity_of;
 use sn_device::Device;
 use sn_fuse::Time;
@@ -27,41 +27,40 @@ fn begun_by<D: Device>(alloc: Global, device: &mut D, bytes: &[u8], now: Time) -
     restore(alloc, identity.as_slice(), bytes, now).ok()
 }
 
-/// The times with which a mount begins by the file beside an image, which is removed. `None` where there is none, the device can't be read, or memory
-/// is refused.
-fn taken<R: Files + AllocGlobal, D: Device>(
-    rt: &R,
+/// The times with which a mount begins by the file beside an image, which is removed. `None` where there is none or it is left alone, the device can't be
+/// read, or memory is refused.
+fn taken<F: OpenFile + FileExt + Drop, R: Files<File = F> + AllocGlobal, D: Device>(
+    file: &mut TimesFile<'_, R>,
     device: &mut D,
-    image: &str,
     now: Time,
 ) -> Option<Times>
     ensures begun { IsTrue D.tells_bytes → IfSome result (λ times. MayBegin (reads (D.disk device.old)) now times) }
     ensures same { IsTrue D.tells_bytes → D.disk device.new ≡ D.disk device.old }
     ensures counts { OnlyReads (D.status device.old) (D.status device.new) }
 {
-    let bytes = take(rt, image).ok()?;
-    begun_by(rt.alloc(), device, bytes.as_slice(), now)
+    let bytes = take(file)?;
+    begun_by(file.rt.alloc(), device, bytes.as_slice(), now)
 }
 
 /// The times of an image's objects at a mount of its device at the time `now`. Live objects, and those of each snapshot that the mounts before showed, have those of the
-/// file beside the image, which is removed, where the image is as it was left with it; all others have the time of the mount.
+/// file beside the image, which is removed, where the image is as it was left with it; all others have the time of the mount. What doesn't count as that
+/// file, or can't be read or removed, is left alone, which the file tells.
 ///
 /// Proved: A mount begins with times that were kept with the roots, their gates and the first gates of the log as they are, or each object has the time
 /// of the mount.
 /// Proved, also of `leave_times`: The device isn't written, also where it doesn't tell its bytes: at most a read that failed is counted.
-pub fn take_times<R: Files + AllocGlobal, D: Device>(
-    rt: &R,
+pub fn take_times<F: OpenFile + FileExt + Drop, R: Files<File = F> + AllocGlobal, D: Device>(
+    file: &mut TimesFile<'_, R>,
     device: &mut D,
-    image: &str,
     now: Time,
 ) -> Times
     ensures begun { IsTrue D.tells_bytes → MayBegin (reads (D.disk device.old)) now result }
     ensures same { IsTrue D.tells_bytes → D.disk device.new ≡ D.disk device.old }
     ensures counts { OnlyReads (D.status device.old) (D.status device.new) }
 {
-    match taken(rt, device, image, now) {
+    match taken(file, device, now) {
         Some(times) => times,
-        None => Times::new(rt.alloc(), now),
+        None => Times::new(file.rt.alloc(), now),
     }
 }
 
@@ -76,17 +75,16 @@ fn spelled<D: Device>(alloc: Global, device: &mut D, times: &Times) -> Option<Ve
 }
 
 /// Leaves the times of an image's objects in a file beside it, once its device was unmounted. Where that fails, there is no such file, or one that is no
-/// file of the image as it is.
+/// file of the image as it is. Where something was left alone, nothing is written.
 pub fn leave_times<F: OpenFile + FileExt + Drop, R: Files<File = F> + AllocGlobal, D: Device>(
-    rt: &R,
+    file: &TimesFile<'_, R>,
     device: &mut D,
-    image: &str,
     times: &Times,
 )
     ensures same { IsTrue D.tells_bytes → D.disk device.new ≡ D.disk device.old }
     ensures counts { OnlyReads (D.status device.old) (D.status device.new) }
 {
-    if let Some(bytes) = spelled(rt.alloc(), device, times) {
-        let _ = leave(rt, image, bytes.as_slice());
+    if let Some(bytes) = spelled(file.rt.alloc(), device, times) {
+        let _ = leave(file, bytes.as_slice());
     }
 }

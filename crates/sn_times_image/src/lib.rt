@@ -9,13 +9,17 @@
 //! the log. By `identity_laws` images of one identity have the same newest root, or SHA-256 collides, and a new root or the first record of a half changes
 //! what the digest is of. `specs/Beginning` says with which times a mount begins.
 //!
-//! Nothing is promised of what a file holds, and no fault is told: without the file there are the times of the mount.
+//! Nothing is promised of what a file holds: without the file there are the times of the mount. Who may write the folder may put anything there. So a file
+//! counts only by what a look at its path tells (`specs/Looks`), and is read only where what was opened, and what has the path then, are that one. All else
+//! is left alone, which [`TimesFile`] tells.
 //!
-//! The way through: `identity` reads what tells one end of an image from all others, `file` the file, and `keeping` puts them together.
+//! The way through: `identity` reads what tells one end of an image from all others, `look` looks at files, `file` takes and leaves the file, and `keeping`
+//! puts them together.
 //!
 //! ```text
-//! let times = take_times(&rt, &mut device, "disk.img", now);
-//! leave_times(&rt, &mut device, "disk.img", &times);
+//! let mut file = TimesFile::beside(&rt, "disk.img");
+//! let times = take_times(&mut file, &mut device, now);
+//! leave_times(&file, &mut device, &times);
 //! ```
 #![tactic(auto)]
 
@@ -23,6 +27,8 @@ mod file;
 mod identity;
 mod keeping;
 mod laws;
+mod look;
 
+pub use file::TimesFile;
 pub use keeping::{leave_times, take_times};
 pub use laws::identity_laws;
