@@ -13,7 +13,7 @@ import sys
 import tempfile
 import time
 
-TOP = os.path.dirname(os.path.dirname(os.path.realpath(__file__)))
+TOP = os.path.dirname(os.path.dirname(os.path.dirname(os.path.realpath(__file__))))
 HERE, EXCHANGE = -100, 2
 HUGE, SECONDS, MEMORY = 1 << 42, 20, 192 << 10
 # INIT of a mount; what follows is the end of the messages.
