@@ -191,8 +191,6 @@ class Server:
         except No as error:
             if self.changed:
                 self.times.mark_part(word, about, fields)
-            else:
-                self.times.clock.now()
             return f"ERROR {error}"
         self.times.mark(word, about, fields, self.number_told(reply))
         return reply

@@ -7,7 +7,7 @@ snapshot, and its number there. A time is a pair of seconds and nanoseconds.
 import os
 from dataclasses import dataclass
 
-NUMBERS, FIRST_SNAPSHOT = 65536, 2
+NUMBERS, FIRST_SNAPSHOT, SNAPSHOTS = 65536, 2, 65537
 SIZE, ACCESSED, MODIFIED, ACCESSED_NOW, MODIFIED_NOW = 8, 16, 32, 128, 256
 SECOND = 1_000_000_000
 MAKING = ("MKNOD", "MKDIR", "CREATE")
@@ -23,6 +23,22 @@ class Clock:
         shown = self.seconds
         self.seconds += self.step
         return shown, 0
+
+
+class Moment:
+    """The time of a message: what the clock shows once it is asked, which is where something is marked, and once at most."""
+
+    def __init__(self, clock):
+        self.clock, self.shown = clock, None
+
+    def asked(self):
+        if self.shown is None:
+            self.shown = self.clock.now()
+        return self.shown
+
+
+def asked(time):
+    return time.asked() if isinstance(time, Moment) else time
 
 
 class Dating:
@@ -75,7 +91,7 @@ class Times:
     def set(self, number, *times):
         """Access, modification and change time, of which those that are None stay. Of what isn't known nothing is kept."""
         if number is not None:
-            self.kept[number] = tuple(was if time is None else time for time, was in zip(times, self.of(number)))
+            self.kept[number] = tuple(was if time is None else asked(time) for time, was in zip(times, self.of(number)))
 
     def changed(self, number, now):
         self.set(number, None, None, now)
@@ -101,20 +117,24 @@ class Times:
     # ---- what a message marks that was done: what it is about, its fields, the number of the node that its reply tells of, and the time
 
     def mark(self, word, about, fields, told):
-        now = self.clock.now()
-        getattr(self, f"mark_{word.lower()}", self.mark_nothing)(about, fields, told, now)
+        getattr(self, f"mark_{word.lower()}", self.mark_nothing)(about, fields, told, Moment(self.clock))
 
     def mark_part(self, word, about, fields):
         """What a message marks that was refused once it had changed something. Of an object that it made no number is told, so all have the time of now."""
         if word in MAKING:
             self.kept, self.mounted = {}, self.clock.now()
         elif word == "SETATTR":
-            self.mark_set(about, fields, self.clock.now())
+            self.mark_set(about, fields, Moment(self.clock))
         else:
             self.mark(word, about, fields, None)
 
     def mark_nothing(self, *_):
         pass
+
+    def mark_lookup(self, about, _, told, now):
+        """A snapshot that was found is marked as met."""
+        if about.node == SNAPSHOTS and told // NUMBERS >= FIRST_SNAPSHOT:
+            now.asked()
 
     def mark_mkdir(self, about, _, told, now):
         self.made(about, told, now)

@@ -52,15 +52,17 @@ fn since_1970<R: Clock>(rt: &R) -> Duration {
 }
 
 impl<'a, R: Files + Clock + AllocGlobal> Host for ThisHost<'a, R> {
-    ghost use Rattle.sn_mount_streams.specs.Told.{tells_anything};
+    ghost use Rattle.sn_mount_streams.specs.Told.{shows_anything, tells_anything};
 
     ghost tells = { tells_anything };
+
+    ghost shows = { shows_anything };
 
     fn status(&mut self, process: u32) -> Option<Vec<u8>> {
         status_at(self.rt, process).ok()
     }
 
-    fn now(&self) -> Time {
+    fn now(&mut self) -> Time {
         let time = since_1970(self.rt);
         Time {
             seconds: time.as_secs(),

@@ -3,6 +3,7 @@ use Rattle.std.proofs.Common.{◌≡◌, ◌||◌, ℕ, List, refl}
 use Rattle.std.specs.List.{list_any}
 use Rattle.std.specs.Prelude.{Option, Result}
 use Rattle.sn_fuse.specs.declared.operation.Op.{Op}
+use Rattle.sn_fuse.specs.declared.operation.Time.{Time}
 use Rattle.sn_fuse_replies.specs.declared.errno.Errno.{Errno}
 use Rattle.sn_plan.specs.Acts.{Act, is_change}
 use Rattle.sn_plan.specs.declared.server.Server.{Server}
@@ -13,8 +14,8 @@ use Rattle.sn_serve.specs.declared.service.Service.{Service}
 use Rattle.sn_serve.specs.declared.told.Told.{Told}
 
 -- who checks
-pub keeps_checker : {F P : Type 0} {did : F → F → List Act → Type 0} {tells : P → ℕ → Option (List ℕ) → P → Type 0} {message : List ℕ} {old : Service F} {before : P} {new : Service F} {after : P} {reply : List ℕ}
-    → IsExchange did tells message old before new after reply → new.checker ≡ old.checker
+pub keeps_checker : {F P : Type 0} {did : F → F → List Act → Type 0} {tells : P → ℕ → Option (List ℕ) → P → Type 0} {shows : P → Time → P → Type 0} {message : List ℕ} {old : Service F} {before : P} {new : Service F} {after : P} {reply : List ℕ}
+    → IsExchange did tells shows message old before new after reply → new.checker ≡ old.checker
 keeps_checker (short is) = refl
 keeps_checker (unknown is) = refl
 keeps_checker (misspelt is) = refl

@@ -1,5 +1,5 @@
 -- Which times a message marks for update, and what answers tell of them (POSIX.1-2017, 4.9 "File Times Update").
-use Rattle.std.specs.Prelude.{◌≡◌, ℕ, ◌/◌, ◌==◌, ◌&&◌, Bool, true, false, zero, nat_lt, List, Option, None, Some, is_some, Result, Ok, Err, if◌then◌else◌}
+use Rattle.std.specs.Prelude.{◌≡◌, ℕ, ◌/◌, ◌==◌, ◌&&◌, ◌||◌, Bool, true, false, zero, nat_lt, List, Option, None, Some, is_some, Result, Ok, Err, if◌then◌else◌}
 use Rattle.std.specs.Option.{option_and_then, option_eq, option_map}
 use Rattle.sn_callers.specs.Files.{file_at}
 use Rattle.sn_callers.specs.declared.open_files.OpenFile.{OpenFile}
@@ -208,6 +208,17 @@ makes_object other = false
 abbrev pub is_lost : Bool → Op → Result Told Errno → Bool
 is_lost changed op (Ok told) = false
 is_lost changed op (Err errno) = changed && makes_object op
+
+abbrev pub has_marks : Marks → Bool
+has_marks marks = is_some marks.first || is_some marks.second || is_some marks.third || is_some marks.fourth
+
+-- the time in whose place a clock isn't asked
+abbrev pub no_time : Time
+no_time = record { seconds = 0; nanoseconds = 0 }
+
+-- whether a message marks anything, which no time decides
+abbrev pub needs_time : Bool → Subjects → Op → Result Told Errno → Bool
+needs_time changed s op told = is_lost changed op told || has_marks (marks_of changed s no_time op told)
 
 abbrev pub IsMarkedIf : Option Mark → Time → Dates → Dates → Type 0
 IsMarkedIf None now old new = new ≡ old

@@ -19,7 +19,7 @@ use Rattle.sn_plan.specs.Follows.{kept_of}
 use Rattle.sn_plan.specs.declared.checker.Checker.{Checker}
 use Rattle.sn_plan.specs.declared.server.Server.{Server}
 use Rattle.sn_serve.specs.Answers.{holds_for, reply_of}
-use Rattle.sn_serve.specs.Dating.{IsUpdated, dated_in, is_lost, marks_of, subjects_of}
+use Rattle.sn_serve.specs.Dating.{IsUpdated, dated_in, is_lost, marks_of, needs_time, no_time, subjects_of}
 use Rattle.sn_serve.specs.Messages.{Answers, acts_in, way_of}
 use Rattle.sn_serve.specs.declared.service.Service.{Service}
 use Rattle.sn_serve.specs.declared.told.Told.{Told}
@@ -96,17 +96,25 @@ abbrev pub has_changed : {F P : Type 0} {did : F → F → List Act → Type 0} 
     → Performs did tells head op old before new after told → Bool
 has_changed p = list_any is_change (acts_in p.answers)
 
--- What is told has the times that are kept once the message has marked those of what it was about, at any time that a clock may show.
-pub record IsDated {F : Type 0} (head : Head) (op : Op) (changed : Bool) (old new : Service F) (told : Result Told Errno) : Type 0 where
+-- the time that the clock showed, which is asked for where it is needed alone
+abbrev pub IsClock : {P : Type 0} → (P → Time → P → Type 0) → Bool → P → Time → P → Type 0
+IsClock shows true before now after = shows before now after
+IsClock shows false before now after = (now ≡ no_time) × (after ≡ before)
+
+-- What is told has the times that are kept once the message has marked those of what it was about, at the time that the clock shows once it is done. For a
+-- message that marks nothing the clock isn't asked.
+pub record IsDated {F P : Type 0} (shows : P → Time → P → Type 0) (head : Head) (op : Op) (changed : Bool) (old : Service F) (before : P) (new : Service F) (after : P) (told : Result Told Errno) : Type 0 where
   pub now : Time
+  pub clock : IsClock shows (needs_time changed (subjects_of (kept_of old.server) head.node op) op told) before now after
   pub marked : IsUpdated (is_lost changed op told) (marks_of changed (subjects_of (kept_of old.server) head.node op) now op told) now old.times new.times
 
 -- and answered by what was told
-pub record IsAnswered {F P : Type 0} (did : F → F → List Act → Type 0) (tells : P → ℕ → Option (List ℕ) → P → Type 0) (head : Head) (op : Op) (old : Service F) (before : P) (new : Service F) (after : P)
+pub record IsAnswered {F P : Type 0} (did : F → F → List Act → Type 0) (tells : P → ℕ → Option (List ℕ) → P → Type 0) (shows : P → Time → P → Type 0) (head : Head) (op : Op) (old : Service F) (before : P) (new : Service F) (after : P)
     (reply : Option Answer) : Type 0 where
   pub told : Result Told Errno
-  pub performs : Performs did tells head op old before new after told
-  pub dates : IsDated head op (has_changed performs) old new told
+  pub performed : P
+  pub performs : Performs did tells head op old before new performed told
+  pub dates : IsDated shows head op (has_changed performs) old performed new after told
   pub told_reply : IsReply (holds_for old.checker) op (dated_in new.times told) reply
 
 abbrev pub spelled : ℕ → Option Answer → List ℕ
@@ -115,16 +123,16 @@ spelled unique (Some answer) = reply_bytes unique answer
 
 -- A message, what became of what is served and of the host, and the bytes of the reply, which repeats the message's own number. Bytes
 -- that have no head are passed over.
-pub data IsExchange {F P : Type 0} (did : F → F → List Act → Type 0) (tells : P → ℕ → Option (List ℕ) → P → Type 0) (message : List ℕ) (old : Service F) (before : P) : Service F → P → List ℕ → Type 0 where
-  short : IsShort message → IsExchange did tells message old before old before []
-  unknown : {head : Head} → IsUnknown message head → IsExchange did tells message old before old before (spelled head.unique (Some (Error ENOSYS)))
-  misspelt : {head : Head} → IsMisspelt message head → IsExchange did tells message old before old before (spelled head.unique (Some (Error EINVAL)))
-  request : {head : Head} {op : Op} {new : Service F} {after : P} {reply : Option Answer} → IsRequest message head op → IsAnswered did tells head op old before new after reply
-      → IsExchange did tells message old before new after (spelled head.unique reply)
+pub data IsExchange {F P : Type 0} (did : F → F → List Act → Type 0) (tells : P → ℕ → Option (List ℕ) → P → Type 0) (shows : P → Time → P → Type 0) (message : List ℕ) (old : Service F) (before : P) : Service F → P → List ℕ → Type 0 where
+  short : IsShort message → IsExchange did tells shows message old before old before []
+  unknown : {head : Head} → IsUnknown message head → IsExchange did tells shows message old before old before (spelled head.unique (Some (Error ENOSYS)))
+  misspelt : {head : Head} → IsMisspelt message head → IsExchange did tells shows message old before old before (spelled head.unique (Some (Error EINVAL)))
+  request : {head : Head} {op : Op} {new : Service F} {after : P} {reply : Option Answer} → IsRequest message head op → IsAnswered did tells shows head op old before new after reply
+      → IsExchange did tells shows message old before new after (spelled head.unique reply)
 
 -- what was done for it
-abbrev pub acts_for : {F P : Type 0} {did : F → F → List Act → Type 0} {tells : P → ℕ → Option (List ℕ) → P → Type 0} {message : List ℕ} {old : Service F} {before : P} {new : Service F} {after : P} {reply : List ℕ}
-    → IsExchange did tells message old before new after reply → List Act
+abbrev pub acts_for : {F P : Type 0} {did : F → F → List Act → Type 0} {tells : P → ℕ → Option (List ℕ) → P → Type 0} {shows : P → Time → P → Type 0} {message : List ℕ} {old : Service F} {before : P} {new : Service F} {after : P} {reply : List ℕ}
+    → IsExchange did tells shows message old before new after reply → List Act
 acts_for (short is) = []
 acts_for (unknown is) = []
 acts_for (misspelt is) = []

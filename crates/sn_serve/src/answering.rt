@@ -7,11 +7,11 @@ ghost use Rattle.sn_fuse_replies.specs.declared.errno.Errno.{Errno as TheErrno};
 ghost use Rattle.sn_serve.specs.Dating.{dated_in};
 ghost use Rattle.sn_serve.specs.declared.told.Told.{Told as TheTold};
 ghost use Rattle.sn_serve.specs.Exchanges as exchanges;
-ghost use Rattle.sn_serve.specs.Exchanges.{IsDated, IsExchange, IsRefusal, IsReply, IsTextOf, IsToldBy, Performs, has_changed, spelled};
+ghost use Rattle.sn_serve.specs.Exchanges.{IsClock, IsDated, IsExchange, IsRefusal, IsReply, IsTextOf, IsToldBy, Performs, has_changed, spelled};
 
 use crate::dating::date;
 use crate::host::Host;
-use crate::marks::mark;
+use crate::marks::{NO_TIME, mark, needs_time};
 use crate::performing::perform;
 use crate::service::Service;
 use crate::subjects::subjects_of;
@@ -115,6 +115,13 @@ fn perform_as<F: FileSystem, H: Host>(
     )
 }
 
+// The time that the clock shows, where it is needed.
+fn time_of<H: Host>(host: &mut H, is_needed: bool) -> Time
+    ensures { IsClock H.shows is_needed host.old result host.new }
+{
+    if is_needed { host.now() } else { NO_TIME }
+}
+
 // Does what a request asks for, marks the times of what it was about, and tells it with these.
 fn perform_dated<F: FileSystem, H: Host>(
     service: &mut Service<F>,
@@ -122,13 +129,13 @@ fn perform_dated<F: FileSystem, H: Host>(
     head: &Head,
     op: &Op<'_>,
 ) -> Result<Told, Errno>
-    ensures { (told : Result TheTold TheErrno) × (performs : Performs F.did H.tells head.now op.now service.old host.old service.new host.new told)
-        × IsDated head.now op.now (has_changed performs) service.old service.new told × (result ≡ dated_in service.new.times told) }
+    ensures { (told : Result TheTold TheErrno) × (performed : H) × (performs : Performs F.did H.tells head.now op.now service.old host.old service.new performed told)
+        × IsDated H.shows head.now op.now (has_changed performs) service.old performed service.new host.new told × (result ≡ dated_in service.new.times told) }
 {
     let subjects = subjects_of(&service.server, head.node, op);
     let told = perform_as(service, host, head, op);
-    let now = host.now();
     let changed = service.server.changed;
+    let now = time_of(host, needs_time(changed, &subjects, op, &told));
     mark(&mut service.times, changed, &subjects, now, op, &told);
     date(&service.times, told)
 }
@@ -196,7 +203,8 @@ pub fn refuse_message(message: &[u8], out: &mut Vec<u8>) -> Result<(), AllocErro
 /// attributes may be held for a year; where the server does, they may not be held.
 ///
 /// Proved: A message that was done marks the times of what it was about (`specs/Dating`), and one that was refused those of what it had changed by then, which is nothing where no
-/// call of it changed something, and every object where it may have made one. An answer has the times that are kept then.
+/// call of it changed something, and every object where it may have made one. An answer has the times that are kept then. The time of a mark is what the
+/// clock shows once the message is done, and for a message that marks nothing the clock isn't asked.
 ///
 /// Proved: A snapshot has its times under the name by which a LOOKUP found it or a MKDIR made it, and under none once it is removed.
 pub fn answer<F: FileSystem, H: Host>(
@@ -205,7 +213,7 @@ pub fn answer<F: FileSystem, H: Host>(
     message: &[u8],
     out: &mut Vec<u8>,
 ) -> Result<(), AllocError>
-    ensures { (reply : List ℕ) × IsExchange F.did H.tells message.now service.old host.old service.new host.new reply × OnOk result (out.new.items ≡ out.old.items ++ reply) }
+    ensures { (reply : List ℕ) × IsExchange F.did H.tells H.shows message.now service.old host.old service.new host.new reply × OnOk result (out.new.items ≡ out.old.items ++ reply) }
 {
     let (head, op) = match decode(message) {
         Decoded::Short => return Ok(()),

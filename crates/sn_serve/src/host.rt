@@ -1,5 +1,6 @@
 //! What the host of a server tells.
 ghost use Rattle.std.specs.Prelude.{ℕ, List, Option, option_map, vec_items, ⊤};
+ghost use Rattle.sn_fuse.specs.declared.operation.Time.{Time as TheTime};
 
 use sn_fuse::Time;
 
@@ -12,6 +13,10 @@ pub trait Host {
     fn status(&mut self, process: u32) -> Option<Vec<u8>>
         ensures { tells self.old process (option_map vec_items result) self.new };
 
-    /// The time that the clock shows. Any may be told.
-    fn now(&self) -> Time;
+    /// Whether the clock may show this time, and what is so of the host afterwards.
+    ghost shows: { Self → TheTime → Self → Type 0 } = { λ _ _ _. ⊤ };
+
+    /// The time that the clock shows.
+    fn now(&mut self) -> Time
+        ensures { shows self.old result self.new };
 }

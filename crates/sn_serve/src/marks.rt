@@ -361,6 +361,33 @@ fn is_lost(changed: bool, op: &Op<'_>, told: &Result<Told, Errno>) -> bool
     }
 }
 
+fn has_marks(marks: &Marks<'_>) -> bool
+    ensures { result ≡ dating.has_marks marks.now }
+{
+    marks.first.is_some()
+        || marks.second.is_some()
+        || marks.third.is_some()
+        || marks.fourth.is_some()
+}
+
+/// The time in whose place a clock isn't asked.
+pub(crate) const NO_TIME: Time = Time {
+    seconds: 0,
+    nanoseconds: 0,
+};
+
+/// Whether a message marks anything, which no time decides.
+pub(crate) fn needs_time(
+    changed: bool,
+    subjects: &Subjects,
+    op: &Op<'_>,
+    told: &Result<Told, Errno>,
+) -> bool
+    ensures { result ≡ dating.needs_time changed subjects.now op.now told.now }
+{
+    is_lost(changed, op, told) || has_marks(&marks_of(changed, subjects, NO_TIME, op, told))
+}
+
 fn mark_one(times: &mut Times, now: Time, mark: Option<Mark<'_>>)
     ensures { dating.IsMarkedIf mark.entry now times.old times.new }
 {

@@ -4,6 +4,7 @@ use Rattle.sn_check.specs.Verdicts.{IsCause}
 use Rattle.sn_device.specs.Disk.{Disk, reads}
 use Rattle.sn_device.specs.declared.status.Status.{Status}
 use Rattle.sn_examine.specs.Failing.{IsSoOf}
+use Rattle.sn_fuse.specs.declared.operation.Time.{Time}
 use Rattle.sn_held.specs.Images.{IsImage}
 use Rattle.sn_model.specs.World.{World}
 use Rattle.sn_model.specs.declared.call.Event.{Event}
@@ -46,13 +47,13 @@ abbrev pub stopped : Shown → Bool
 stopped shown = shown.served.has_stopped
 
 -- Over a mount user 0 is logged in for all open files, and the messages of the input are answered one after the other, with the times of objects that were given; then it is unmounted, and the times are those that messages left.
-pub record IsServedFrom {P : Type 0} (told : Bool) (tells : P → ℕ → Option (List ℕ) → P → Type 0) (checker : Checker) (dates left : Dates) (mounted : Shown) (before after : P) (input rest output written : Option (List ℕ))
+pub record IsServedFrom {P : Type 0} (told : Bool) (tells : P → ℕ → Option (List ℕ) → P → Type 0) (shows : P → Time → P → Type 0) (checker : Checker) (dates left : Dates) (mounted : Shown) (before after : P) (input rest output written : Option (List ℕ))
     (outcome : Result (Unit {0}) ServeFault) (last : Disk) (last_status : Status) : Type 0 where
   pub first : Service Shown
   pub new : IsNew first mounted checker dates
   pub ended : Service Shown
   pub why : Stop
-  pub conversation : LogsInAndConverses (DidFrom told) tells stopped (PacesIn told) first before ended after why [] input rest output written
+  pub conversation : LogsInAndConverses (DidFrom told) tells shows stopped (PacesIn told) first before ended after why [] input rest output written
   pub left_is : left ≡ ended.times
   pub end : End
   pub told_end : IsLastEnd end
@@ -60,11 +61,11 @@ pub record IsServedFrom {P : Type 0} (told : Bool) (tells : P → ℕ → Option
   pub unmounts : IsTrue told → Unmounts end ended.server.file_system.served last last_status
 
 -- All that was called is a run: where the device tells its bytes, from the world that the disk was an image of, with all that a crash leaves of it, and no failure is invented in it.
-pub record IsServed {P : Type 0} (told : Bool) (tells : P → ℕ → Option (List ℕ) → P → Type 0) (checker : Checker) (dates left : Dates) (before after : P) (input rest output written : Option (List ℕ))
+pub record IsServed {P : Type 0} (told : Bool) (tells : P → ℕ → Option (List ℕ) → P → Type 0) (shows : P → Time → P → Type 0) (checker : Checker) (dates left : Dates) (before after : P) (input rest output written : Option (List ℕ))
     (outcome : Result (Unit {0}) ServeFault) (disk : Disk) (status : Status) (last : Disk) (last_status : Status) : Type 0 where
   pub mounted : Shown
   pub places : mounted.places ≡ []
-  pub served : IsServedFrom told tells checker dates left mounted before after input rest output written outcome last last_status
+  pub served : IsServedFrom told tells shows checker dates left mounted before after input rest output written outcome last last_status
   pub events : List Event
   pub replies : List Reply
   pub are : AreEventsOf (served.conversation.logins ++ served.conversation.conversation.acts) events replies

@@ -37,7 +37,7 @@ fn serve_mounted<D: Device + Drop, H: Host, R: Read, W: Write>(
     requires nodes { table_of new_connection.nodes ≡ root_alone }
     requires files { new_connection.files ≡ replicate 4032 None }
     requires frames { new_connection.frames ≡ [] }
-    ensures { IsServedFrom D.tells_bytes H.tells checker times result.times mounted host.old host.new (R.remaining input.old) (R.remaining input.new) (W.contents output.old) (W.contents output.new) result.outcome (D.disk result.device) (D.status result.device) }
+    ensures { IsServedFrom D.tells_bytes H.tells H.shows checker times result.times mounted host.old host.new (R.remaining input.old) (R.remaining input.new) (W.contents output.old) (W.contents output.new) result.outcome (D.disk result.device) (D.status result.device) }
 {
     let mut connection = new_connection.of(alloc, mounted, checker, times);
     let stop = converse(&mut connection, host, input, output);
@@ -71,7 +71,7 @@ pub fn serve_image<D: Device + Drop, H: Host, R: Read, W: Write>(
 ) -> Served<D>
     ensures { IsRefused result.outcome (D.disk device) (D.disk result.device) × (output.new ≡ output.old)
         ⊎ ((why : Why) × IsUnmounted D.tells_bytes why result.outcome (D.disk device) (D.status device) (D.disk result.device) (D.status result.device) × (output.new ≡ output.old))
-        ⊎ IsServed D.tells_bytes H.tells checker times result.times host.old host.new (R.remaining input.old) (R.remaining input.new) (W.contents output.old) (W.contents output.new) result.outcome (D.disk device) (D.status device) (D.disk result.device) (D.status result.device) }
+        ⊎ IsServed D.tells_bytes H.tells H.shows checker times result.times host.old host.new (R.remaining input.old) (R.remaining input.new) (W.contents output.old) (W.contents output.new) result.outcome (D.disk device) (D.status device) (D.disk result.device) (D.status result.device) }
 {
     let Ok(new_connection) = NewConnection::new(alloc) else {
         return Served {

@@ -6,6 +6,7 @@ use Rattle.std.specs.Io.KnownBytes.{Appends, Consumes}
 use Rattle.std.specs.List.{concat}
 use Rattle.std.specs.Prelude.{◌≢◌, None, Some, Result, Ok, Err, IfErr, IsErrAnd, OnOk}
 use Rattle.std.specs.declared.option.Option.{Option}
+use Rattle.sn_fuse.specs.declared.operation.Time.{Time}
 use Rattle.sn_output.specs.Outputs.{AppendsFront}
 use Rattle.sn_output.proofs.OutputLemmas.{appends_more, appends_none, same_more}
 use Rattle.sn_plan.specs.Acts.{Act}
@@ -64,22 +65,22 @@ cut_one reply o v h = cut reply (none (appends_none o)) h
 
 -- ---- messages
 
-module _ {F P : Type 0} (did : F → F → List Act → Type 0) (tells : P → ℕ → Option (List ℕ) → P → Type 0) (stopped : F → Bool) (paces : F → F → Type 0) where
-  converses_more : (a : Service F) (p : P) (b : Service F) (q : P) (ms rs : List (List ℕ)) (was : List Act) → Converses did tells stopped paces a p true ms rs was b q
-      → (whole : Bool) (c : Service F) (r : P) (ns ss : List (List ℕ)) (bs : List Act) → Converses did tells stopped paces b q whole ns ss bs c r → Converses did tells stopped paces a p whole (ms ++ ns) (rs ++ ss) (was ++ bs) c r
+module _ {F P : Type 0} (did : F → F → List Act → Type 0) (tells : P → ℕ → Option (List ℕ) → P → Type 0) (shows : P → Time → P → Type 0) (stopped : F → Bool) (paces : F → F → Type 0) where
+  converses_more : (a : Service F) (p : P) (b : Service F) (q : P) (ms rs : List (List ℕ)) (was : List Act) → Converses did tells shows stopped paces a p true ms rs was b q
+      → (whole : Bool) (c : Service F) (r : P) (ns ss : List (List ℕ)) (bs : List Act) → Converses did tells shows stopped paces b q whole ns ss bs c r → Converses did tells shows stopped paces a p whole (ms ++ ns) (rs ++ ss) (was ++ bs) c r
   converses_more a p b q ms rs was first _ _ _ _ _ _ begins =
-      subst (λ (m : List (List ℕ)). Converses did tells stopped paces a p true m (rs ++ []) (was ++ []) b q) (sym (append-nil ms))
-      (subst (λ (s : List (List ℕ)). Converses did tells stopped paces a p true ms s (was ++ []) b q) (sym (append-nil rs))
-      (subst (λ (acts : List Act). Converses did tells stopped paces a p true ms rs acts b q) (sym (append-nil was)) first))
+      subst (λ (m : List (List ℕ)). Converses did tells shows stopped paces a p true m (rs ++ []) (was ++ []) b q) (sym (append-nil ms))
+      (subst (λ (s : List (List ℕ)). Converses did tells shows stopped paces a p true ms s (was ++ []) b q) (sym (append-nil rs))
+      (subst (λ (acts : List Act). Converses did tells shows stopped paces a p true ms rs acts b q) (sym (append-nil was)) first))
   converses_more a p b q ms rs was first _ _ _ _ _ _ (answered {whole} {messages = ns} {replies = ss} {done = before} {acts} {message} {reply} {old} {mid} {new} {before = who} {after} t is h paced) =
-      subst (λ (m : List (List ℕ)). Converses did tells stopped paces a p whole m (rs ++ (ss ++ reply ∷ [])) (was ++ (before ++ acts)) new after) (append_assoc ms ns (message ∷ []))
-      (subst (λ (s : List (List ℕ)). Converses did tells stopped paces a p whole ((ms ++ ns) ++ message ∷ []) s (was ++ (before ++ acts)) new after) (append_assoc rs ss (reply ∷ []))
-      (subst (λ (done : List Act). Converses did tells stopped paces a p whole ((ms ++ ns) ++ message ∷ []) ((rs ++ ss) ++ reply ∷ []) done new after) (append_assoc was before acts)
+      subst (λ (m : List (List ℕ)). Converses did tells shows stopped paces a p whole m (rs ++ (ss ++ reply ∷ [])) (was ++ (before ++ acts)) new after) (append_assoc ms ns (message ∷ []))
+      (subst (λ (s : List (List ℕ)). Converses did tells shows stopped paces a p whole ((ms ++ ns) ++ message ∷ []) s (was ++ (before ++ acts)) new after) (append_assoc rs ss (reply ∷ []))
+      (subst (λ (done : List Act). Converses did tells shows stopped paces a p whole ((ms ++ ns) ++ message ∷ []) ((rs ++ ss) ++ reply ∷ []) done new after) (append_assoc was before acts)
       (answered (converses_more a p b q ms rs was first true old who ns ss before t) is h paced)))
 
   -- ---- all of it
 
-  pub none_yet : (a : Service F) (p : P) (pending : List ℕ) (i o : Option (List ℕ)) → Conversation did tells stopped paces true a p a p pending pending i i o o
+  pub none_yet : (a : Service F) (p : P) (pending : List ℕ) (i o : Option (List ℕ)) → Conversation did tells shows stopped paces true a p a p pending pending i i o o
   none_yet a p pending i o = record {
     messages = [];
     replies = [];
@@ -91,7 +92,7 @@ module _ {F P : Type 0} (did : F → F → List Act → Type 0) (tells : P → �
     sends = none (appends_none o);
   }
 
-  pub received : (a : Service F) (p : P) (pending left came : List ℕ) (i j o : Option (List ℕ)) → Consumes i j came → left ≡ pending ++ came → Conversation did tells stopped paces true a p a p pending left i j o o
+  pub received : (a : Service F) (p : P) (pending left came : List ℕ) (i j o : Option (List ℕ)) → Consumes i j came → left ≡ pending ++ came → Conversation did tells shows stopped paces true a p a p pending left i j o o
   received a p pending left came i j o taken is = record {
     messages = [];
     replies = [];
@@ -103,8 +104,8 @@ module _ {F P : Type 0} (did : F → F → List Act → Type 0) (tells : P → �
     sends = none (appends_none o);
   }
 
-  pub conversation_more : (whole : Bool) (a b c : Service F) (p q r : P) (x y z : List ℕ) (i j k o v w : Option (List ℕ)) → Conversation did tells stopped paces true a p b q x y i j o v
-      → Conversation did tells stopped paces whole b q c r y z j k v w → Conversation did tells stopped paces whole a p c r x z i k o w
+  pub conversation_more : (whole : Bool) (a b c : Service F) (p q r : P) (x y z : List ℕ) (i j k o v w : Option (List ℕ)) → Conversation did tells shows stopped paces true a p b q x y i j o v
+      → Conversation did tells shows stopped paces whole b q c r y z j k v w → Conversation did tells shows stopped paces whole a p c r x z i k o w
   conversation_more whole a b c p q r x y z i j k o v w h more = record {
     messages = h.messages ++ more.messages;
     replies = h.replies ++ more.replies;
@@ -124,8 +125,8 @@ module _ {F P : Type 0} (did : F → F → List Act → Type 0) (tells : P → �
 
   -- one message was answered, whose reply was sent or cut
   one_answered : (whole : Bool) (a b c : Service F) (p q : P) (pending left message reply : List ℕ) (acts : List Act) (i o v : Option (List ℕ)) → IsMessage message
-      → Replies did tells stopped message a p b q reply acts → PacesIf did paces whole b c → pending ≡ message ++ left → Sends (reply ∷ []) whole o v
-      → Conversation did tells stopped paces whole a p c q pending left i i o v
+      → Replies did tells shows stopped message a p b q reply acts → PacesIf did paces whole b c → pending ≡ message ++ left → Sends (reply ∷ []) whole o v
+      → Conversation did tells shows stopped paces whole a p c q pending left i i o v
   one_answered whole a b c p q pending left message reply acts i o v is replies paced cuts sends = record {
     messages = message ∷ [];
     replies = reply ∷ [];
@@ -138,23 +139,23 @@ module _ {F P : Type 0} (did : F → F → List Act → Type 0) (tells : P → �
   }
 
   -- the message is the front of what came
-  at_front : (a b : Service F) (p q : P) (pending bytes : List ℕ) (size : ℕ) (reply : List ℕ) (acts : List Act) → bytes ≡ pending → Replies did tells stopped (take size bytes) a p b q reply acts
-      → Replies did tells stopped (take size pending) a p b q reply acts
-  at_front a b p q pending bytes size reply acts same replies = subst (λ (xs : List ℕ). Replies did tells stopped (take size xs) a p b q reply acts) same replies
+  at_front : (a b : Service F) (p q : P) (pending bytes : List ℕ) (size : ℕ) (reply : List ℕ) (acts : List Act) → bytes ≡ pending → Replies did tells shows stopped (take size bytes) a p b q reply acts
+      → Replies did tells shows stopped (take size pending) a p b q reply acts
+  at_front a b p q pending bytes size reply acts same replies = subst (λ (xs : List ℕ). Replies did tells shows stopped (take size xs) a p b q reply acts) same replies
 
   -- its reply was cut, and no work was done
   pub first_cut : (a b : Service F) (p q : P) (pending bytes : List ℕ) (size : ℕ) (reply : List ℕ) (acts : List Act) (i o v : Option (List ℕ)) → bytes ≡ pending → IsMessage (take size pending)
-      → Replies did tells stopped (take size bytes) a p b q reply acts → Sends (reply ∷ []) false o v → Conversation did tells stopped paces false a p b q pending (drop size pending) i i o v
+      → Replies did tells shows stopped (take size bytes) a p b q reply acts → Sends (reply ∷ []) false o v → Conversation did tells shows stopped paces false a p b q pending (drop size pending) i i o v
   first_cut a b p q pending bytes size reply acts i o v same is replies sends =
       one_answered false a b b p q pending (drop size pending) (take size pending) reply acts i o v is (at_front a b p q pending bytes size reply acts same replies) refl (sym (take-append-drop size pending)) sends
 
   -- its reply was sent, and then the work that was due was done
   pub first_sent : (a b c : Service F) (p q : P) (pending bytes : List ℕ) (size : ℕ) (reply : List ℕ) (acts : List Act) (i o v : Option (List ℕ)) → bytes ≡ pending → IsMessage (take size pending)
-      → Replies did tells stopped (take size bytes) a p b q reply acts → Sends (reply ∷ []) true o v → Paces did paces b c → Conversation did tells stopped paces true a p c q pending (drop size pending) i i o v
+      → Replies did tells shows stopped (take size bytes) a p b q reply acts → Sends (reply ∷ []) true o v → Paces did paces b c → Conversation did tells shows stopped paces true a p c q pending (drop size pending) i i o v
   first_sent a b c p q pending bytes size reply acts i o v same is replies sends paced =
       one_answered true a b c p q pending (drop size pending) (take size pending) reply acts i o v is (at_front a b p q pending bytes size reply acts same replies) paced (sym (take-append-drop size pending)) sends
 
-  pub whole_turn : (whole : Bool) (a b : Service F) (p q : P) (x left next : List ℕ) (i j o v : Option (List ℕ)) → Conversation did tells stopped paces whole a p b q x left i j o v → next ≡ left → whole ≡ true
-      → Conversation did tells stopped paces true a p b q x next i j o v
+  pub whole_turn : (whole : Bool) (a b : Service F) (p q : P) (x left next : List ℕ) (i j o v : Option (List ℕ)) → Conversation did tells shows stopped paces whole a p b q x left i j o v → next ≡ left → whole ≡ true
+      → Conversation did tells shows stopped paces true a p b q x next i j o v
   whole_turn whole a b p q x left next i j o v h same is =
-      subst (λ (w : Bool). Conversation did tells stopped paces w a p b q x next i j o v) is (subst (λ (l : List ℕ). Conversation did tells stopped paces whole a p b q x l i j o v) (sym same) h)
+      subst (λ (w : Bool). Conversation did tells shows stopped paces w a p b q x next i j o v) is (subst (λ (l : List ℕ). Conversation did tells shows stopped paces whole a p b q x l i j o v) (sym same) h)

@@ -2,6 +2,7 @@
 use Rattle.std.specs.Io.KnownBytes.{Appends, Consumes, IsAtEnd}
 use Rattle.std.specs.List.{concat}
 use Rattle.std.specs.Prelude.{◌≡◌, ◌≢◌, ℕ, Bool, true, false, List, [], ◌∷◌, ◌++◌, Option}
+use Rattle.sn_fuse.specs.declared.operation.Time.{Time}
 use Rattle.sn_output.specs.Outputs.{AppendsFront}
 use Rattle.sn_plan.specs.Acts.{Act, Grows}
 use Rattle.sn_serve.specs.Exchanges.{IsExchange, IsRefusal, acts_for}
@@ -24,20 +25,20 @@ PacesIf did paces true old new = Paces did paces old new
 PacesIf did paces false old new = new ≡ old
 
 -- A message is answered with these bytes, and these acts are done for it. One that has stopped does nothing.
-pub data Replies {F P : Type 0} (did : F → F → List Act → Type 0) (tells : P → ℕ → Option (List ℕ) → P → Type 0) (stopped : F → Bool) (message : List ℕ) (old : Service F) (before : P)
+pub data Replies {F P : Type 0} (did : F → F → List Act → Type 0) (tells : P → ℕ → Option (List ℕ) → P → Type 0) (shows : P → Time → P → Type 0) (stopped : F → Bool) (message : List ℕ) (old : Service F) (before : P)
     : Service F → P → List ℕ → List Act → Type 0 where
-  answers : {new : Service F} {after : P} {reply : List ℕ} → stopped old.server.file_system ≡ false → (e : IsExchange did tells message old before new after reply)
-      → Replies did tells stopped message old before new after reply (acts_for e)
-  refuses : {reply : List ℕ} → stopped old.server.file_system ≡ true → IsRefusal message reply → Replies did tells stopped message old before old before reply []
+  answers : {new : Service F} {after : P} {reply : List ℕ} → stopped old.server.file_system ≡ false → (e : IsExchange did tells shows message old before new after reply)
+      → Replies did tells shows stopped message old before new after reply (acts_for e)
+  refuses : {reply : List ℕ} → stopped old.server.file_system ≡ true → IsRefusal message reply → Replies did tells shows stopped message old before old before reply []
 
 -- These messages were answered by these replies, and these acts were done for them. After each reply that is written whole, and at no other time, the
 -- work that is due is done. Only the last may be one that isn't: then it is told besides.
-pub data Converses {F P : Type 0} (did : F → F → List Act → Type 0) (tells : P → ℕ → Option (List ℕ) → P → Type 0) (stopped : F → Bool) (paces : F → F → Type 0) (first : Service F) (who : P)
+pub data Converses {F P : Type 0} (did : F → F → List Act → Type 0) (tells : P → ℕ → Option (List ℕ) → P → Type 0) (shows : P → Time → P → Type 0) (stopped : F → Bool) (paces : F → F → Type 0) (first : Service F) (who : P)
     : Bool → List (List ℕ) → List (List ℕ) → List Act → Service F → P → Type 0 where
-  begins : Converses did tells stopped paces first who true [] [] [] first who
+  begins : Converses did tells shows stopped paces first who true [] [] [] first who
   answered : {whole : Bool} {messages replies : List (List ℕ)} {done acts : List Act} {message reply : List ℕ} {old mid new : Service F} {before after : P}
-      → Converses did tells stopped paces first who true messages replies done old before → IsMessage message → Replies did tells stopped message old before mid after reply acts → PacesIf did paces whole mid new
-      → Converses did tells stopped paces first who whole (messages ++ message ∷ []) (replies ++ reply ∷ []) (done ++ acts) new after
+      → Converses did tells shows stopped paces first who true messages replies done old before → IsMessage message → Replies did tells shows stopped message old before mid after reply acts → PacesIf did paces whole mid new
+      → Converses did tells shows stopped paces first who whole (messages ++ message ∷ []) (replies ++ reply ∷ []) (done ++ acts) new after
 
 -- ---- the output
 
@@ -50,12 +51,12 @@ pub data Sends : List (List ℕ) → Bool → Option (List ℕ) → Option (List
 -- ---- all of it
 
 -- Of the bytes that came, messages were answered, and the last are still to be.
-pub record Conversation {F P : Type 0} (did : F → F → List Act → Type 0) (tells : P → ℕ → Option (List ℕ) → P → Type 0) (stopped : F → Bool) (paces : F → F → Type 0) (whole : Bool) (old : Service F) (before : P) (new : Service F)
+pub record Conversation {F P : Type 0} (did : F → F → List Act → Type 0) (tells : P → ℕ → Option (List ℕ) → P → Type 0) (shows : P → Time → P → Type 0) (stopped : F → Bool) (paces : F → F → Type 0) (whole : Bool) (old : Service F) (before : P) (new : Service F)
     (after : P) (pending left : List ℕ) (input rest output written : Option (List ℕ)) : Type 0 where
   pub messages : List (List ℕ)
   pub replies : List (List ℕ)
   pub acts : List Act
-  pub converses : Converses did tells stopped paces old before whole messages replies acts new after
+  pub converses : Converses did tells shows stopped paces old before whole messages replies acts new after
   pub came : List ℕ
   pub consumes : Consumes input rest came
   pub bytes : pending ++ came ≡ concat messages ++ left
@@ -69,7 +70,7 @@ pub record HasEnded (whole : Bool) (left : List ℕ) (rest : Option (List ℕ)) 
 
 -- User 0 is logged in, in the sessions of open files, in all of them unless memory is refused, which changes the file system alone. Then
 -- messages are answered.
-pub record LogsInAndConverses {F P : Type 0} (did : F → F → List Act → Type 0) (tells : P → ℕ → Option (List ℕ) → P → Type 0) (stopped : F → Bool) (paces : F → F → Type 0) (old : Service F) (before : P) (new : Service F) (after : P)
+pub record LogsInAndConverses {F P : Type 0} (did : F → F → List Act → Type 0) (tells : P → ℕ → Option (List ℕ) → P → Type 0) (shows : P → Time → P → Type 0) (stopped : F → Bool) (paces : F → F → Type 0) (old : Service F) (before : P) (new : Service F) (after : P)
     (why : Stop) (pending : List ℕ) (input rest output written : Option (List ℕ)) : Type 0 where
   pub first : Service F
   pub same : first ≡ record old { server = record old.server { file_system = first.server.file_system } }
@@ -80,5 +81,5 @@ pub record LogsInAndConverses {F P : Type 0} (did : F → F → List Act → Typ
   pub grows : Grows (did old.server.file_system) (did first.server.file_system) logins
   pub left : List ℕ
   pub whole : Bool
-  pub conversation : Conversation did tells stopped paces whole first before new after pending left input rest output written
+  pub conversation : Conversation did tells shows stopped paces whole first before new after pending left input rest output written
   pub ended : why ≡ Ended → HasEnded whole left rest

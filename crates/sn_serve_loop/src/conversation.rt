@@ -25,7 +25,7 @@ fn reply_to<F: FileSystem, H: Host>(
     message: &[u8],
     out: &mut Vec<u8>,
 ) -> Result<(), AllocError>
-    ensures { (reply : List ℕ) × (acts : List Act) × Replies F.did H.tells F.stopped message.now service.old host.old service.new host.new reply acts
+    ensures { (reply : List ℕ) × (acts : List Act) × Replies F.did H.tells H.shows F.stopped message.now service.old host.old service.new host.new reply acts
         × OnOk result (out.new.items ≡ out.old.items ++ reply) }
 {
     if service.server.file_system.has_stopped() {
@@ -56,7 +56,7 @@ fn exchange<F: FileSystem, H: Host, W: Write>(
     requires within { size ≤ length connection.old.frames }
     requires message { IsMessage (take size connection.old.frames) }
     ensures conversation { (input : Option (List ℕ)) → (left : List ℕ) × (whole : Bool)
-        × Conversation F.did H.tells F.stopped F.paces whole connection.old.service host.old connection.new.service host.new connection.old.frames left input input (W.contents output.old) (W.contents output.new)
+        × Conversation F.did H.tells H.shows F.stopped F.paces whole connection.old.service host.old connection.new.service host.new connection.old.frames left input input (W.contents output.old) (W.contents output.new)
         × OnOk result ((connection.new.frames ≡ left) × (whole ≡ true)) }
     ensures why { IfErr result (λ why. why ≢ stop.Ended) }
 {
@@ -81,7 +81,7 @@ fn turn<F: FileSystem, H: Host, R: Read, W: Write>(
     output: &mut W,
 ) -> Result<(), Stop>
     ensures { (left : List ℕ) × (whole : Bool)
-        × Conversation F.did H.tells F.stopped F.paces whole connection.old.service host.old connection.new.service host.new connection.old.frames left (R.remaining input.old) (R.remaining input.new) (W.contents output.old) (W.contents output.new)
+        × Conversation F.did H.tells H.shows F.stopped F.paces whole connection.old.service host.old connection.new.service host.new connection.old.frames left (R.remaining input.old) (R.remaining input.new) (W.contents output.old) (W.contents output.new)
         × OnOk result ((connection.new.frames ≡ left) × (whole ≡ true))
         × IfErr result (λ why. why ≡ stop.Ended → HasEnded whole left (R.remaining input.new)) }
 {
@@ -106,7 +106,7 @@ fn answer_all<F: FileSystem, H: Host, R: Read, W: Write>(
     output: &mut W,
 ) -> Stop
     ensures { (left : List ℕ) × (whole : Bool)
-        × Conversation F.did H.tells F.stopped F.paces whole connection.old.service host.old connection.new.service host.new connection.old.frames left (R.remaining input.old) (R.remaining input.new) (W.contents output.old) (W.contents output.new)
+        × Conversation F.did H.tells H.shows F.stopped F.paces whole connection.old.service host.old connection.new.service host.new connection.old.frames left (R.remaining input.old) (R.remaining input.new) (W.contents output.old) (W.contents output.new)
         × (result ≡ stop.Ended → HasEnded whole left (R.remaining input.new)) }
 {
     for _turn in 0..u64::MAX {
@@ -129,7 +129,7 @@ pub fn converse<F: FileSystem, H: Host, R: Read, W: Write>(
     input: &mut R,
     output: &mut W,
 ) -> Stop
-    ensures { LogsInAndConverses F.did H.tells F.stopped F.paces connection.old.service host.old connection.new.service host.new result connection.old.frames (R.remaining input.old) (R.remaining input.new) (W.contents output.old) (W.contents output.new) }
+    ensures { LogsInAndConverses F.did H.tells H.shows F.stopped F.paces connection.old.service host.old connection.new.service host.new result connection.old.frames (R.remaining input.old) (R.remaining input.new) (W.contents output.old) (W.contents output.new) }
 {
     let alloc = connection.service.server.alloc;
     match log_in(&mut connection.service.server.file_system, alloc) {

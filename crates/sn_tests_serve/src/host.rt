@@ -5,7 +5,6 @@ use sn_fuse::Time;
 use sn_serve::Host;
 use sn_testing_tables::Case;
 use std::alloc::Global;
-use std::cell::Cell;
 
 /// The host of a serve of a conversation.
 #[derive(Drop)]
@@ -13,7 +12,7 @@ pub(crate) struct Told<'a> {
     alloc: Global,
     senders: &'a Senders<'a>,
     /// What the clock shows next.
-    seconds: Cell<u64>,
+    seconds: u64,
 }
 
 impl<'a> Told<'a> {
@@ -22,7 +21,7 @@ impl<'a> Told<'a> {
         Told {
             alloc,
             senders,
-            seconds: Cell::new(senders.clock.unwrap_or(0)),
+            seconds: senders.clock.unwrap_or(0),
         }
     }
 }
@@ -37,10 +36,10 @@ impl Host for Told<'_> {
         None
     }
 
-    fn now(&self) -> Time {
-        let seconds = self.seconds.get();
+    fn now(&mut self) -> Time {
+        let seconds = self.seconds;
         if self.senders.clock.is_some() {
-            self.seconds.set(seconds.saturating_add(1));
+            self.seconds = seconds.saturating_add(1);
         }
         Time {
             seconds,

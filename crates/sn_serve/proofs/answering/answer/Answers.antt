@@ -33,5 +33,5 @@ returns g c =
     let p = c.perform_dated-told.ensures in
     let reply : IsReply (holds_for c.args.service.now.checker) op c.perform_dated-told.result e.0 = subst (λ (last : Time). IsReply last op c.perform_dated-told.result e.0) c.holds_for-last.ensures e.1 in
     let told_reply : IsReply (holds_for c.args.service.now.checker) op (dated_in c.perform_dated-told.new.service.times p.0) e.0
-    = subst (λ (told : Result Told Errno). IsReply (holds_for c.args.service.now.checker) op told e.0) p.3 reply in
-    (spelled h.unique e.0, request ((c.decode.ensures.request h op).0 c.in-Request.is) (record { told = p.0; performs = p.1; dates = p.2; told_reply = told_reply }), e.2)
+    = subst (λ (told : Result Told Errno). IsReply (holds_for c.args.service.now.checker) op told e.0) p.4 reply in
+    (spelled h.unique e.0, request ((c.decode.ensures.request h op).0 c.in-Request.is) (record { told = p.0; performed = p.1; performs = p.2; dates = p.3; told_reply = told_reply }), e.2)

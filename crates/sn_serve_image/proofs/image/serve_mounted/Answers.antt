@@ -14,7 +14,7 @@ returns g c =
       new = c.of-connection.ensures.new;
       ended = c.converse-stop.new.connection.service;
       why = c.converse-stop.result;
-      conversation = subst (λ (pending : List ℕ). LogsInAndConverses (DidFrom told) g.H.Host.tells stopped (PacesIn told) c.of-connection.result.service c.args.host.now c.converse-stop.new.connection.service
+      conversation = subst (λ (pending : List ℕ). LogsInAndConverses (DidFrom told) g.H.Host.tells g.H.Host.shows stopped (PacesIn told) c.of-connection.result.service c.args.host.now c.converse-stop.new.connection.service
           c.converse-stop.new.host c.converse-stop.result pending (g.R.Read.remaining c.args.input.now) (g.R.Read.remaining c.converse-stop.new.input) (g.W.Write.contents c.args.output.now)
           (g.W.Write.contents c.converse-stop.new.output)) (c.of-connection.ensures.frames ∙ c.requires.frames) c.converse-stop.ensures;
       left_is = c.into_parts-file_system.ensures.times;

@@ -16,7 +16,7 @@ returns-in-Err g c =
       grows = l.3;
       left = c.args.connection.now.frames;
       whole = true;
-      conversation = none_yet g.F.FileSystem.did g.H.Host.tells g.F.FileSystem.stopped g.F.FileSystem.paces _ _ _ _ _;
+      conversation = none_yet g.F.FileSystem.did g.H.Host.tells g.H.Host.shows g.F.FileSystem.stopped g.F.FileSystem.paces _ _ _ _ _;
       ended = λ is. absurd (let never : Memory ≡ Ended = is in cc);
     }
 

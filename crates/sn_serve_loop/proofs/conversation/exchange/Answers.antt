@@ -11,7 +11,7 @@ returns-in_err-reply_to-clause-conversation g c input =
     let o = g.W.Write.contents c.args.output.now in (
       drop c.args.size c.args.connection.now.frames,
       false,
-      first_cut g.F.FileSystem.did g.H.Host.tells g.F.FileSystem.stopped g.F.FileSystem.paces _ _ _ _ c.args.connection.now.frames c.bytes.result.now c.args.size r.0 r.1 input o o c.bytes.ensures c.requires.message r.2
+      first_cut g.F.FileSystem.did g.H.Host.tells g.H.Host.shows g.F.FileSystem.stopped g.F.FileSystem.paces _ _ _ _ c.args.connection.now.frames c.bytes.result.now c.args.size r.0 r.1 input o o c.bytes.ensures c.requires.message r.2
           (cut_one r.0 o o (0, appends_none o)),
       not_done _ _ c.from_residual.result c.from_residual.ensures.1,
     )
@@ -22,7 +22,7 @@ returns-in_err-remove-clause-conversation g c input =
     let o = g.W.Write.contents c.args.output.now in (
       drop c.args.size c.args.connection.now.frames,
       false,
-      first_cut g.F.FileSystem.did g.H.Host.tells g.F.FileSystem.stopped g.F.FileSystem.paces _ _ _ _ c.args.connection.now.frames c.bytes.result.now c.args.size r.0 r.1 input o o c.bytes.ensures c.requires.message r.2
+      first_cut g.F.FileSystem.did g.H.Host.tells g.H.Host.shows g.F.FileSystem.stopped g.F.FileSystem.paces _ _ _ _ c.args.connection.now.frames c.bytes.result.now c.args.size r.0 r.1 input o o c.bytes.ensures c.requires.message r.2
           (cut_one r.0 o o (0, appends_none o)),
       not_done _ _ c.from_residual-in_err-remove.result c.from_residual-in_err-remove.ensures.1,
     )
@@ -35,7 +35,7 @@ returns-in_err-send-clause-conversation g c input =
     let is : c.deref.result.now ≡ r.0 = ◌∙◌ {A = List ℕ} c.deref.ensures.value (◌∙◌ {A = List ℕ} r.3 (ap (λ (xs : List ℕ). xs ++ r.0) c.clear.ensures.items)) in (
       drop c.args.size c.args.connection.now.frames,
       false,
-      first_cut g.F.FileSystem.did g.H.Host.tells g.F.FileSystem.stopped g.F.FileSystem.paces _ _ _ _ c.args.connection.now.frames c.bytes.result.now c.args.size r.0 r.1 input o v c.bytes.ensures c.requires.message r.2
+      first_cut g.F.FileSystem.did g.H.Host.tells g.H.Host.shows g.F.FileSystem.stopped g.F.FileSystem.paces _ _ _ _ c.args.connection.now.frames c.bytes.result.now c.args.size r.0 r.1 input o v c.bytes.ensures c.requires.message r.2
           (cut_one r.0 o v (subst (λ xs. AppendsFront o v xs) is c.send.ensures.front)),
       not_done _ _ c.from_residual-in_err-send.result c.from_residual-in_err-send.ensures.1,
     )
@@ -48,7 +48,7 @@ returns-clause-conversation g c input =
     let is : c.deref.result.now ≡ r.0 = ◌∙◌ {A = List ℕ} c.deref.ensures.value (◌∙◌ {A = List ℕ} r.3 (ap (λ (xs : List ℕ). xs ++ r.0) c.clear.ensures.items)) in (
       drop c.args.size c.args.connection.now.frames,
       true,
-      first_sent g.F.FileSystem.did g.H.Host.tells g.F.FileSystem.stopped g.F.FileSystem.paces _ _ _ _ _ c.args.connection.now.frames c.bytes.result.now c.args.size r.0 r.1 input o v c.bytes.ensures c.requires.message r.2
+      first_sent g.F.FileSystem.did g.H.Host.tells g.H.Host.shows g.F.FileSystem.stopped g.F.FileSystem.paces _ _ _ _ _ c.args.connection.now.frames c.bytes.result.now c.args.size r.0 r.1 input o v c.bytes.ensures c.requires.message r.2
           (sent_one r.0 o v (subst (λ xs. Appends o v xs) is c.in_ok-send.ensures.whole)) (record { same = refl; grows = c.keep_pace.ensures.quiet; due = c.keep_pace.ensures.due }),
       (c.in_ok-remove.ensures, refl),
     )

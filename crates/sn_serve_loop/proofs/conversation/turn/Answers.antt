@@ -10,7 +10,7 @@ returns-in_err-receive-in-Part g c =
     let frames = c.args.connection.now.frames in (
       frames ++ came.0,
       true,
-      received g.F.FileSystem.did g.H.Host.tells g.F.FileSystem.stopped g.F.FileSystem.paces _ _ frames (frames ++ came.0) came.0 _ _ _ came.1 refl,
+      received g.F.FileSystem.did g.H.Host.tells g.H.Host.shows g.F.FileSystem.stopped g.F.FileSystem.paces _ _ frames (frames ++ came.0) came.0 _ _ _ came.1 refl,
       not_done _ _ c.from_residual.result c.from_residual.ensures.1,
       not_ended _ c.from_residual.result c.in_err-receive-in-Part.field-0.0 c.from_residual.ensures.1 c.in_err-receive-in-Part.ensures.why,
     )
@@ -20,7 +20,7 @@ returns-in-Whole g c = let v = c.exchange.ensures.conversation (g.R.Read.remaini
 
 pub returns-in-Broken : goal.returns-in-Broken
 returns-in-Broken g c =
-    (c.args.connection.now.frames, true, none_yet g.F.FileSystem.did g.H.Host.tells g.F.FileSystem.stopped g.F.FileSystem.paces _ _ _ _ _, tt, λ is. absurd (let never : Broken ≡ Ended = is in cc))
+    (c.args.connection.now.frames, true, none_yet g.F.FileSystem.did g.H.Host.tells g.H.Host.shows g.F.FileSystem.stopped g.F.FileSystem.paces _ _ _ _ _, tt, λ is. absurd (let never : Broken ≡ Ended = is in cc))
 
 pub returns-then-branch : goal.returns-then-branch
 returns-then-branch g c =
@@ -28,7 +28,7 @@ returns-then-branch g c =
     let frames = c.args.connection.now.frames in (
       frames ++ came.0,
       true,
-      received g.F.FileSystem.did g.H.Host.tells g.F.FileSystem.stopped g.F.FileSystem.paces _ _ frames (frames ++ came.0) came.0 _ _ _ came.1 refl,
+      received g.F.FileSystem.did g.H.Host.tells g.H.Host.shows g.F.FileSystem.stopped g.F.FileSystem.paces _ _ frames (frames ++ came.0) came.0 _ _ _ came.1 refl,
       (came.2, refl),
       tt,
     )
@@ -40,7 +40,7 @@ returns-else-branch g c =
     let frames = c.args.connection.now.frames in (
       c.receive.new.self,
       true,
-      received g.F.FileSystem.did g.H.Host.tells g.F.FileSystem.stopped g.F.FileSystem.paces _ _ frames c.receive.new.self came.0 _ _ _ came.1 came.2,
+      received g.F.FileSystem.did g.H.Host.tells g.H.Host.shows g.F.FileSystem.stopped g.F.FileSystem.paces _ _ frames c.receive.new.self came.0 _ _ _ came.1 came.2,
       tt,
       λ is. record { all = refl; part = ap front_of end.1 ∙ sym c.front.ensures ∙ c.in-Part.is; end = end.0 },
     )
