@@ -159,7 +159,7 @@ def script_lines(page):
     """What `mount` and `unmount` tell."""
     script = (TOP / "snapfs").read_text()
     script = script[script.index("# ---- Mounts") : script.index("--build ]")]
-    told = [re.sub(r"\$\w+", "IT", line) for line in re.findall(r'fail "([^$"][^"]*|\$\d[^"]*|\$source[^"]*)"', script)]
+    told = [re.sub(r"\$\w+", "IT", line) for line in re.findall(r'fail "([^$"][^"]*|\$(?:\d|source|to)[^"]*)"', script)]
     wrong, met = [], set()
     for words, _ in items(page["DIAGNOSTICS"])[0]:
         for term in terms(words):

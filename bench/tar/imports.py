@@ -255,12 +255,22 @@ def kinds():
     yield row("/d", [Entry("f", content=MARKED[:WRITE]), Entry("g", content=MARKED[: WRITE + 1])])
     yield row("/d", [Entry("a/", "5"), Entry("b/", "5"), Entry("a/c/", "5"), Entry("b/c/d/", "5"), Entry("a/", "5", 0o700)])
     yield row("/d", [Entry("/", "5", 0o700, 3, 4), Entry("f")])
+    yield "# A directory by the slash at the end of its path, of each kind of a file (bench/tar/imports.py)."
+    for kind in ("0", "\0", "7"):
+        own = Entry("d/", "5", 0o2750, 1, 2, kind=kind, access=ACL, acl=SHORT_ACL, shown=0o664, default=ACL, default_acl=SHORT_ACL)
+        yield row("/d", [own, Entry("d/f", content=b"x"), Entry("./", "5", 0o1770, 3, 4, kind=kind)])
+    yield row("/d", [Entry("f", "5", 0o4700), Entry("g")], raw=parts(pax({"path": "f/"}), Entry("n", mode=0o4700), Entry("g")))
+    yield row("/d", [Entry("f", mode=0o640), Entry("g")], raw=parts(pax({"path": "f"}), Entry("n/", mode=0o640), Entry("g")))
+    yield row("/d", [Entry("n" * 120 + "/", "5", kind="0"), FILE], style="gnu")
 
 
 def skipped():
     yield "# What isn't made, with its content, and what follows it (bench/tar/imports.py)."
     inner = archive([Entry("inner", content=b"y")], end=False)
     yield row("/d", [Entry("s", "2", link="f", fault="symbolic-link"), FILE])
+    for kind in ("0", "\0", "7"):
+        yield row("/d", [Entry("d/", "5", 0o750, content=inner, kind=kind), FILE])
+    yield row("/d", [Entry("d/", "5", content=inner, kind="0", user=2**32, fault="owner"), FILE])
     yield row("/d", [Entry("p", "6", fault="pipe"), Entry("c", "3", fault="device"), FILE])
     yield row("/d", [Entry("x", "A", content=inner, fault="kind"), FILE])
     yield row("/d", [Entry("../x", content=inner, fault="name"), FILE])
@@ -420,7 +430,8 @@ def paths():
     yield row("/d", [Entry("a\0b", fault="name"), AFTER], raw=parts(pax({"path": "a\0b"}), Entry("f"), archive([AFTER], end=False)))
     yield row("/d", [Entry("h", "1", fault="link"), AFTER], raw=parts(pax({"linkpath": "a\0b"}), Entry("h", "1", link="f"), archive([AFTER], end=False)))
     for name in (".", "/", "./", "//"):
-        yield row("/d", [Entry(name, fault="name-empty"), Entry("h", "1", link=name, fault="link-empty"), AFTER])
+        own = Entry(name, "5", 0o750, kind="0") if name.endswith("/") else Entry(name, fault="name-empty")
+        yield row("/d", [own, Entry("h", "1", link=name, fault="link-empty"), AFTER])
     yield row("/d", [Entry("../f", user=2**32, access="rw-", fault="name"), Entry("f", user=2**32, access="rw-", fault="owner"), Entry("h", "1", link="..", user=2**32, fault="link")])
     yield "# Names that an image has: of any bytes, absolute ones, the longest, and some with dots."
     for name in ("n" * 255, "\1" * 85, "/".join(["n" * 250] * 4) + "/" + "m" * 15, "a b\n", "100%", "%20", "\udcff\udcfe", "/abs/./f//", "...", "..f", "f..", ".f", "-f", "a\\b"):
@@ -432,6 +443,7 @@ def fronts():
     yield cuts("/d", [Entry("a/", "5", 0o750), Entry("a/f", content=content(5)), Entry("g", "1", link="a/f")])
     yield cuts("/", [Entry("f", user=2097152, content=content(5))], "pax")
     yield cuts("/d", [Entry("n" * 120, content=b"1")], "gnu")
+    yield cuts("/d", [Entry("a/", "5", 0o750, kind="7", content=content(600)), Entry("f")])
     yield cuts("/d", [Entry("k", "A", content=content(600), fault="kind"), Entry("f")])
 
 

@@ -207,6 +207,44 @@ def long_names():
     yield case(huge.info().tobuf(tarfile.GNU_FORMAT) + content(512), [huge], f"content:{content(512).hex()} damaged", False)
 
 
+def slashed():
+    """Entries of the kinds of files, by their paths files or directories."""
+    yield "# An entry of the kind of a file whose path ends in a slash is a directory, and its content is passed over; GNU tar makes the same."
+    after = Entry("after", content=b"2")
+    for kind in ("0", "\0", "7"):
+        for size in (0, 1, 700):
+            entries = [Entry("d/", "5", 0o2751, 1000, 100, content=content(size), kind=kind), after]
+            yield extracted(made(entries, "ustar"), entries)
+    for style, path in (("ustar", "q" * 80 + "/" + "r" * 80 + "/"), ("gnu", "p/" * 60), ("gnu", "n" * 150 + "/"), ("pax", "n" * 150 + "/"), ("pax", "caf\u00e9//"), ("pax", "./")):
+        entries = [Entry(path, "5", 0o1750, 1000, 100, kind="0"), after]
+        yield extracted(made(entries, style), entries)
+    yield "# What counts is the path that is said last: of a record, else of a long name, else of the head."
+    tail = after.info().tobuf(tarfile.USTAR_FORMAT) + filled(after.content) + bytes(1024)
+    file, directory = (Entry(path, kind="0").info().tobuf(tarfile.USTAR_FORMAT) for path in ("f", "d/"))
+    yield extracted(pax({"path": "g/"}) + file + tail, [Entry("g/", "5"), after])
+    yield extracted(pax({"path": "g"}) + directory + tail, [Entry("g"), after])
+    yield extracted(pax({"path": "g"}) + pax({"path": "h/"}) + file + tail, [Entry("h/", "5"), after])
+    long = Entry("n" * 150 + "/", kind="0").info().tobuf(tarfile.GNU_FORMAT)
+    yield extracted(pax({"path": "g"}) + long + tail, [Entry("g"), after])
+    yield extracted(pax({"path": "g", "comment": "/"}) + file + tail, [Entry("g"), after])
+    yield "# Other kinds stay what they are."
+    for letter in "1ADV":
+        entries = [Entry("k/", letter, link="f" if letter == "1" else "", kind=letter), after]
+        yield case(made(entries, "ustar"), entries, check=False)
+
+
+def extracted(raw, entries):
+    """A case of files and directories, of which GNU tar makes the same. Where a directory has content it complains, and goes on after that."""
+    with tempfile.TemporaryDirectory() as folder:
+        ran = subprocess.run(["tar", "-xpf", "-"], input=raw, cwd=folder, capture_output=True)
+        assert ran.returncode == (2 if any(it.letter == "5" and it.content for it in entries) else 0), ran.stderr
+        for it in entries:
+            found = Path(folder) / it.path
+            assert (found.is_dir(), found.stat().st_mode & 0o7777) == (it.letter == "5", it.mode), it.path
+            assert it.letter == "5" or found.read_bytes() == it.content, it.path
+    return case(raw, entries, check=False)
+
+
 def by_tar():
     """Archives by GNU tar of a small tree, in each of its formats."""
     yield "# Archives by GNU tar 1.34, in each of its formats."
@@ -366,7 +404,7 @@ ACLS = {
 
 
 def main():
-    streams = [row for rows in (kinds(), records(), long_names(), by_tar(), damage()) for row in rows]
+    streams = [row for rows in (kinds(), records(), long_names(), slashed(), by_tar(), damage()) for row in rows]
     for name, rows in (("streams", streams), ("places", places()), ("accounts", accounts())):
         (DATA / f"{name}.txt").write_text("\n".join(rows) + "\n")
 

@@ -126,7 +126,7 @@ pub(crate) fn serve_on<
     ensures told { AppendsFront (E.contents err.old) (E.contents err.new) (left_alone_line image.now) }
     ensures words { IfErr result (λ why. why ≢ fault.Usage) }
 {
-    let opened = FileDevice::open(rt.alloc(), rt, image);
+    let opened = FileDevice::open_soon(rt.alloc(), rt, image);
     let device = on_file(Which::Image, opened)?;
     serve_from(rt, image, device, asked, input, out, err)
 }

@@ -106,11 +106,26 @@ fn take_step(
         }
         "create" => create(host, alloc, devices, value, text),
         "open" => hold(devices, FileDevice::open(alloc, host, value), text),
+        "soon" => hold(devices, FileDevice::open_soon(alloc, host, value), text),
+        "lend" => lend(host, value),
+        "slept" => push_slept(host, text),
         "read" => hold(devices, FileDevice::open_to_read(alloc, host, value), text),
         "close" => close(devices),
         "save" => save(host, alloc, devices, value, text),
         _ => call(devices, step, text),
     }
+}
+
+fn lend(host: &Host<'_>, value: &str) -> Result<()> {
+    let (path, pauses) = pair_of(value)?;
+    Ok(host.lend(path, number_of(pauses)?)?)
+}
+
+fn push_slept(host: &Host<'_>, text: &mut String) -> Result<()> {
+    push_number(
+        text,
+        u64::try_from(host.slept().as_millis()).unwrap_or(u64::MAX),
+    )
 }
 
 fn create(

@@ -4,16 +4,21 @@ use sn_filedev::LockFile;
 use std::alloc::Allocator;
 use std::cell::Cell;
 use std::fs::{File, Files, Metadata, OpenFile, OpenOptions, TryLockError};
-use std::io;
 use std::io::{Read, Seek, SeekFrom, Write};
 use std::os::unix::fs::FileExt;
 use std::path::PathBuf;
+use std::time::{Clock, Duration};
+use std::{fs, io};
 
 /// The files of the system. The sync of a folder fails once it is told to.
 #[derive(Drop)]
 pub struct Host<'a> {
     rt: &'a HostRuntime,
     fails: Cell<bool>,
+    /// What another program has locked, and for how many pauses more.
+    others: Cell<Option<File>>,
+    pauses_left: Cell<u32>,
+    slept: Cell<Duration>,
 }
 
 impl<'a> Host<'a> {
@@ -22,12 +27,49 @@ impl<'a> Host<'a> {
         Host {
             rt,
             fails: Cell::new(false),
+            others: Cell::new(None),
+            pauses_left: Cell::new(0),
+            slept: Cell::new(Duration::ZERO),
         }
+    }
+
+    /// Another program has a file locked for so many pauses.
+    pub fn lend(&self, path: &str, pauses: u32) -> io::Result<()> {
+        let file = fs::open(self.rt, path)?;
+        file.try_lock_shared()
+            .map_err(|_| io::Error::from(io::ErrorKind::Other))?;
+        self.others.set(Some(file));
+        self.pauses_left.set(pauses);
+        Ok(())
+    }
+
+    /// How long all pauses were.
+    pub fn slept(&self) -> Duration {
+        self.slept.get()
     }
 
     /// The sync of a folder that is opened from now on fails.
     pub fn fail(&self) {
         self.fails.set(true);
+    }
+}
+
+impl<'a> Clock for Host<'a> {
+    fn monotonic(&self) -> io::Result<Duration> {
+        self.rt.monotonic()
+    }
+
+    fn since_1970(&self) -> io::Result<Duration> {
+        self.rt.since_1970()
+    }
+
+    fn sleep(&self, duration: Duration) {
+        self.slept.set(self.slept.get().saturating_add(duration));
+        self.pauses_left
+            .set(self.pauses_left.get().saturating_sub(1));
+        if self.pauses_left.get() == 0 {
+            self.others.set(None);
+        }
     }
 }
 
