@@ -32,18 +32,28 @@ from spelling import message_of, reply_of  # noqa: E402
 FOLDER = TOP / "crates/sn_tests_serving/data/conversations"
 DRAWN = ("drawn.txt", "drawn_times.txt", "drawn_kernel.txt", "drawn_failing.txt")
 
+
+
+def sender(process, user, group, groups):
+    """What is told of a process of this user and group."""
+    return f"? {process} Name:%09sh%0AUid:{4 * f'%09{user}'}%0AGid:{4 * f'%09{group}'}%0AGroups:%09{groups} %0A"
+
+
 SENDERS = [
-    "? 70 Name:%09sh%0AGroups:%09 %0A",
-    "? 71 Name:%09sh%0AGroups:%0950 60 %0A",
+    sender(70, 1001, 100, ""),
+    sender(170, 1002, 50, ""),
+    sender(270, 1003, 100, ""),
+    sender(71, 1001, 100, "50 60"),
+    sender(171, 1002, 60, "50 60"),
     "? 72 -",
-    f"? 73 Name:%09sh%0AGroups:%09{' '.join(map(str, range(30, 63)))} %0A",
-    "? 74 Name:%09sh%0AGroups:%0950 65534 %0A",
-    f"? 75 Name:%09sh%0AGroups:%09{' '.join(map(str, range(20, 52)))} %0A",
+    sender(73, 1001, 100, " ".join(map(str, range(30, 63)))),
+    sender(74, 1001, 50, "50 65534"),
+    sender(75, 1002, 100, " ".join(map(str, range(20, 52)))),
 ]
-# Who asks: user 0, whose groups aren't read, others, and those whose groups aren't known.
+# Who asks: user 0, whose groups aren't read, others, and those whose groups aren't known, of whom the last but one has another's process.
 ROOTS = ("0:0", "0:0", "0:0", "0:50:72")
-OTHERS = ("1001:100:70", "1001:100:71", "1002:50:70", "1002:60:71", "1002:100:75", "1003:100:70")
-UNKNOWN = ("1001:100:72", "1001:100:73", "1001:50:74", "1002:50:99", "1003:60")
+OTHERS = ("1001:100:70", "1001:100:71", "1002:50:170", "1002:60:171", "1002:100:75", "1003:100:270")
+UNKNOWN = ("1001:100:72", "1001:100:73", "1001:50:74", "1002:50:70", "1003:60")
 
 NAMES = ("a", "b", "c", "d", "e", "f", "a%20b", "%41", "é", ".a")
 SNAPSHOTS = ("s", "t", "s", "t", "s", "t", "old", "a@b", "..")

@@ -5,6 +5,7 @@ image of 4,096 blocks, until a point is made.
 """
 
 import os
+import re
 import struct
 import sys
 from pathlib import Path
@@ -46,13 +47,27 @@ class Senders:
         words = [line.split(" ", 2)[1:] for line in lines if line not in ("? map whole", "? kernel") and not line.startswith("? clock ")]
         self.statuses = {int(process): text.replace("%0A", "\n").replace("%09", "\t") for process, text in reversed(words) if text != "-"}
 
-    def groups(self, process):
-        """The groups of a process, None where they aren't known or there are too many."""
+    def value(self, process, name):
+        """What is told of a process in the only line that begins with a name, None where there is no such line."""
         text = self.statuses.get(process, "")
-        lists = [line[7:] for line in text[:-1].split("\n") if line.startswith("Groups:")]
-        if text[-1:] != "\n" or len(lists) != 1:
+        values = [line[len(name) :] for line in text[:-1].split("\n") if line.startswith(name)]
+        return values[0] if text[-1:] == "\n" and len(values) == 1 else None
+
+    def file_system_id(self, process, name):
+        """The last of four numbers, as Linux spells them."""
+        value = self.value(process, name) or ""
+        return int(value.split("\t")[4]) if re.fullmatch(r"(\t(0|[1-9]\d*)){4}", value) else None
+
+    def ids(self, process):
+        """The user and the group of a process for the file system."""
+        return self.file_system_id(process, "Uid:"), self.file_system_id(process, "Gid:")
+
+    def groups(self, process, user, group):
+        """The groups of a process, None where they aren't known, there are too many, or it has another user or group."""
+        listed = self.value(process, "Groups:")
+        if listed is None or self.ids(process) != (user, group):
             return None
-        words = lists[0].replace("\t", " ").split()
+        words = listed.replace("\t", " ").split()
         if len(words) > MOST_GROUPS or any(str(int(word)) != word for word in words):
             return None
         hidden = str(UNMAPPED) in words and not self.maps_all
@@ -245,7 +260,7 @@ class Server:
     def as_caller(self, *calls):
         """Calls as who asks, each made of the reply to the one before."""
         user, group, process = self.asks
-        groups = "-" if user == 0 else self.senders.groups(process)
+        groups = "-" if user == 0 else self.senders.groups(process, user, group)
         if groups is None:
             raise No("EACCES")
         self.call(1, f"login {user} {group} {groups}")

@@ -33,12 +33,13 @@ class Processes:
     def __init__(self, lines):
         told, self.real, self.ends = Senders(lines), {}, []
         for process in told.statuses:
-            groups = told.groups(process)
+            user, group = told.ids(process)
+            groups = told.groups(process, user, group)
             if groups is not None:
-                self.real[process] = self.start([int(group) for group in groups.split(",")] if groups != "-" else [])
+                self.real[process] = self.start([int(group) for group in groups.split(",")] if groups != "-" else [], user, group)
 
-    def start(self, groups):
-        """A process with these groups, which ends with the pipe."""
+    def start(self, groups, user, group):
+        """A process of this user and these groups, which ends with the pipe."""
         waits, ends = os.pipe()
         ready, tells = os.pipe()
         process = os.fork()
@@ -46,6 +47,8 @@ class Processes:
             for end in (ends, ready, *self.ends):
                 os.close(end)
             os.setgroups(groups)
+            os.setgid(group)
+            os.setuid(user)
             os.write(tells, b"1")
             os.read(waits, 1)
             os._exit(0)

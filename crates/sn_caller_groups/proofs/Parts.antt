@@ -5,17 +5,25 @@ use Rattle.std.specs.List.{AllByRecursion, position_or_len, slice_split}
 use Rattle.std.specs.Option.{option_to_list}
 use Rattle.std.proofs.lemmas.Bool.{cases_Bool, lt-ltb, ltb-true}
 use Rattle.std.proofs.lemmas.List.Elements.{All-from_recursion}
-use Rattle.std.proofs.lemmas.List.Splits.{slice_split_at, slice_split_first, slice_split_none}
+use Rattle.std.proofs.lemmas.List.Splits.{length-slice_split, slice_split_at, slice_split_first, slice_split_none}
 use Rattle.sn_caller_groups.specs.declared.groups.GroupsFault.{GroupsFault}
-use Rattle.sn_caller_groups.specs.Status.{after, is_blank, is_line_end, list_in, lists_in, number_of, read_groups, with_group}
+use Rattle.sn_caller_groups.specs.Status.{after, fourth_of, is_blank, is_line_end, number_of, read_groups, value_in, values_in, with_group}
+use Rattle.sn_caller_groups.specs.declared.status.Field.{Field}
+use Rattle.sn_caller_groups.specs.declared.status.Field.TheVariants.{Group, Groups, User}
 
-pub first_line : (lines line others : List ℕ) → lines ≡ line ++ 10 ∷ others → All (λ b. is_line_end b ≡ false) line
-    → lists_in (slice_split is_line_end lines) ≡ option_to_list (list_in line) ++ lists_in (slice_split is_line_end others)
-first_line lines line others whole plain =
-    ap (λ t. lists_in (slice_split is_line_end t)) whole ∙ ap lists_in (slice_split_at is_line_end line 10 others plain refl)
+pub first_line : (field : Field) (lines line others : List ℕ) → lines ≡ line ++ 10 ∷ others → All (λ b. is_line_end b ≡ false) line
+    → values_in field (slice_split is_line_end lines) ≡ option_to_list (value_in field line) ++ values_in field (slice_split is_line_end others)
+first_line field lines line others whole plain =
+    ap (λ t. values_in field (slice_split is_line_end t)) whole ∙ ap (values_in field) (slice_split_at is_line_end line 10 others plain refl)
 
-pub last_line : (line : List ℕ) → All (λ b. is_line_end b ≡ false) line → lists_in (slice_split is_line_end line) ≡ option_to_list (list_in line) ++ []
-last_line line plain = ap lists_in (slice_split_none is_line_end line plain)
+pub last_line : (field : Field) (line : List ℕ) → All (λ b. is_line_end b ≡ false) line → values_in field (slice_split is_line_end line) ≡ option_to_list (value_in field line) ++ []
+last_line field line plain = ap (values_in field) (slice_split_none is_line_end line plain)
+
+-- no field has an empty name
+pub no_line : (field : Field) → values_in field (slice_split is_line_end []) ≡ []
+no_line User = refl
+no_line Group = refl
+no_line Groups = refl
 
 place_of : (xs : List ℕ) (at : ℕ) → position is_blank xs ≡ Some at → (position_or_len is_blank xs ≡ at) × (position_or_len is_blank xs < length xs)
 place_of xs at found =
@@ -59,3 +67,13 @@ pub added : (all_mapped : Bool) (groups word : List ℕ) (words : List (List ℕ
 added all_mapped groups word words result e is =
     ap (λ (b : Bool). cond b (read_groups all_mapped groups words) (after (with_group all_mapped groups (number_of word)) (λ more. read_groups all_mapped more words))) e
     ∙ ap (λ (r : Result (List ℕ) GroupsFault). after r (λ more. read_groups all_mapped more words)) is
+
+-- ---- the words of ids
+
+fifth : (before real effective saved own : List ℕ) (words : List (List ℕ)) → 0 < length words → fourth_of (before ∷ real ∷ effective ∷ saved ∷ own ∷ words) ≡ None
+fifth before real effective saved own [] some = absurd (omega (arith, some))
+fifth before real effective saved own (word ∷ words) some = refl
+
+-- where one more follows they aren't four
+pub more_words : (before real effective saved own rest : List ℕ) → fourth_of (before ∷ real ∷ effective ∷ saved ∷ own ∷ slice_split is_blank rest) ≡ None
+more_words before real effective saved own rest = fifth before real effective saved own (slice_split is_blank rest) (omega (arith, length-slice_split is_blank rest))

@@ -1,15 +1,17 @@
 -- A text is read as groups exactly where it lists them.
 use Rattle.std.proofs.Common.{◌≡◌, ℕ, ◌+◌, ◌-◌, ◌^◌, ◌<◌, ◌≤◌, ◌==◌, Bool, true, false, cond, not, List, [], ◌∷◌, ◌++◌, length, take, drop, map, Option, Some, None, Result, refl, sym, ap, subst, ◌∙◌, append_assoc, length-append, arith}
-use Rattle.std.specs.Prelude.{◌&&◌, Err, Ok, decimal, filter, nat_le}
+use Rattle.std.specs.Prelude.{◌&&◌, Err, Ok, decimal, filter, is_some, nat_le}
 use Rattle.std.specs.List.{AllByRecursion, slice_split}
 use Rattle.std.specs.Str.{bytes_eq}
-use Rattle.std.proofs.lemmas.Bool.{lt-ltb, ltb-true}
+use Rattle.std.proofs.lemmas.Bool.{eq-eqb, eqb-true, lt-ltb, ltb-true}
 use Rattle.std.proofs.lemmas.List.{append-nil, take-append-drop}
 use Rattle.std.proofs.lemmas.Slice.Eq.{bytes_eq-Decides}
 use Rattle.std.proofs.Math.Seq.{drop-append_seam, take-append_seam}
 use Rattle.sn_caller_groups.specs.declared.groups.GroupsFault.{GroupsFault}
-use Rattle.sn_caller_groups.specs.declared.groups.GroupsFault.TheVariants.{TooMany, Unmapped}
-use Rattle.sn_caller_groups.specs.Status.{AreShown, Lists, after, groups_in, groups_of, is_blank, is_hidden, is_line_end, is_some_word, list_of, lists_in, number_of, only, read_groups, with_group}
+use Rattle.sn_caller_groups.specs.declared.groups.GroupsFault.TheVariants.{OtherIds, TooMany, Unmapped}
+use Rattle.sn_caller_groups.specs.Status.{AreShown, Lists, Tells, after, fourth_in, fourth_of, groups_for, groups_in, groups_of, is_blank, is_hidden, is_id, is_line_end, is_some_word, number_of, only, read_groups, tells, value_of, values_in, with_group}
+use Rattle.sn_caller_groups.specs.declared.status.Field.{Field}
+use Rattle.sn_caller_groups.specs.declared.status.Field.TheVariants.{Group, Groups, User}
 use Rattle.sn_caller_groups.proofs.Numbers.{number_again, number_takes}
 use Rattle.sn_caller_groups.proofs.Parts.{added, skipped}
 
@@ -104,21 +106,106 @@ passed : (b : Bool) (o : Option (List ℕ)) (list : List ℕ) → cond b o None 
 passed true o list e = (refl, e)
 passed false o list e = absurd cc
 
-list_takes : (text list : List ℕ) → list_of text ≡ Some list → (lines : List ℕ) × (text ≡ lines ++ 10 ∷ []) × (lists_in (slice_split is_line_end lines) ≡ list ∷ [])
-list_takes text list e =
+value_takes : (field : Field) (text value : List ℕ) → value_of field text ≡ Some value → (lines : List ℕ) × (text ≡ lines ++ 10 ∷ []) × (values_in field (slice_split is_line_end lines) ≡ value ∷ [])
+value_takes field text value e =
     let lines = take (length text - 1) text in
-    let t = passed (bytes_eq (drop (length text - 1) text) (10 ∷ [])) (only (lists_in (slice_split is_line_end lines))) list e in
+    let t = passed (bytes_eq (drop (length text - 1) text) (10 ∷ [])) (only (values_in field (slice_split is_line_end lines))) value e in
     let end : drop (length text - 1) text ≡ 10 ∷ [] = (bytes_eq-Decides (drop (length text - 1) text) (10 ∷ [])).0 t.0 in
-    (lines, sym (take-append-drop (length text - 1) text) ∙ ap (λ (rest : List ℕ). lines ++ rest) end, only_takes (lists_in (slice_split is_line_end lines)) list t.1)
+    (lines, sym (take-append-drop (length text - 1) text) ∙ ap (λ (rest : List ℕ). lines ++ rest) end, only_takes (values_in field (slice_split is_line_end lines)) value t.1)
 
-list_again : (lines list : List ℕ) → lists_in (slice_split is_line_end lines) ≡ list ∷ [] → list_of (lines ++ 10 ∷ []) ≡ Some list
-list_again lines list one =
+value_again : (field : Field) (lines value : List ℕ) → values_in field (slice_split is_line_end lines) ≡ value ∷ [] → value_of field (lines ++ 10 ∷ []) ≡ Some value
+value_again field lines value one =
     let text = lines ++ 10 ∷ [] in
     let most : length text - 1 ≡ length lines = omega (arith, length-append lines (10 ∷ [])) in
     let end : bytes_eq (drop (length text - 1) text) (10 ∷ []) ≡ true = (bytes_eq-Decides (drop (length text - 1) text) (10 ∷ [])).1 (ap (λ n. drop n text) most ∙ drop-append_seam lines (10 ∷ [])) in
     let front : take (length text - 1) text ≡ lines = ap (λ n. take n text) most ∙ take-append_seam lines (10 ∷ []) in
-    ap (λ (b : Bool). cond b (only (lists_in (slice_split is_line_end (take (length text - 1) text)))) None) end
-    ∙ ap (λ (xs : List ℕ). only (lists_in (slice_split is_line_end xs))) front ∙ ap only one
+    ap (λ (b : Bool). cond b (only (values_in field (slice_split is_line_end (take (length text - 1) text)))) None) end
+    ∙ ap (λ (xs : List ℕ). only (values_in field (slice_split is_line_end xs))) front ∙ ap only one
+
+-- ---- the ids
+
+some_number : (word : List ℕ) (o : Option ℕ) → number_of word ≡ o → is_some o ≡ true → (n : ℕ) × (word ≡ decimal n) × (n < 2 ^ 32)
+some_number word None is some = absurd cc
+some_number word (Some n) is some = let t = number_takes n word is in (n, t.0, t.1)
+
+no_bytes : (word : List ℕ) → (length word == 0) ≡ true → word ≡ []
+no_bytes [] e = refl
+no_bytes (byte ∷ word) e = absurd (omega (arith, eqb-true (length (byte ∷ word)) 0 e))
+
+all_pass : (a b c d : Bool) (o : Option ℕ) (id : ℕ) → cond (a && (b && (c && d))) o None ≡ Some id → (a ≡ true) × (b ≡ true) × (c ≡ true) × (d ≡ true) × (o ≡ Some id)
+all_pass true true true true o id e = (refl, refl, refl, refl, e)
+all_pass true true true false o id e = absurd cc
+all_pass true true false d o id e = absurd cc
+all_pass true false c d o id e = absurd cc
+all_pass false b c d o id e = absurd cc
+
+record AreFour (words : List (List ℕ)) (id : ℕ) : Type 0 where
+  real : ℕ
+  effective : ℕ
+  saved : ℕ
+  spelled : words ≡ [] ∷ map decimal (real ∷ effective ∷ saved ∷ id ∷ [])
+  numbers : AllByRecursion (λ n. n < 2 ^ 32) (real ∷ effective ∷ saved ∷ id ∷ [])
+
+four_take : (words : List (List ℕ)) (id : ℕ) → fourth_of words ≡ Some id → AreFour words id
+four_take [] id e = absurd cc
+four_take (before ∷ []) id e = absurd cc
+four_take (before ∷ real ∷ []) id e = absurd cc
+four_take (before ∷ real ∷ effective ∷ []) id e = absurd cc
+four_take (before ∷ real ∷ effective ∷ saved ∷ []) id e = absurd cc
+four_take (before ∷ real ∷ effective ∷ saved ∷ own ∷ []) id e =
+    let t = all_pass (length before == 0) (is_some (number_of real)) (is_some (number_of effective)) (is_some (number_of saved)) (number_of own) id e in
+    let r = some_number real (number_of real) refl t.1 in
+    let f = some_number effective (number_of effective) refl t.2 in
+    let s = some_number saved (number_of saved) refl t.3 in
+    let o = number_takes id own t.4 in
+    let none = no_bytes before t.0 in
+    record {
+      real = r.0;
+      effective = f.0;
+      saved = s.0;
+      spelled =
+          ap (λ (w : List ℕ). w ∷ real ∷ effective ∷ saved ∷ own ∷ []) none
+          ∙ ap (λ (w : List ℕ). [] ∷ w ∷ effective ∷ saved ∷ own ∷ []) r.1
+          ∙ ap (λ (w : List ℕ). [] ∷ decimal r.0 ∷ w ∷ saved ∷ own ∷ []) f.1
+          ∙ ap (λ (w : List ℕ). [] ∷ decimal r.0 ∷ decimal f.0 ∷ w ∷ own ∷ []) s.1
+          ∙ ap (λ (w : List ℕ). [] ∷ decimal r.0 ∷ decimal f.0 ∷ decimal s.0 ∷ w ∷ []) o.0;
+      numbers = (r.2, (f.2, (s.2, (o.1, tt))));
+    }
+four_take (before ∷ real ∷ effective ∷ saved ∷ own ∷ more ∷ words) id e = absurd cc
+
+id_in : (o : Option (List ℕ)) (id : ℕ) → is_id id (fourth_in o) ≡ true → (value : List ℕ) × (o ≡ Some value) × (fourth_of (slice_split is_blank value) ≡ Some id)
+id_in None id e = absurd cc
+id_in (Some value) id e = (value, refl, same_id (fourth_of (slice_split is_blank value)) e)
+  where
+    same_id : (o : Option ℕ) → is_id id o ≡ true → o ≡ Some id
+    same_id None e = absurd cc
+    same_id (Some n) e = ap (λ (n : ℕ). Some n) (eqb-true n id e)
+
+tells_takes : (field : Field) (text : List ℕ) (id : ℕ) → tells field id text ≡ true → Tells field text id
+tells_takes field text id e =
+    let found = id_in (value_of field text) id e in
+    let parts = value_takes field text found.0 found.1 in
+    let four = four_take (slice_split is_blank found.0) id found.2 in
+    record {
+      lines = parts.0;
+      ended = parts.1;
+      value = found.0;
+      only_value = parts.2;
+      real = four.real;
+      effective = four.effective;
+      saved = four.saved;
+      words = four.spelled;
+      numbers = four.numbers;
+    }
+
+four_again : (real effective saved id : ℕ) → AllByRecursion (λ n. n < 2 ^ 32) (real ∷ effective ∷ saved ∷ id ∷ []) → fourth_of ([] ∷ map decimal (real ∷ effective ∷ saved ∷ id ∷ [])) ≡ Some id
+four_again real effective saved id small = rw (number_again real small.0, number_again effective small.1.0, number_again saved small.1.1.0, number_again id small.1.1.1.0) refl
+
+tells_again : (field : Field) (text : List ℕ) (id : ℕ) → Tells field text id → tells field id text ≡ true
+tells_again field text id told =
+    let value = ap (λ (t : List ℕ). value_of field t) told.ended ∙ value_again field told.lines told.value told.only_value in
+    let four = ap fourth_of told.words ∙ four_again told.real told.effective told.saved id told.numbers in
+    ap (λ (o : Option (List ℕ)). is_id id (fourth_in o)) value ∙ ap (is_id id) four ∙ eq-eqb id id refl
 
 -- ---- both
 
@@ -126,16 +213,32 @@ in_takes : (all_mapped : Bool) (o : Option (List ℕ)) (groups : List ℕ) → g
 in_takes all_mapped None groups e = absurd cc
 in_takes all_mapped (Some list) groups e = (list, refl, e)
 
-pub read_is_listed : (all_mapped : Bool) (text groups : List ℕ) → groups_of all_mapped text ≡ Ok groups → Lists text groups × (length groups ≤ 32) × AreShown all_mapped groups
-read_is_listed all_mapped text groups e =
-    let found = in_takes all_mapped (list_of text) groups e in
-    let parts = list_takes text found.0 found.1 in
+listed_takes : (all_mapped : Bool) (text groups : List ℕ) → groups_of all_mapped text ≡ Ok groups → Lists text groups × (length groups ≤ 32) × AreShown all_mapped groups
+listed_takes all_mapped text groups e =
+    let found = in_takes all_mapped (value_of Groups text) groups e in
+    let parts = value_takes Groups text found.0 found.1 in
     let t = words_take all_mapped [] (slice_split is_blank found.0) groups (omega arith) found.2 in
     let same : groups ≡ t.0 = t.1 in
     subst (λ (gs : List ℕ). Lists text gs × (length gs ≤ 32) × AreShown all_mapped gs) (sym same)
     (record { lines = parts.0; ended = parts.1; list = found.0; only_list = parts.2; words = t.2; numbers = t.3 }, subst (λ (gs : List ℕ). length gs ≤ 32) same t.5, t.4)
 
-pub listed_is_read : (all_mapped : Bool) (text groups : List ℕ) → Lists text groups → length groups ≤ 32 → AreShown all_mapped groups → groups_of all_mapped text ≡ Ok groups
-listed_is_read all_mapped text groups lists few shown =
-    ap (λ (t : List ℕ). groups_of all_mapped t) lists.ended ∙ ap (groups_in all_mapped) (list_again lists.lines lists.list lists.only_list)
+listed_again : (all_mapped : Bool) (text groups : List ℕ) → Lists text groups → length groups ≤ 32 → AreShown all_mapped groups → groups_of all_mapped text ≡ Ok groups
+listed_again all_mapped text groups lists few shown =
+    ap (λ (t : List ℕ). groups_of all_mapped t) lists.ended ∙ ap (groups_in all_mapped) (value_again Groups lists.lines lists.list lists.only_list)
     ∙ words_again all_mapped (slice_split is_blank lists.list) [] groups lists.words lists.numbers shown (omega (arith, few))
+
+both_pass : (a b : Bool) (r : Result (List ℕ) GroupsFault) (groups : List ℕ) → cond (a && b) r (Err OtherIds) ≡ Ok groups → (a ≡ true) × (b ≡ true) × (r ≡ Ok groups)
+both_pass true true r groups e = (refl, refl, e)
+both_pass true false r groups e = absurd cc
+both_pass false b r groups e = absurd cc
+
+pub read_is_listed : (user group : ℕ) (all_mapped : Bool) (text groups : List ℕ) → groups_for user group all_mapped text ≡ Ok groups
+    → Tells User text user × Tells Group text group × Lists text groups × (length groups ≤ 32) × AreShown all_mapped groups
+read_is_listed user group all_mapped text groups e =
+    let t = both_pass (tells User user text) (tells Group group text) (groups_of all_mapped text) groups e in
+    let l = listed_takes all_mapped text groups t.2 in
+    (tells_takes User text user t.0, tells_takes Group text group t.1, l.0, l.1, l.2)
+
+pub listed_is_read : (user group : ℕ) (all_mapped : Bool) (text groups : List ℕ) → Tells User text user → Tells Group text group → Lists text groups → length groups ≤ 32
+    → AreShown all_mapped groups → groups_for user group all_mapped text ≡ Ok groups
+listed_is_read user group all_mapped text groups theirs its lists few shown = rw (tells_again User text user theirs, tells_again Group text group its) (listed_again all_mapped text groups lists few shown)

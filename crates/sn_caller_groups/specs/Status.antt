@@ -1,35 +1,42 @@
 -- The supplementary groups in a text of /proc/PID/status: proc_pid_status(5).
-use Rattle.std.specs.Prelude.{◌≡◌, ℕ, ◌-◌, ◌^◌, ◌<◌, ◌==◌, ◌&&◌, ◌||◌, Bool, false, not, nat_le, nat_lt, if◌then◌else◌, List, [], ◌∷◌, ◌++◌, length, take, drop, map, filter, Option, None, Some, Result, Ok, Err, codes, decimal}
+use Rattle.std.specs.Prelude.{◌≡◌, ℕ, ◌-◌, ◌^◌, ◌<◌, ◌==◌, ◌&&◌, ◌||◌, Bool, false, not, nat_le, nat_lt, if◌then◌else◌, List, [], ◌∷◌, ◌++◌, length, take, drop, map, filter, Option, None, Some, is_some, Result, Ok, Err, codes, decimal}
 use Rattle.std.specs.List.{AllByRecursion, slice_split}
 use Rattle.std.specs.Option.{option_to_list}
 use Rattle.std.specs.Str.{bytes_eq}
 use Rattle.std.specs.Str.Parse.{digits_value}
 use Rattle.sn_caller_groups.specs.declared.groups.GroupsFault.{GroupsFault}
-use Rattle.sn_caller_groups.specs.declared.groups.GroupsFault.TheVariants.{TooMany, Unmapped, Unreadable}
+use Rattle.sn_caller_groups.specs.declared.groups.GroupsFault.TheVariants.{OtherIds, TooMany, Unmapped, Unreadable}
+use Rattle.sn_caller_groups.specs.declared.status.Field.{Field}
+use Rattle.sn_caller_groups.specs.declared.status.Field.TheVariants.{Group, Groups, User}
 
--- ---- the list
+-- ---- the fields
 
 abbrev pub is_line_end : ℕ → Bool
 is_line_end b = b == 10
 
--- what follows the name of the field in a line that lists groups
-abbrev pub list_in : List ℕ → Option (List ℕ)
-list_in line = if bytes_eq (take 7 line) (codes "Groups:") then Some (drop 7 line) else None
+abbrev pub name_of : Field → List ℕ
+name_of User = codes "Uid:"
+name_of Group = codes "Gid:"
+name_of Groups = codes "Groups:"
 
--- the lists of such lines
-abbrev pub lists_in : List (List ℕ) → List (List ℕ)
-lists_in [] = []
-lists_in (line ∷ lines) = option_to_list (list_in line) ++ lists_in lines
+-- what follows the name of a field in a line that has it
+abbrev pub value_in : Field → List ℕ → Option (List ℕ)
+value_in field line = if bytes_eq (take (length (name_of field)) line) (name_of field) then Some (drop (length (name_of field)) line) else None
+
+-- the values of such lines
+abbrev pub values_in : Field → List (List ℕ) → List (List ℕ)
+values_in field [] = []
+values_in field (line ∷ lines) = option_to_list (value_in field line) ++ values_in field lines
 
 abbrev pub only : List (List ℕ) → Option (List ℕ)
-only (list ∷ []) = Some list
+only (value ∷ []) = Some value
 only _ = None
 
--- the list of a text that consists of lines, each with a line end after it, one of which lists groups
-abbrev pub list_of : List ℕ → Option (List ℕ)
-list_of text = if bytes_eq (drop (length text - 1) text) (10 ∷ []) then only (lists_in (slice_split is_line_end (take (length text - 1) text))) else None
+-- the value of a field in a text that consists of lines, each with a line end after it, one of which has the field
+abbrev pub value_of : Field → List ℕ → Option (List ℕ)
+value_of field text = if bytes_eq (drop (length text - 1) text) (10 ∷ []) then only (values_in field (slice_split is_line_end (take (length text - 1) text))) else None
 
--- ---- the groups
+-- ---- words
 
 -- a space or a tab
 abbrev pub is_blank : ℕ → Bool
@@ -38,6 +45,28 @@ is_blank b = (b == 32) || (b == 9)
 -- the number of 32 bits that a word is, in decimal without zeros before it
 unfoldable pub number_of : List ℕ → Option ℕ
 number_of word = let n = digits_value 10 word in if bytes_eq word (decimal n) && nat_lt n (2 ^ 32) then Some n else None
+
+-- ---- the ids
+
+-- The last of four numbers with a blank before each: the real id, the effective one, that of the saved set, and that of the file system.
+abbrev pub fourth_of : List (List ℕ) → Option ℕ
+fourth_of (before ∷ real ∷ effective ∷ saved ∷ file_system ∷ []) =
+    if length before == 0 && (is_some (number_of real) && (is_some (number_of effective) && is_some (number_of saved))) then number_of file_system else None
+fourth_of _ = None
+
+abbrev pub fourth_in : Option (List ℕ) → Option ℕ
+fourth_in None = None
+fourth_in (Some value) = fourth_of (slice_split is_blank value)
+
+abbrev pub is_id : ℕ → Option ℕ → Bool
+is_id id None = false
+is_id id (Some told) = told == id
+
+-- whether a text tells that this is the file system's
+abbrev pub tells : Field → ℕ → List ℕ → Bool
+tells field id text = is_id id (fourth_in (value_of field text))
+
+-- ---- the groups
 
 -- Linux shows a group as 65534 that isn't mapped to the reader's namespace
 abbrev pub is_hidden : Bool → ℕ → Bool
@@ -67,7 +96,11 @@ groups_in all_mapped (Some list) = read_groups all_mapped [] (slice_split is_bla
 
 -- the groups that a text lists, or the fault of the first word that has one
 abbrev pub groups_of : Bool → List ℕ → Result (List ℕ) GroupsFault
-groups_of all_mapped text = groups_in all_mapped (list_of text)
+groups_of all_mapped text = groups_in all_mapped (value_of Groups text)
+
+-- those of a user and a group, none of a process that has others
+abbrev pub groups_for : ℕ → ℕ → Bool → List ℕ → Result (List ℕ) GroupsFault
+groups_for user group all_mapped text = if tells User user text && tells Group group text then groups_of all_mapped text else Err OtherIds
 
 -- ---- the grammar
 
@@ -79,9 +112,22 @@ pub record Lists (text groups : List ℕ) : Type 0 where
   pub lines : List ℕ
   pub ended : text ≡ lines ++ 10 ∷ []
   pub list : List ℕ
-  pub only_list : lists_in (slice_split is_line_end lines) ≡ list ∷ []
+  pub only_list : values_in Groups (slice_split is_line_end lines) ≡ list ∷ []
   pub words : filter is_some_word (slice_split is_blank list) ≡ map decimal groups
   pub numbers : AllByRecursion (λ n. n < 2 ^ 32) groups
+
+-- A text tells an id of the file system: it consists of whole lines, and the only one that begins with the field's name has four numbers with a
+-- blank before each, the last of which is the id.
+pub record Tells (field : Field) (text : List ℕ) (id : ℕ) : Type 0 where
+  pub lines : List ℕ
+  pub ended : text ≡ lines ++ 10 ∷ []
+  pub value : List ℕ
+  pub only_value : values_in field (slice_split is_line_end lines) ≡ value ∷ []
+  pub real : ℕ
+  pub effective : ℕ
+  pub saved : ℕ
+  pub words : slice_split is_blank value ≡ [] ∷ map decimal (real ∷ effective ∷ saved ∷ id ∷ [])
+  pub numbers : AllByRecursion (λ n. n < 2 ^ 32) (real ∷ effective ∷ saved ∷ id ∷ [])
 
 abbrev pub AreShown : Bool → List ℕ → Type 0
 AreShown all_mapped groups = AllByRecursion (λ n. is_hidden all_mapped n ≡ false) groups

@@ -1,18 +1,18 @@
 //! The groups of a list.
-ghost use Rattle.std.specs.Prelude.{◌≡◌, ◌<◌, ◌∷◌, [], IfErr, IfSome, IsNone, OnOk, MatchResult, Err, Ok, List, ℕ, length, position};
-ghost use Rattle.std.specs.List.{slice_split};
-ghost use Rattle.sn_caller_groups.specs.Status as status;
-ghost use Rattle.sn_caller_groups.specs.Status.{groups_of, is_blank, read_groups, with_group};
+ghost use Rattle.std.specs.Prelude.{◌≡◌, ◌∷◌, IfErr, OnOk, MatchResult, Err, Ok, List, ℕ};
+ghost use Rattle.sn_caller_groups.specs.Status.{groups_for, groups_of, read_groups, with_group};
 
-use crate::status::list_of;
+use crate::ids::tells;
+use crate::status::{Field, value_of};
+use crate::words::{cut_word, number};
 use arrayvec::ArrayVec;
-use itoa::Buffer;
 use sn_acl::MAX_GROUPS;
-use std::str;
 
 /// Why a caller's groups aren't known. Each is `EACCES`.
 #[derive(Clone, Copy, Debug, PartialEq, Eq)]
 pub enum GroupsFault {
+    /// The text doesn't tell that the user and the group of the file system are the caller's.
+    OtherIds,
     /// The text isn't lines of which one lists groups, or a word of the list isn't a number of 32 bits.
     Unreadable,
     /// There are more than 32.
@@ -26,39 +26,6 @@ pub type CallerGroups = ArrayVec<u32, MAX_GROUPS>;
 
 // What Linux shows of a group that isn't mapped, the overflow gid.
 const UNMAPPED: u32 = 65534;
-
-fn number(word: &[u8]) -> Option<u32>
-    ensures { result ≡ status.number_of word.now }
-{
-    let Ok(text) = str::from_utf8(word) else {
-        return None;
-    };
-    let Ok(number) = text.parse::<u32>() else {
-        return None;
-    };
-    let mut buffer = Buffer::new();
-    if buffer.format(number).as_bytes() == word {
-        Some(number)
-    } else {
-        None
-    }
-}
-
-fn place(list: &[u8]) -> Option<usize>
-    ensures { result ≡ position is_blank list.now }
-{
-    list.iter().position(|byte| matches!(*byte, b' ' | b'\t'))
-}
-
-// The first word of several, and the text of the others.
-fn cut_word(list: &[u8]) -> Option<(&[u8], &[u8])>
-    ensures found { IfSome result (λ cut. slice_split is_blank list.now ≡ cut.0.now ∷ slice_split is_blank cut.1.now) }
-    ensures shorter { IfSome result (λ cut. length cut.1.now < length list.now) }
-    ensures last { IsNone result → slice_split is_blank list.now ≡ list.now ∷ [] }
-{
-    let at = place(list)?;
-    Some((&list[..at], &list[at + 1..]))
-}
 
 // Adds the number of a word, which may have none.
 fn add(groups: &mut CallerGroups, number: Option<u32>, all_mapped: bool) -> Result<(), GroupsFault>
@@ -89,15 +56,11 @@ fn add_word(groups: &mut CallerGroups, word: &[u8], all_mapped: bool) -> Result<
     add(groups, number(word), all_mapped)
 }
 
-/// The supplementary groups that a text of `/proc/PID/status` lists. `all_mapped` says that the reader's namespace maps all groups.
-///
-/// Proved: A text of `/proc/PID/status` is read as the groups that it lists: numbers of 32 bits with blanks between them, in the only
-/// line `Groups:`. There are none where the text has no such line or another one, where a word is no such number, where there
-/// are more than 32, and where one is 65534 unless all groups are mapped.
-pub fn caller_groups(status: &[u8], all_mapped: bool) -> Result<CallerGroups, GroupsFault>
+// The groups that a text lists.
+fn listed_groups(status: &[u8], all_mapped: bool) -> Result<CallerGroups, GroupsFault>
     ensures { MatchResult result (λ groups. groups_of all_mapped status.now ≡ Ok groups.items) (λ fault. groups_of all_mapped status.now ≡ Err fault) }
 {
-    let Some(mut rest) = list_of(status) else {
+    let Some(mut rest) = value_of(status, Field::Groups) else {
         return Err(GroupsFault::Unreadable);
     };
     let mut groups = ArrayVec::new();
@@ -107,4 +70,25 @@ pub fn caller_groups(status: &[u8], all_mapped: bool) -> Result<CallerGroups, Gr
     }
     add_word(&mut groups, rest, all_mapped)?;
     Ok(groups)
+}
+
+/// The supplementary groups that a text of `/proc/PID/status` lists, if it tells that the process has this user and this group for the
+/// file system, which are who asks. `all_mapped` says that the reader's namespace maps all groups.
+///
+/// Proved: A text of `/proc/PID/status` is read as the groups of a caller where the fourth numbers of its only lines `Uid:` and `Gid:` are the
+/// caller's user and group: as the numbers of 32 bits with blanks between them in the only line `Groups:`. There are none where these ids
+/// aren't told or are others, where the text has no such line or another one, where a word is no such number, where there are more
+/// than 32, and where one is 65534 unless all groups are mapped.
+pub fn caller_groups(
+    status: &[u8],
+    user: u32,
+    group: u32,
+    all_mapped: bool,
+) -> Result<CallerGroups, GroupsFault>
+    ensures { MatchResult result (λ groups. groups_for user group all_mapped status.now ≡ Ok groups.items) (λ fault. groups_for user group all_mapped status.now ≡ Err fault) }
+{
+    if !tells(status, Field::User, user) || !tells(status, Field::Group, group) {
+        return Err(GroupsFault::OtherIds);
+    }
+    listed_groups(status, all_mapped)
 }

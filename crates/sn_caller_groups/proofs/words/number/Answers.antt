@@ -5,7 +5,7 @@ use Rattle.std.proofs.lemmas.Str.{IsUtf8-from_ascii}
 use Rattle.std.proofs.lemmas.Slice.Eq.{bytes_eq-Decides}
 use Rattle.sn_caller_groups.specs.Status.{number_of}
 use Rattle.sn_caller_groups.proofs.Numbers.{number_none, number_again}
-use Rattle.sn_caller_groups.proofs.groups.number.Goals as goal
+use Rattle.sn_caller_groups.proofs.words.number.Goals as goal
 
 pub returns-in_default : goal.returns-in_default
 returns-in_default c = number_none c.args.word.now (λ n lt e.

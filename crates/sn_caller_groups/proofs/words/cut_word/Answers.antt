@@ -3,7 +3,7 @@ use Rattle.std.specs.List.{slice_split}
 use Rattle.std.proofs.lemmas.List.{take_rest}
 use Rattle.sn_caller_groups.specs.Status.{is_blank}
 use Rattle.sn_caller_groups.proofs.Parts.{word_first, word_alone}
-use Rattle.sn_caller_groups.proofs.groups.cut_word.Goals as goal
+use Rattle.sn_caller_groups.proofs.words.cut_word.Goals as goal
 
 pub returns-in_err-at-clause-last : goal.returns-in_err-at-clause-last
 returns-in_err-at-clause-last c = λ _. word_alone c.args.list.now (sym c.place.ensures ∙ c.in_err-at.was)

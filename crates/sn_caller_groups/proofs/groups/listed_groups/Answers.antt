@@ -2,7 +2,7 @@ use Rattle.std.proofs.Common.{[], ap, ◌∙◌, rules}
 use Rattle.std.specs.List.{slice_split}
 use Rattle.std.proofs.lemmas.Result.{err_from_is_err_and}
 use Rattle.sn_caller_groups.specs.Status.{is_blank, read_groups}
-use Rattle.sn_caller_groups.proofs.groups.caller_groups.Goals as goal
+use Rattle.sn_caller_groups.proofs.groups.listed_groups.Goals as goal
 
 pub loop-word-preserved : goal.loop-word-preserved
 loop-word-preserved c =
