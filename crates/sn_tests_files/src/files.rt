@@ -117,15 +117,12 @@ fn take_step(
 }
 
 fn lend(host: &Host<'_>, value: &str) -> Result<()> {
-    let (path, pauses) = pair_of(value)?;
-    Ok(host.lend(path, number_of(pauses)?)?)
+    host.lend(number_of(value)?);
+    Ok(())
 }
 
 fn push_slept(host: &Host<'_>, text: &mut String) -> Result<()> {
-    push_number(
-        text,
-        u64::try_from(host.slept().as_millis()).unwrap_or(u64::MAX),
-    )
+    push_number(text, host.slept())
 }
 
 fn create(

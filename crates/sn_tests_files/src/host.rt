@@ -4,21 +4,21 @@ use sn_filedev::LockFile;
 use std::alloc::Allocator;
 use std::cell::Cell;
 use std::fs::{File, Files, Metadata, OpenFile, OpenOptions, TryLockError};
+use std::io;
 use std::io::{Read, Seek, SeekFrom, Write};
 use std::os::unix::fs::FileExt;
 use std::path::PathBuf;
 use std::time::{Clock, Duration};
-use std::{fs, io};
 
 /// The files of the system. The sync of a folder fails once it is told to.
 #[derive(Drop)]
 pub struct Host<'a> {
     rt: &'a HostRuntime,
     fails: Cell<bool>,
-    /// What another program has locked, and for how many pauses more.
-    others: Cell<Option<File>>,
+    /// For how many pauses more another program has all files locked.
     pauses_left: Cell<u32>,
-    slept: Cell<Duration>,
+    /// How many milliseconds all pauses took.
+    slept: Cell<u64>,
 }
 
 impl<'a> Host<'a> {
@@ -27,24 +27,18 @@ impl<'a> Host<'a> {
         Host {
             rt,
             fails: Cell::new(false),
-            others: Cell::new(None),
             pauses_left: Cell::new(0),
-            slept: Cell::new(Duration::ZERO),
+            slept: Cell::new(0),
         }
     }
 
-    /// Another program has a file locked for so many pauses.
-    pub fn lend(&self, path: &str, pauses: u32) -> io::Result<()> {
-        let file = fs::open(self.rt, path)?;
-        file.try_lock_shared()
-            .map_err(|_| io::Error::from(io::ErrorKind::Other))?;
-        self.others.set(Some(file));
+    /// Another program has all files locked for so many pauses.
+    pub fn lend(&self, pauses: u32) {
         self.pauses_left.set(pauses);
-        Ok(())
     }
 
-    /// How long all pauses were.
-    pub fn slept(&self) -> Duration {
+    /// How many milliseconds all pauses took.
+    pub fn slept(&self) -> u64 {
         self.slept.get()
     }
 
@@ -64,12 +58,10 @@ impl<'a> Clock for Host<'a> {
     }
 
     fn sleep(&self, duration: Duration) {
-        self.slept.set(self.slept.get().saturating_add(duration));
+        let millis = u64::try_from(duration.as_millis()).unwrap_or(u64::MAX);
+        self.slept.set(self.slept.get().saturating_add(millis));
         self.pauses_left
             .set(self.pauses_left.get().saturating_sub(1));
-        if self.pauses_left.get() == 0 {
-            self.others.set(None);
-        }
     }
 }
 
@@ -78,6 +70,7 @@ impl<'a> Clock for Host<'a> {
 pub struct Opened {
     file: File,
     fails: bool,
+    is_lent: bool,
 }
 
 impl Read for Opened {
@@ -135,6 +128,9 @@ impl OpenFile for Opened {
 
 impl LockFile for Opened {
     fn try_lock(&self) -> Result<(), TryLockError> {
+        if self.is_lent {
+            return Err(TryLockError::WouldBlock);
+        }
         self.file.try_lock()
     }
 
@@ -154,6 +150,7 @@ impl<'a> Files for Host<'a> {
         Ok(Opened {
             file,
             fails: is_folder && self.fails.get(),
+            is_lent: self.pauses_left.get() > 0,
         })
     }
 
