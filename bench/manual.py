@@ -3,8 +3,8 @@
 
     bench/manual.py
 
-The limits, errors, lines and statuses are in tables that test programs hold against the code (`sn_tests_manual`, `sn_tests_outputs`), and what
-a person whose words are no command is shown is in a file that `sn_tests_commands` holds against it. So these are compared with the page here:
+The limits, errors, lines and statuses are in tables that test programs hold against the code (their parts `manual` and `outputs`), and what
+a person whose words are no command is shown is in a file that the part `commands` holds against it. So these are compared with the page here:
 each line of a table is on the page, and what the page has is in the table. The numbers of errors are those of the system's own table. What
 `mount` and `unmount` tell is compared with the script `snapfs`.
 """
@@ -15,7 +15,7 @@ import sys
 from pathlib import Path
 
 TOP = Path(__file__).resolve().parent.parent
-TABLES = TOP / "crates/sn_tests_messages/data/manual"
+TABLES = TOP / "crates/sn_tests/data/manual"
 PROGRAM = TOP / "crates/sn_tests_program/data"
 # Linux answers it once nobody serves the mount.
 OF_LINUX = ["ENOTCONN"]

@@ -213,8 +213,7 @@ done
 
 # Of the table of nodes every 13th allocation is refused, since most are those of the texts of answers. A step that is refused memory is
 # made again there.
-folder=$top/crates/sn_tests_messages step=13
-(cd "$folder" && "$top/.ci/rt" run -- data nodes > "$work/log" 2>&1) || { tail -n 20 "$work/log"; exit 1; }
-"$folder/out/sn_tests_messages" "$folder/data" nodes > "$work/whole"
+step=13
+"$folder/out/sn_tests" "$folder/data" nodes > "$work/whole"
 echo "nodes:"
-each_refused "$folder/out/sn_tests_messages" "$folder/data" nodes
+each_refused "$folder/out/sn_tests" "$folder/data" nodes

@@ -9,7 +9,7 @@ program=$top/crates/sn_tests_crashes/out/sn_tests_crashes
 [ -x "$program" ] || (cd "$top/crates/sn_tests_crashes" && "$top/.ci/rt" run -- . > /dev/null)
 first=${1:-0}
 count=${2:-10000}
-seq "$first" 100 $((first + count - 1)) | xargs -P "${3:-$(nproc)}" -I {} "$program" . {} 100 | awk '
+seq "$first" 100 $((first + count - 1)) | xargs -P "${3:-$(nproc)}" -I {} "$program" . schedules {} 100 | awk '
 /^wrong/ { print }
 /cases/ { cuts += $(NF - 3); wrong += $(NF - 1) }
 END { print cuts " cuts, " wrong " wrong"; exit wrong > 0 }'

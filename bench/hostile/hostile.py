@@ -5,7 +5,7 @@
     bench/hostile/hostile.py device [--rows N..]                   makes the whole of the sweeps of which the gate makes a part
     bench/hostile/hostile.py bodies [NAME..]                       makes that part with each of the wrong bodies in bench/hostile/wrong_sweeps
 
-Run by hand. The rows are the eleven in crates/sn_tests_restarts/data/hostile, and for `device` also the six in version_1 beside it, which
+Run by hand. The rows are the eleven in crates/sn_tests_crashes/data/hostile, and for `device` also the six in version_1 beside it, which
 begin on disks of version 1. `memory` wants gcc, since the refusals come from a small
 library that stands before the C library's malloc, and builds the program where it isn't up to date, or takes the one of PATH. Each
 row is run on a new image in a file, and by `stop-at` on a device in memory that never stops; and so with each allocation refused
@@ -19,7 +19,7 @@ in turn, until none is left. What is wanted:
   `fault M6`; and the run ends with `snapfs: M6` or as stopped.
 - What is left is sound.
 
-`device` runs the test program of restarts, one process for each row, and prints what it counts. Of the rows on disks of version 1 what
+`device` runs the test program of crashes, one process for each row, and prints what it counts. Of the rows on disks of version 1 what
 follows a crash is cut short again after one of the seven kinds of crashes at each write, and else after all seven. `bodies` runs it by `rt try`, which
 proves nothing, on a copy of the repository with one wrong body, and prints what it tells: each has to be found. The status is 1 where
 anything was otherwise.
@@ -42,7 +42,7 @@ from images import program_at  # noqa: E402
 from wrong_bodies import RT  # noqa: E402
 
 TOP = Path(__file__).resolve().parents[2]
-TESTS = TOP / "crates/sn_tests_restarts"
+TESTS = TOP / "crates/sn_tests_crashes"
 NAMES = (
     "inherited", "two_names", "sizes", "no_name", "frozen", "refused", "stepped", "frozen_in_steps", "restored", "restored_nameless",
     "restored_in_steps",
@@ -280,7 +280,7 @@ def refuse_memory(words, folder):
 
 def sweep_row(number):
     """What the test program tells of the whole sweeps over a row."""
-    program, is_old = TESTS / "out/sn_tests_restarts", number >= len(NAMES)
+    program, is_old = TESTS / "out/sn_tests_crashes", number >= len(NAMES)
     words = ("versions", str(number - len(NAMES))) if is_old else ("hostile", str(number))
     run = subprocess.run([program, ".", *words, "1"], cwd=TESTS / "data", capture_output=True, text=True)
     return (NAMES + OLD_NAMES)[number], run.stdout, run.returncode
@@ -288,7 +288,7 @@ def sweep_row(number):
 
 def sweep_device(words, _):
     """Makes the whole sweeps, and tells whether all was as it has to be."""
-    if not (TESTS / "out/sn_tests_restarts").is_file():
+    if not (TESTS / "out/sn_tests_crashes").is_file():
         subprocess.run([TOP / ".ci/rt", "run", "--", "."], cwd=TESTS, stdout=subprocess.DEVNULL, check=True)
     is_right = True
     with Pool(PROCESSES) as pool:
@@ -300,14 +300,12 @@ def sweep_device(words, _):
 
 # ---- wrong bodies
 
-# What is left of the test program, which isn't built for speed here: the row frozen, with fewer calls that fail.
+# What is left of the part `hostile`, which isn't built for speed here: the row frozen, with fewer calls that fail.
 LESS = (
-    ("crates/sn_tests_restarts/src/main.rt", "sn_tests_runs::run(report)?;", ""),
-    ("crates/sn_tests_restarts/src/main.rt", "sn_tests_versions::run(report)", "Ok(())"),
-    ("crates/sn_tests_hostile/src/lib.rt", "spoilt::run(report)", "Ok(())"),
-    ("crates/sn_tests_hostile/src/lib.rt", "sweep_rows(report, &(0..ROWS.len()), Extent::SOME)", "sweep_rows(report, &(4..5), Extent::SOME)"),
-    ("crates/sn_tests_hostile/src/sweeps.rt", "    calls: 5,", "    calls: 11,"),
-    ("crates/sn_tests_hostile/src/sweeps.rt", "Spacing { row: 24, mount: 7 }", "Spacing { row: 200, mount: 50 }"),
+    ("crates/sn_tests_restarts/src/hostile/mod.rt", "spoilt::run(report)", "Ok(())"),
+    ("crates/sn_tests_restarts/src/hostile/mod.rt", "sweep_rows(report, &(0..ROWS.len()), Extent::SOME)", "sweep_rows(report, &(4..5), Extent::SOME)"),
+    ("crates/sn_tests_restarts/src/hostile/sweeps.rt", "    calls: 5,", "    calls: 11,"),
+    ("crates/sn_tests_restarts/src/hostile/sweeps.rt", "Spacing { row: 24, mount: 7 }", "Spacing { row: 200, mount: 50 }"),
 )
 
 
@@ -322,7 +320,7 @@ def copy_with(edit, folder):
         if text.count(old) != 1:
             raise Wrong(f"{path} has {text.count(old)} times {old}")
         (folder / path).write_text(text.replace(old, new))
-    return folder / "crates/sn_tests_restarts"
+    return folder / "crates/sn_tests_crashes"
 
 
 def told_with(edit):
@@ -330,7 +328,7 @@ def told_with(edit):
     with tempfile.TemporaryDirectory() as folder:
         crate = copy_with(edit, Path(folder))
         data = [word for path in (crate / "data/hostile").iterdir() for word in ("--data", f"hostile/{path.name}={path}")]
-        command = [RT, "try", "--seconds", "600", "--steps", "1000", *data, "--", "."]
+        command = [RT, "try", "--seconds", "600", "--steps", "1000", *data, "--", ".", "hostile"]
         run = subprocess.run(command, cwd=crate, capture_output=True, text=True)
     lines = (run.stdout + run.stderr).splitlines()
     return [line for line in lines if "cases" in line or "of these" in line or "a row that" in line]

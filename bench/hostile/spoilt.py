@@ -7,7 +7,7 @@
 
 Run by hand: builds the program where it isn't up to date, or takes the one of PATH.
 
-The images are those that the rows no_name, frozen and many of crates/sn_tests_restarts/data/hostile leave, with one to four bytes
+The images are those that the rows no_name, frozen and many of crates/sn_tests_crashes/data/hostile leave, with one to four bytes
 changed as images.py changes them. Each is told by `check` as the plain reading of plain_check.py tells it; and a `run` without a
 call on a copy tells the same fault and leaves each byte, or is done and leaves a sound image.
 

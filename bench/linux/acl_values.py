@@ -1,7 +1,7 @@
 #!/usr/bin/env python3
-"""Prints the table of values of ACLs that crates/sn_tests_messages/data/names/acl_values.txt is, as Linux has them.
+"""Prints the table of values of ACLs that crates/sn_tests/data/names/acl_values.txt is, as Linux has them.
 
-    bench/linux/acl_values.py > crates/sn_tests_messages/data/names/acl_values.txt
+    bench/linux/acl_values.py > crates/sn_tests/data/names/acl_values.txt
 
 It wants setfacl, getfacl and getfattr (acl and attr), and a file system with ACLs under the folder of temporary files. What
 `encode` has to give is what setfacl left for getfattr. Other values are handed to setxattr(2): what the system refuses is

@@ -1,5 +1,5 @@
 #!/usr/bin/env python3
-"""Writes the table of the groups of callers, crates/sn_tests_messages/data/names/groups.txt.
+"""Writes the table of the groups of callers, crates/sn_tests/data/names/groups.txt.
 
     bench/linux/caller_groups.py
 
@@ -13,7 +13,7 @@ import os
 from pathlib import Path
 from urllib.parse import quote_from_bytes
 
-TABLE = Path(__file__).resolve().parents[2] / "crates/sn_tests_messages/data/names/groups.txt"
+TABLE = Path(__file__).resolve().parents[2] / "crates/sn_tests/data/names/groups.txt"
 NEW_USER_NAMESPACE, SET_NAME = 0x10000000, 15
 
 

@@ -3,14 +3,14 @@
 
     bench/linux/message_tables.py
 
-It writes rows.txt, misspelt.txt, lines.txt and answers.txt in crates/sn_tests_messages/data/messages. The layouts here are
+It writes rows.txt, misspelt.txt, lines.txt and answers.txt in crates/sn_tests/data/messages. The layouts here are
 apart from those of crates/sn_testing_fuse, which lines.txt compares with them.
 """
 
 import struct
 from pathlib import Path
 
-TABLES = Path(__file__).resolve().parents[2] / "crates/sn_tests_messages/data/messages"
+TABLES = Path(__file__).resolve().parents[2] / "crates/sn_tests/data/messages"
 
 # Each operation: opcode, the struct of linux/fuse.h before the names (x for what isn't read), and what stands behind it.
 OPERATIONS = {

@@ -2,12 +2,12 @@
 """Draws conversations of the system with the server of a mount, and answers them by a plain reading of the messages.
 
     bench/plain/conversations.py                    writes drawn.txt, drawn_times.txt, drawn_kernel.txt and drawn_failing.txt in
-                                              crates/sn_tests_serving/data/conversations
+                                              crates/sn_tests_program/data/conversations
     bench/plain/conversations.py --check FILE..     prints the replies of conversations that aren't those of the plain reading
     bench/plain/conversations.py --drawn SEED FILE  writes one that is drawn from another seed
 
 The plain reading is bench/plain/serve_session/plain_serve.py. Before anything is written, it has to give the replies of the conversations that were worked out by
-hand, too. What the lines are is told in crates/sn_tests_serve.
+hand, too. What the lines are is told in the part `serve` of crates/sn_tests_images.
 
 The lines follow from a seed alone. They are drawn over what the serve has at that moment: ids that were given, names that are there, open files and
 directories. A serve ends before half of the log or a quarter of the disk is taken, so that only snapshots and the ends of serves make points.
@@ -29,7 +29,7 @@ from plain_serve import SNAPSHOTS as HIDDEN  # noqa: E402
 from plain_serve import NUMBERS, Senders, Server, frames_of  # noqa: E402
 from spelling import message_of, reply_of  # noqa: E402
 
-FOLDER = TOP / "crates/sn_tests_serving/data/conversations"
+FOLDER = TOP / "crates/sn_tests_program/data/conversations"
 DRAWN = ("drawn.txt", "drawn_times.txt", "drawn_kernel.txt", "drawn_failing.txt")
 
 

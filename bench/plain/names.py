@@ -2,10 +2,10 @@
 """Does the names of a mount and of an image in Python too, by regular expressions, and compares. Run by hand.
 
     bench/plain/names.py [COUNT]     draws so many names of each side, 200,000 where it isn't given, as cases of the part `names` of
-                               sn_tests_messages, and runs that over them; the status is 1 where an answer differs
-    bench/plain/names.py --table     prints the table crates/sn_tests_messages/data/names/names.txt
+                               sn_tests, and runs that over them; the status is 1 where an answer differs
+    bench/plain/names.py --table     prints the table crates/sn_tests/data/names/names.txt
 
-The program has to be built: `../../.ci/rt run -- data` in crates/sn_tests_messages.
+The program has to be built: `../../.ci/rt run -- data` in crates/sn_tests.
 """
 
 import random
@@ -16,8 +16,8 @@ import sys
 import tempfile
 from pathlib import Path
 
-CRATE = Path(__file__).resolve().parents[2] / "crates" / "sn_tests_messages"
-PROGRAM, DATA = CRATE / "out" / "sn_tests_messages", CRATE / "data"
+CRATE = Path(__file__).resolve().parents[2] / "crates" / "sn_tests"
+PROGRAM, DATA = CRATE / "out" / "sn_tests", CRATE / "data"
 TABLE = Path("names") / "names.txt"
 
 # The digits of a byte that no name of an image has.

@@ -3,7 +3,7 @@
 
     bench/plain/node_tables.py
 
-It writes hand.txt and drawn.txt in crates/sn_tests_messages/data/nodes. The answers of hand.txt were worked out by hand, and the reading
+It writes hand.txt and drawn.txt in crates/sn_tests/data/nodes. The answers of hand.txt were worked out by hand, and the reading
 here has to give them too. A case is a list of steps with a space between two, and has an answer for each:
 
     meet:PARENT:NAME:INODE    an object is found under a name: its id, or ESTALE
@@ -20,7 +20,7 @@ A name is as it is there, and a*9 is nine letters a.
 import random
 from pathlib import Path
 
-TABLES = Path(__file__).resolve().parents[2] / "crates/sn_tests_messages/data/nodes"
+TABLES = Path(__file__).resolve().parents[2] / "crates/sn_tests/data/nodes"
 
 
 class Node:

@@ -3,7 +3,7 @@
 
     bench/plain/times_tables.py
 
-It writes hand.txt, drawn.txt and files.txt in crates/sn_tests_messages/data/times. The answers of hand.txt were worked out by hand, and the
+It writes hand.txt, drawn.txt and files.txt in crates/sn_tests/data/times. The answers of hand.txt were worked out by hand, and the
 reading here has to give them too. A case is a list of steps with a space between two, and has an answer for each. All is of the second 1 first:
 
     made:NOW:NUMBER, modified:NOW:NUMBER, changed:NOW:NUMBER    -
@@ -24,7 +24,7 @@ import random
 import struct
 from pathlib import Path
 
-TABLES = Path(__file__).resolve().parents[2] / "crates/sn_tests_messages/data/times"
+TABLES = Path(__file__).resolve().parents[2] / "crates/sn_tests/data/times"
 NUMBERS = 65536
 WAITING = 2**48
 SNAPSHOTS = 31

@@ -1,5 +1,5 @@
 #!/usr/bin/env python3
-"""Makes the table imports.txt of crates/sn_tests_messages/data/tar: which calls make what archives by Python's tarfile hold, and what is
+"""Makes the table imports.txt of crates/sn_tests/data/tar: which calls make what archives by Python's tarfile hold, and what is
 reported, where some calls are refused.
 
     bench/tar/imports.py
@@ -15,7 +15,7 @@ from pathlib import Path
 
 from streams import content, hexed, pax, runs, tarred, to_image, word
 
-DATA = Path(__file__).resolve().parent.parent.parent / "crates/sn_tests_messages/data/tar"
+DATA = Path(__file__).resolve().parent.parent.parent / "crates/sn_tests/data/tar"
 WRITE = 28672
 ENDING = {"EIO", "ESTOPPED", "ENOMEM", "ENOSPC"}
 ERRNOS = "EACCES EPERM ENOENT ENOTDIR EISDIR EEXIST ENOTEMPTY EINVAL ENAMETOOLONG EROFS EXDEV EBUSY EMLINK EMFILE EBADF EFBIG ELIMIT ENOSPC ENOMEM EIO ESTOPPED".split()

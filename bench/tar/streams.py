@@ -1,5 +1,5 @@
 #!/usr/bin/env python3
-"""Makes the tables streams.txt, places.txt and accounts.txt of crates/sn_tests_messages/data/tar: what archives by Python's tarfile and
+"""Makes the tables streams.txt, places.txt and accounts.txt of crates/sn_tests/data/tar: what archives by Python's tarfile and
 by GNU tar hold, the paths of their names in an image, and the accounts of texts as glibc reads them.
 
     bench/tar/streams.py
@@ -20,7 +20,7 @@ from pathlib import Path
 sys.path.insert(0, str(Path(__file__).resolve().parent.parent / "plain"))
 from names import to_image
 
-DATA = Path(__file__).resolve().parent.parent.parent / "crates/sn_tests_messages/data/tar"
+DATA = Path(__file__).resolve().parent.parent.parent / "crates/sn_tests/data/tar"
 FORMATS = {"ustar": tarfile.USTAR_FORMAT, "gnu": tarfile.GNU_FORMAT, "pax": tarfile.PAX_FORMAT}
 ACL = "user::rw-,user:1001:rw-,group::r--,mask::rw-,other::r--"
 

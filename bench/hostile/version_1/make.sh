@@ -4,7 +4,7 @@
 #     bench/hostile/version_1/make.sh [PROGRAM] [FOLDER]
 #
 # Run by hand. PROGRAM is a release of before version 2, by default that of the last commit without it. The lists go to FOLDER, by
-# default to one of their own, where they are compared with those in crates/sn_tests_restarts/data/version_1. Of each disk a line is
+# default to one of their own, where they are compared with those in crates/sn_tests_crashes/data/version_1. Of each disk a line is
 # printed with what that program's check tells. The status is 1 where a list differs.
 set -euo pipefail
 top=$(cd "$(dirname "$0")/../../.." && pwd)
@@ -59,5 +59,5 @@ printf '0 login 0 0 -\n0 open /f rwc 0644\n0 seek 0 67108863\n0 write 0 41\n' >l
 disk large 256 12 one large.snap
 
 if [ -z "${2:-}" ]; then
-    diff -r "$folder" "$top/crates/sn_tests_restarts/data/version_1" --exclude='*.row' && echo "the lists are the same"
+    diff -r "$folder" "$top/crates/sn_tests_crashes/data/version_1" --exclude='*.row' && echo "the lists are the same"
 fi

@@ -9,7 +9,7 @@ use crate::reading::Standing;
 use crate::records::{draw_records, lay_records};
 use rand_core::Rng;
 use rand_pcg::Pcg32;
-use sn_testing_payloads::{below, is_once_in};
+use sn_testing_reading::payloads::{below, is_once_in};
 use std::alloc::{AllocError, Global};
 
 /// The largest generation and epoch.

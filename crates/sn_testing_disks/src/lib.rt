@@ -10,8 +10,9 @@
 //! that never counted. In the halves stand the records of the root's epoch, and what is left of earlier ones.
 //!
 //! The way through: `bytes` has parts and numbers of bytes, `geometry` where the areas of a disk lie, `laying` lays
-//! roots, trees, maps and records, and `drawing` draws what is laid. [`stands`] says whether a disk has a root, all
-//! that it reaches, and some records on top of it (`reading`, over `sn_testing_reading` for the log).
+//! block trees, maps and records, and `drawing` draws what is laid. [`stands`] says whether a disk has a root, all
+//! that it reaches, and some records on top of it (`reading`, over `sn_testing_reading` for the log). `trees` has trees of files and
+//! directories as lists, and `images` reads one of a disk.
 //!
 //! ```text
 //! let drawn = draw_disk(alloc, &mut random)?;
@@ -22,9 +23,11 @@
 mod bytes;
 mod drawing;
 mod geometry;
+pub mod images;
 mod laying;
 mod reading;
 mod records;
+pub mod trees;
 
 pub use bytes::{BLOCK, SECTOR, block_of, number_at, part, put};
 pub use drawing::{DrawnDisk, draw_disk};

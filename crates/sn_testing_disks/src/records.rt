@@ -2,8 +2,8 @@
 
 use crate::bytes::{SECTOR, put, put_number};
 use rand_pcg::Pcg32;
-use sn_testing_payloads::payload;
 use sn_testing_reading::Change;
+use sn_testing_reading::payloads::payload;
 use std::alloc::{AllocError, Global};
 
 /// The last place of a half.

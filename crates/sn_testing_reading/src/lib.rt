@@ -1,5 +1,6 @@
 //! A plain reading of the log, for the test programs: what the bytes of a half stand for by docs/FORMAT.md
-//! and docs/RULES.md, read without the codecs and the maps that it stands beside.
+//! and docs/RULES.md, read without the codecs and the maps that it stands beside. `payloads` draws such records, and `archives` reads
+//! those of trees.
 //!
 //! The model: none. Nothing of it is proved but that it is safe and ends; it is short, so that it can be held
 //! beside those pages, and looks names and numbers up in lists.
@@ -14,11 +15,13 @@
 #![tactic(auto)]
 
 mod applying;
+pub mod archives;
 mod attributes;
 mod fields;
 mod half;
 mod obstacles;
 mod payload;
+pub mod payloads;
 mod reading;
 mod tree;
 

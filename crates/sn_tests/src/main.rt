@@ -1,6 +1,6 @@
-//! The cases of all that is below the file system, in memory and on a disk.
+//! The cases of all that needs no mounted file system, in memory and on a disk.
 //!
-//! Each part is a crate `sn_tests_..` of its own, which says what it compares, and `data/` has a folder of tables for each part
+//! Each part is a module of a library `sn_tests_..`, which says what it compares, and `data/` has a folder of tables for each part
 //! that reads some. One program runs them all, since two compilers build each program with all that it uses. What is printed is
 //! compared with `stdout`. The arguments are the folder of the tables, and after it one part for that alone, with how many trees
 //! or points are drawn where it draws them, as in
@@ -14,12 +14,18 @@
 
 use anyhow::{Result, bail};
 use sn_testing_tables::{Report, number_of};
+use sn_tests_calls::{access, calls, manual, memory};
+use sn_tests_disk::{block, disk, files, map};
+use sn_tests_formats::{changes, formats, records, trees};
+use sn_tests_messages::{fuse, import, names, nodes, tar, times, untar};
+use sn_tests_points::{builds, points};
 use std::env;
 
 /// The parts, in the order in which they run.
-const PARTS: [&str; 13] = [
+const PARTS: [&str; 21] = [
     "access", "calls", "memory", "block", "files", "map", "disk", "formats", "records", "trees",
-    "changes", "builds", "points",
+    "changes", "builds", "points", "manual", "names", "nodes", "times", "fuse", "tar", "untar",
+    "import",
 ];
 
 /// How many trees are built where nobody says it.
@@ -31,19 +37,34 @@ const POINTS: u32 = 100;
 /// Runs a part, which is the only one where its count is given.
 fn run(report: &mut Report<'_>, part: &str, count: Option<u32>) -> Result<()> {
     match part {
-        "access" => sn_tests_access::run(report),
-        "calls" => sn_tests_calls::run(report),
-        "memory" => sn_tests_memory::run(report),
-        "block" => sn_tests_block::run(report),
-        "files" => sn_tests_files::run(report),
-        "map" => sn_tests_map::run(report),
-        "disk" => sn_tests_disk::run(report),
-        "formats" => sn_tests_formats::run(report),
-        "records" => sn_tests_records::run(report),
-        "trees" => sn_tests_trees::run(report),
-        "changes" => sn_tests_changes::run(report),
-        "builds" => sn_tests_builds::run(report, count.unwrap_or(TREES)),
-        "points" => sn_tests_points::run(report, count.unwrap_or(POINTS)),
+        "access" => access::run(report),
+        "calls" => calls::run(report),
+        "memory" => memory::run(report),
+        "block" => block::run(report),
+        "files" => files::run(report),
+        "map" => map::run(report),
+        "disk" => disk::run(report),
+        "formats" => formats::run(report),
+        "records" => records::run(report),
+        "trees" => trees::run(report),
+        "changes" => changes::run(report),
+        "builds" => builds::run(report, count.unwrap_or(TREES)),
+        "points" => points::run(report, count.unwrap_or(POINTS)),
+        _ => run_messages(report, part),
+    }
+}
+
+/// Runs a part of those of messages and archives.
+fn run_messages(report: &mut Report<'_>, part: &str) -> Result<()> {
+    match part {
+        "manual" => manual::run(report),
+        "names" => names::run(report),
+        "nodes" => nodes::run(report),
+        "times" => times::run(report),
+        "fuse" => fuse::run(report),
+        "tar" => tar::run(report),
+        "untar" => untar::run(report),
+        "import" => import::run(report),
         _ => bail!("no such part: {part}"),
     }
 }

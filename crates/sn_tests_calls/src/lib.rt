@@ -1,23 +1,10 @@
-//! Cases of scripts, replies and the plain run.
+//! Cases of what decides a call, in memory: who may do what, paths, lines and replies, files and their bytes, and what the manual page tells.
 //!
-//! The tables of the cases are in the data of `sn_tests`: their head lines say where the answers come from. There is a
-//! module for each subject: `script` (`calls` says what was read), `replies` and `plain`.
-//!
-//! No clause promises what comes out, since it is compared: `sn_tests` runs it.
+//! Each module is a part of the program `sn_tests`, whose data has its tables: their head lines say where the answers come from. No clause
+//! promises what comes out, since it is compared.
 #![tactic(auto)]
 
-mod calls;
-mod plain;
-mod replies;
-mod script;
-
-use anyhow::Result;
-use sn_testing_tables::Report;
-
-/// Compares the answers of all cases with their tables, with a line for each table, and prints each reply. An error is a
-/// case, or a table, that can't be read, or a lack of memory.
-pub fn run(report: &mut Report<'_>) -> Result<()> {
-    script::run(report)?;
-    replies::run(report)?;
-    plain::run(report)
-}
+pub mod access;
+pub mod calls;
+pub mod manual;
+pub mod memory;

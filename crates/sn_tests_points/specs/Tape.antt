@@ -2,7 +2,7 @@
 use Rattle.std.specs.Prelude.{[]}
 use Rattle.sn_device.specs.Disk.{Disk}
 use Rattle.sn_device.specs.declared.status.Status.{Status}
-use Rattle.sn_tests_points.specs.declared.tape.Tape.{Tape}
+use Rattle.sn_tests_points.specs.declared.points.tape.Tape.{Tape}
 
 abbrev pub status_of : Tape → Status
 status_of t = t.status
