@@ -72,8 +72,8 @@ fault_of_import import.Stopped = fault.Stopped
 
 -- this stream failed
 abbrev pub IsOfStream : Which → ProgramFault → Type 0
-IsOfStream stream (fault.File other error) = other ≡ stream
-IsOfStream stream cause = ⊥
+IsOfStream wanted (fault.File other error) = other ≡ wanted
+IsOfStream wanted cause = ⊥
 
 -- why no more messages of a mount were answered: there was no mount, memory was refused, the mount stopped, what came is no message or couldn't be read, or a reply wasn't taken
 abbrev pub IsOfServe : ServeFault → ProgramFault → Type 0

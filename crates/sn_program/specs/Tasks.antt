@@ -26,7 +26,7 @@ use Rattle.sn_script.specs.Replies.{reply_line}
 use Rattle.sn_export_writing.specs.Streams.{BeginsStream, WritesStream}
 use Rattle.sn_output.specs.Outputs.{AppendsFront}
 use Rattle.sn_device.specs.Disk.{Disk}
-use Rattle.sn_mount_streams.specs.Told.{tells_anything}
+use Rattle.sn_mount_streams.specs.Told.{shows_anything, tells_anything}
 use Rattle.sn_plan.specs.declared.checker.Checker.{Checker}
 use Rattle.sn_plan.specs.declared.checker.Checker.TheVariants as checker
 use Rattle.sn_serve_image.specs.Serves.{IsServed}
@@ -131,7 +131,7 @@ pub record ServesMount (asked : CheckerWord) (outcome : Result (Unit {0}) ServeF
   pub last_status : Status
   pub dates : Dates
   pub left : Dates
-  pub served : IsServed told tells_anything (checker_of asked maps_all) dates left tt tt input rest old new outcome disk status last last_status
+  pub served : IsServed told tells_anything shows_anything (checker_of asked maps_all) dates left tt tt input rest old new outcome disk status last last_status
 
 -- nothing was written, or replies up to a fault
 abbrev pub BeginsToServe : CheckerWord → Option (List ℕ) → Option (List ℕ) → Type 0
