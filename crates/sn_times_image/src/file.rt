@@ -1,10 +1,11 @@
 //! The file beside an image.
-ghost use Rattle.std.specs.Prelude.{◌≡◌, ◌≤◌, ◌++◌, IfOk, IfSome, length, string_bytes};
+ghost use Rattle.std.specs.Prelude.{◌≡◌, ◌≤◌, ◌++◌, Bool, false, IfOk, IfSome, IsNone, IsTrue, length, string_bytes};
 ghost use Rattle.sn_times_image.specs.Looks.{AreOne, MayCount};
 
 use crate::look::{Look, Owners};
 use std::alloc::Global;
 use std::fs::{Files, OpenFile, OpenOptions};
+use std::marker::Model;
 use std::os::unix::fs::{FileExt, OpenOptionsExt};
 use std::{fs, io};
 
@@ -16,7 +17,7 @@ const DENIED: i32 = 13;
 
 const READ_ONLY: i32 = 30;
 
-/// The file with the times of an image's objects, beside it.
+/// The file with the times of an image's objects, beside it. Its value is whether something there was left alone.
 #[derive(Drop)]
 pub struct TimesFile<'a, R: Files + AllocGlobal> {
     pub(crate) rt: &'a R,
@@ -25,9 +26,17 @@ pub struct TimesFile<'a, R: Files + AllocGlobal> {
     is_left_alone: bool,
 }
 
+impl<'a, R: Files + AllocGlobal> Model for TimesFile<'a, R> {
+    ghost Value = { Bool };
+
+    ghost view = { λ file. file.is_left_alone };
+}
+
 impl<'a, R: Files + AllocGlobal> TimesFile<'a, R> {
     /// The file beside the image at a path.
-    pub fn beside(rt: &'a R, image: &'a str) -> TimesFile<'a, R> {
+    pub fn beside(rt: &'a R, image: &'a str) -> TimesFile<'a, R>
+        ensures { result ≡ false }
+    {
         TimesFile {
             rt,
             image,
@@ -37,7 +46,9 @@ impl<'a, R: Files + AllocGlobal> TimesFile<'a, R> {
     }
 
     /// Whether something has its path that doesn't count, or couldn't be read or removed. It stays, and nothing takes its place.
-    pub fn is_left_alone(&self) -> bool {
+    pub fn is_left_alone(&self) -> bool
+        ensures { result ≡ self.now }
+    {
         self.is_left_alone
     }
 }
@@ -147,7 +158,8 @@ fn take_file<F: OpenFile + FileExt + Drop, R: Files<File = F> + AllocGlobal>(
 pub(crate) fn take<F: OpenFile + FileExt + Drop, R: Files<File = F> + AllocGlobal>(
     file: &mut TimesFile<'_, R>,
 ) -> Option<Vec<u8>>
-    ensures { IfSome result (λ bytes. length bytes.items ≤ 134217728) }
+    ensures length { IfSome result (λ bytes. length bytes.items ≤ 134217728) }
+    ensures alone { file.old ≡ false → IsTrue file.new → IsNone result }
 {
     match take_file(file.rt, file.image, file.owners) {
         Ok(given) => given,

@@ -1,6 +1,7 @@
 //! Times from one mount to the next.
-ghost use Rattle.std.specs.Prelude.{◌≡◌, IfSome, IsTrue};
+ghost use Rattle.std.specs.Prelude.{◌≡◌, false, IfSome, IsNone, IsTrue};
 ghost use Rattle.sn_device.specs.Disk.{reads};
+ghost use Rattle.sn_times.specs.Dates.{all_forgotten};
 ghost use Rattle.sn_times_file.specs.Keeping.{IsRestored, left_by};
 ghost use Rattle.sn_times_file.specs.Kept.{spelling};
 ghost use Rattle.sn_times_image.specs.Beginning.{MayBegin};
@@ -35,6 +36,7 @@ fn taken<F: OpenFile + FileExt + Drop, R: Files<File = F> + AllocGlobal, D: Devi
     now: Time,
 ) -> Option<Times>
     ensures begun { IsTrue D.tells_bytes → IfSome result (λ times. MayBegin (reads (D.disk device.old)) now times) }
+    ensures alone { file.old ≡ false → IsTrue file.new → IsNone result }
     ensures same { IsTrue D.tells_bytes → D.disk device.new ≡ D.disk device.old }
     ensures counts { OnlyReads (D.status device.old) (D.status device.new) }
 {
@@ -48,6 +50,7 @@ fn taken<F: OpenFile + FileExt + Drop, R: Files<File = F> + AllocGlobal, D: Devi
 ///
 /// Proved: A mount begins with times that were kept with the roots, their gates and the first gates of the log as they are, or each object has the time
 /// of the mount.
+/// Proved: Where something beside the image was left alone, each object has the time of the mount.
 /// Proved, also of `leave_times`: The device isn't written, also where it doesn't tell its bytes: at most a read that failed is counted.
 pub fn take_times<F: OpenFile + FileExt + Drop, R: Files<File = F> + AllocGlobal, D: Device>(
     file: &mut TimesFile<'_, R>,
@@ -55,6 +58,7 @@ pub fn take_times<F: OpenFile + FileExt + Drop, R: Files<File = F> + AllocGlobal
     now: Time,
 ) -> Times
     ensures begun { IsTrue D.tells_bytes → MayBegin (reads (D.disk device.old)) now result }
+    ensures alone { file.old ≡ false → IsTrue file.new → result ≡ all_forgotten now }
     ensures same { IsTrue D.tells_bytes → D.disk device.new ≡ D.disk device.old }
     ensures counts { OnlyReads (D.status device.old) (D.status device.new) }
 {
