@@ -88,7 +88,7 @@ case_of "and read" 0 hello cat "$odd/f"
 
 # ---- What is refused while it is
 case_of "mounted twice at one folder" 1 "snapfs: $disk is mounted at $odd" "$snapfs" mount "$disk" "$odd"
-case_of "mounted at another" 1 "snapfs: file" "$snapfs" mount "$disk" "$other"
+case_of "mounted at another" 1 "snapfs: $disk is in use" "$snapfs" mount "$disk" "$other"
 holds "where nothing is left" is_not_mounted "$other"
 case_of "another image at the folder" 1 "snapfs: $disk is mounted at $odd" "$snapfs" mount "$program" "$odd"
 case_of "checked" 1 "snapfs: file" "$snapfs" check "$disk"

@@ -10,7 +10,7 @@
 //! of the file no later one succeeds, since the system may have dropped what it couldn't store.
 //!
 //! A file that is opened by its path is locked for as long as its device lives: against all others,
-//! or with those that read it alone too. One in use is refused, and `create` cuts a file only once it
+//! or with those that read it alone too. One in use is refused (by `open_soon` only after a second), and `create` cuts a file only once it
 //! has the lock. A new file is its owner's alone, and its folder is stored with it. What is opened to
 //! be read alone takes no write. Locks are those of the system, which hold against whoever asks for
 //! one: every device that is opened so does.

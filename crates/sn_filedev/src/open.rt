@@ -12,10 +12,17 @@ use std::alloc::Global;
 use std::fs::{Files, Metadata, OpenFile, OpenOptions};
 use std::os::unix::fs::{FileExt, MetadataExt, OpenOptionsExt};
 use std::path::AsPath;
+use std::thread::sleep;
+use std::time::{Clock, Duration};
 use std::{fs, io};
 
 /// Who may read and write a new file: its owner.
 const NEW_MODE: u32 = 0o600;
+
+/// How often a file that is in use is tried again, and after how many milliseconds each time: for a second in all.
+const RETRIES: u32 = 20;
+
+const PAUSE_MILLIS: u64 = 50;
 
 impl<F: FileExt + OpenFile + LockFile + Drop> FileDevice<F> {
     ghost use Rattle.sn_filedev.specs.FileDevice.{status_of, is_read_only};
@@ -37,7 +44,27 @@ impl<F: FileExt + OpenFile + LockFile + Drop> FileDevice<F> {
         FileDevice::new(alloc, file)
     }
 
-    /// The same, to be read alone: others may read it too, and its writes fault.
+    /// The same, but a file that is in use is tried again for a second: who waits until it is free has its lock for a moment then.
+    pub fn open_soon<R: Files<File = F> + Clock, P: AsPath>(
+        alloc: Global,
+        files: &R,
+        path: P,
+    ) -> io::Result<Self>
+        ensures uncalled { IfOk result (λ d. status_of d ≡ uncalled (status_of d).sectors) }
+        ensures writing { IfOk result (λ d. is_read_only d ≡ false) }
+    {
+        for _ in 0..RETRIES {
+            match FileDevice::open(alloc, files, &path) {
+                Err(error) if error.kind() == io::ErrorKind::WouldBlock => {
+                    sleep(files, Duration::from_millis(PAUSE_MILLIS));
+                }
+                opened => return opened,
+            }
+        }
+        FileDevice::open(alloc, files, path)
+    }
+
+    /// The same as `open`, to be read alone: others may read it too, and its writes fault.
     ///
     /// Proved: A device that was opened to be read alone takes no write, and passes none to its file.
     pub fn open_to_read<R: Files<File = F>, P: AsPath>(

@@ -84,6 +84,6 @@ pub(crate) fn serve_on<
     ensures front { OnErr result (BeginsToServe asked (W.contents out.old) (W.contents out.new)) }
     ensures words { IfErr result (λ why. why ≢ fault.Usage) }
 {
-    let opened = FileDevice::open(rt.alloc(), rt, image);
+    let opened = FileDevice::open_soon(rt.alloc(), rt, image);
     serve_from(rt, image, on_file(Which::Image, opened)?, asked, input, out)
 }

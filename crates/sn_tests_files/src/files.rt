@@ -106,11 +106,23 @@ fn take_step(
         }
         "create" => create(host, alloc, devices, value, text),
         "open" => hold(devices, FileDevice::open(alloc, host, value), text),
+        "soon" => hold(devices, FileDevice::open_soon(alloc, host, value), text),
+        "lend" => lend(host, value),
+        "slept" => push_slept(host, text),
         "read" => hold(devices, FileDevice::open_to_read(alloc, host, value), text),
         "close" => close(devices),
         "save" => save(host, alloc, devices, value, text),
         _ => call(devices, step, text),
     }
+}
+
+fn lend(host: &Host<'_>, value: &str) -> Result<()> {
+    host.lend(number_of(value)?);
+    Ok(())
+}
+
+fn push_slept(host: &Host<'_>, text: &mut String) -> Result<()> {
+    push_number(text, host.slept())
 }
 
 fn create(

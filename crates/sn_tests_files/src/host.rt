@@ -8,12 +8,17 @@ use std::io;
 use std::io::{Read, Seek, SeekFrom, Write};
 use std::os::unix::fs::FileExt;
 use std::path::PathBuf;
+use std::time::{Clock, Duration};
 
 /// The files of the system. The sync of a folder fails once it is told to.
 #[derive(Drop)]
 pub struct Host<'a> {
     rt: &'a HostRuntime,
     fails: Cell<bool>,
+    /// For how many pauses more another program has all files locked.
+    pauses_left: Cell<u32>,
+    /// How many milliseconds all pauses took.
+    slept: Cell<u64>,
 }
 
 impl<'a> Host<'a> {
@@ -22,7 +27,19 @@ impl<'a> Host<'a> {
         Host {
             rt,
             fails: Cell::new(false),
+            pauses_left: Cell::new(0),
+            slept: Cell::new(0),
         }
+    }
+
+    /// Another program has all files locked for so many pauses.
+    pub fn lend(&self, pauses: u32) {
+        self.pauses_left.set(pauses);
+    }
+
+    /// How many milliseconds all pauses took.
+    pub fn slept(&self) -> u64 {
+        self.slept.get()
     }
 
     /// The sync of a folder that is opened from now on fails.
@@ -31,11 +48,29 @@ impl<'a> Host<'a> {
     }
 }
 
+impl<'a> Clock for Host<'a> {
+    fn monotonic(&self) -> io::Result<Duration> {
+        self.rt.monotonic()
+    }
+
+    fn since_1970(&self) -> io::Result<Duration> {
+        self.rt.since_1970()
+    }
+
+    fn sleep(&self, duration: Duration) {
+        let millis = u64::try_from(duration.as_millis()).unwrap_or(u64::MAX);
+        self.slept.set(self.slept.get().saturating_add(millis));
+        self.pauses_left
+            .set(self.pauses_left.get().saturating_sub(1));
+    }
+}
+
 /// A file of the system that is open.
 #[derive(Drop)]
 pub struct Opened {
     file: File,
     fails: bool,
+    is_lent: bool,
 }
 
 impl Read for Opened {
@@ -93,6 +128,9 @@ impl OpenFile for Opened {
 
 impl LockFile for Opened {
     fn try_lock(&self) -> Result<(), TryLockError> {
+        if self.is_lent {
+            return Err(TryLockError::WouldBlock);
+        }
         self.file.try_lock()
     }
 
@@ -112,6 +150,7 @@ impl<'a> Files for Host<'a> {
         Ok(Opened {
             file,
             fails: is_folder && self.fails.get(),
+            is_lent: self.pauses_left.get() > 0,
         })
     }
 
