@@ -121,6 +121,14 @@ if [ -f "$release/snapfs" ]; then
     sed -i "s/^program: .*/program: $(sha256sum <"$release/snapfs" | cut -d ' ' -f 1)/" "$release/RELEASE"
     case_of "a release of another machine" 1 "$OTHER_MACHINE" bare ./snapfs mkfs "$image" 256
 fi
+# A program without proofs is no program of the wrapper's: it says so, and a build makes another.
+mkdir -p crates/sn_bin/out
+printf '#!/bin/sh\necho "snapfs unproved: $*"\n' >crates/sn_bin/out/sn_bin
+chmod 755 crates/sn_bin/out/sn_bin
+sh .ci/sources.sh list >crates/sn_bin/out/sn_bin.built
+case_of "a program without proofs says so" 0 "snapfs unproved: --version" bare ./snapfs --version
+case_of "and isn't taken by a build" 1 "$NEEDS_RT" bare ./snapfs --build
+rm -rf crates/sn_bin/out
 rm -rf "$release"
 case_of "no release" 1 "$NO_RELEASE" bare ./snapfs mkfs "$image" 256
 

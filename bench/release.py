@@ -21,6 +21,8 @@ TOP = Path(__file__).resolve().parent.parent
 BUILT = TOP / "crates/sn_bin/out/sn_bin"
 FOLDER = TOP / "release"
 FIRST = "0.1.0"
+# What a program has that .ci/loop built.
+UNPROVED = b"snapfs unproved"
 THEOREM = (
     "The replies and the end of a run are those of a whole run of the machine that sn_model defines, from the world that the image "
     "is one of, and a crash at any moment loses nothing that was answered: the contract of `run` in crates/sn_run/src/running.rt."
@@ -48,6 +50,8 @@ def main(words):
     ran = subprocess.run([TOP / "snapfs"], env={**os.environ, "SNAPFS_BUILT": "1"}, stderr=subprocess.PIPE, text=True)
     if ran.returncode != 2:
         sys.exit(ran.stderr.strip())
+    if UNPROVED in BUILT.read_bytes():
+        sys.exit("the program that is here was built without proofs: ./snapfs --build")
     version = version_of(words)
     FOLDER.mkdir(exist_ok=True)
     shutil.copyfile(BUILT, FOLDER / "snapfs")
