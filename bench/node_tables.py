@@ -8,8 +8,10 @@ here has to give them too. A case is a list of steps with a space between two, a
 
     meet:PARENT:NAME:INODE    an object is found under a name: its id, or ESTALE
     make:PARENT:NAME:INODE    an object is made under a name: its id, or ESTALE
-    open:ID, close:ID, forget:ID:COUNT, drop:ID (its first name), unlink:PARENT:NAME, rename:PARENT:NAME:PARENT:NAME    -
+    open:ID, close:ID, forget:ID:COUNT, drop:ID:AT (its name at a place), unlink:PARENT:NAME, rename:PARENT:NAME:PARENT:NAME    -
+    found:USER:PARENT:NAME    a user has found a name: -
     path:ID, child:ID:NAME    the path, ESTALE or ENAMETOOLONG; size:ID    how many bytes the path has
+    name:ID:AT                the path of its name at a place; finds:USER:ID:AT    whether the user is one of those that found that name: yes or no
     inode:ID, id:INODE, named:PARENT:NAME    a number or none
     counts:ID                 lookups/handles
     all:IDS                   of each of the ids 1 to IDS INODE,PATH,LOOKUPS,HANDLES with a semicolon between two
@@ -33,6 +35,7 @@ class Table:
 
     def __init__(self):
         self.nodes, self.ids, self.newest, self.next = {1: Node(2)}, {}, {2: 1}, 2
+        self.finders = {}  # of each name, the last eight who found it
 
     def is_current(self, i):
         return i in self.nodes and self.newest.get(self.nodes[i].inode) == i
@@ -47,7 +50,7 @@ class Table:
             for i in idle:
                 node = self.nodes.pop(i)
                 for name in node.names:
-                    del self.ids[name]
+                    del self.ids[name], self.finders[name]
                 if self.newest.get(node.inode) == i:
                     del self.newest[node.inode]
 
@@ -56,11 +59,13 @@ class Table:
             self.take(name)
             self.ids[name] = i
             self.nodes[i].names.append(name)
+            self.finders[name] = []
 
     def take(self, name):
         i = self.ids.pop(name, None)
         if i:
             self.nodes[i].names.remove(name)
+            del self.finders[name]
 
     def names(self, i):
         """The names from the root down, or why there are none."""
@@ -114,9 +119,19 @@ class Table:
         if i in self.nodes:
             self.nodes[i].lookups = max(self.nodes[i].lookups - count, 0)
 
-    def drop(self, i):
-        if i in self.nodes and self.nodes[i].names:
-            self.take(self.nodes[i].names[0])
+    def name_at(self, i, at):
+        return self.nodes[i].names[at] if i in self.nodes and at < len(self.nodes[i].names) else None
+
+    def drop(self, i, at):
+        if self.name_at(i, at):
+            self.take(self.nodes[i].names[at])
+
+    def found(self, user, parent, name):
+        name = parent, name
+        if name in self.ids:
+            names = self.nodes[self.ids[name]].names
+            names.append(names.pop(names.index(name)))
+            self.finders[name] = [*(other for other in self.finders[name] if other != user), user][-8:]
 
     def unlink(self, parent, name):
         self.take((parent, name))
@@ -133,6 +148,13 @@ class Table:
 
     def child(self, i, name):
         return self.path(i, name)
+
+    def name(self, i, at):
+        name = self.name_at(i, at)
+        return self.path(*name) if name else "ESTALE"
+
+    def finds(self, user, i, at):
+        return "yes" if user in self.finders.get(self.name_at(i, at), ()) else "no"
 
     def size(self, i):
         path = self.path(i)
@@ -188,8 +210,17 @@ meet:1:a:5 open:2 open:2 close:2 forget:2:1 inode:2 close:2 inode:2 close:2 => 2
 
 # Two names of one file: the first one met makes the path.
 meet:1:a:5 meet:1:b:5 path:2 counts:2 unlink:1:a path:2 unlink:1:b path:2 inode:2 => 2 2 /a 2/0 - /b - ESTALE 5
-meet:1:a:5 meet:1:b:5 drop:2 path:2 named:1:a named:1:b drop:2 path:2 meet:1:a:5 path:2 => 2 2 - /b none 2 - ESTALE 2 /a
+meet:1:a:5 meet:1:b:5 drop:2:0 path:2 named:1:a named:1:b drop:2:0 path:2 meet:1:a:5 path:2 => 2 2 - /b none 2 - ESTALE 2 /a
 meet:1:d:4 meet:1:a:5 meet:2:b:5 unlink:1:a forget:2:1 path:3 forget:3:2 inode:2 => 2 3 3 - - /d/b - none
+
+# Who found a name, and the name that was found last: of nine users the first is forgotten, unless it found the name again.
+meet:1:a:5 found:7:1:a finds:7:2:0 finds:8:2:0 found:8:1:a finds:7:2:0 finds:8:2:0 finds:7:2:1 found:7:1:b => 2 - yes no - yes yes no -
+meet:1:a:5 found:1:1:a found:2:1:a found:3:1:a found:4:1:a found:5:1:a found:6:1:a found:7:1:a found:8:1:a finds:1:2:0 found:9:1:a finds:1:2:0 finds:2:2:0 finds:9:2:0 => 2 - - - - - - - - yes - no yes yes
+meet:1:a:5 found:1:1:a found:2:1:a found:3:1:a found:4:1:a found:5:1:a found:6:1:a found:7:1:a found:8:1:a found:1:1:a found:9:1:a finds:1:2:0 finds:2:2:0 => 2 - - - - - - - - - - yes no
+meet:1:a:5 meet:1:b:5 meet:1:c:5 name:2:0 name:2:1 name:2:2 name:2:3 found:7:1:a name:2:0 name:2:1 name:2:2 finds:7:2:2 path:2 => 2 2 2 /a /b /c ESTALE - /b /c /a yes /b
+meet:1:a:5 meet:1:b:5 meet:1:c:5 drop:2:1 name:2:0 name:2:1 named:1:b drop:2:7 drop:2:1 path:2 => 2 2 2 - /a /c none - - /a
+meet:1:a:5 found:7:1:a rename:1:a:1:b finds:7:2:0 unlink:1:b meet:1:b:5 finds:7:2:0 => 2 - - no - 2 no
+meet:1:a*254:5 meet:2:a*254:6 meet:3:a*254:7 meet:4:a*254:8 meet:5:abc:9 meet:1:b:9 name:6:0 name:6:1 path:6 => 2 3 4 5 6 6 ENAMETOOLONG /b ENAMETOOLONG
 
 # A name that is found to lead elsewhere.
 meet:1:a:5 meet:1:a:6 path:2 path:3 inode:2 named:1:a => 2 3 ESTALE /a 5 3
@@ -210,7 +241,7 @@ meet:1:a:5 open:2 unlink:1:a path:2 inode:2 forget:2:1 inode:2 close:2 inode:2 =
 
 # A number that is used again: the earlier id is stale from then on.
 meet:1:a:5 open:2 unlink:1:a make:1:b:5 inode:2 path:2 inode:3 path:3 id:5 close:2 forget:2:1 id:5 => 2 - - 3 none ESTALE 5 /b 3 - - 3
-meet:1:d:5 meet:2:a:6 make:1:e:5 path:3 inode:3 meet:2:a:6 make:2:c:7 meet:4:a:6 path:3 drop:3 path:3 => 2 3 4 ESTALE 6 ESTALE ESTALE 3 ESTALE - /e/a
+meet:1:d:5 meet:2:a:6 make:1:e:5 path:3 inode:3 meet:2:a:6 make:2:c:7 meet:4:a:6 path:3 drop:3:0 path:3 => 2 3 4 ESTALE 6 ESTALE ESTALE 3 ESTALE - /e/a
 
 # Directories renamed above.
 meet:1:a:5 meet:2:b:6 meet:3:c:7 rename:1:a:1:z path:4 child:3:d rename:2:b:1:y path:4 path:2 => 2 3 4 - /z/b/c /z/b/d - /y/c /z
@@ -238,7 +269,9 @@ def drawn_case(draw):
             [lambda: f"meet:{node()}:{name()}:{draw.randint(3, 8)}"] * 6
             + [lambda: f"make:{node()}:{name()}:{draw.randint(3, 8)}"] * 2
             + [lambda: f"forget:{node()}:{draw.choice((1, 1, 2, 9))}"] * 4
-            + [lambda: f"open:{node()}", lambda: f"close:{node()}", lambda: f"drop:{node()}", lambda: f"unlink:{at()}"]
+            + [lambda: f"open:{node()}", lambda: f"close:{node()}", lambda: f"drop:{node()}:{draw.choice((0, 0, 1, 2))}", lambda: f"unlink:{at()}"]
+            + [lambda: f"found:{draw.randint(0, 9)}:{at()}"] * 3
+            + [lambda: f"name:{node()}:{draw.randint(0, 2)}", lambda: f"finds:{draw.randint(0, 9)}:{node()}:{draw.choice((0, 0, 1))}"]
             + [lambda: f"rename:{at()}:{node()}:{name()}", lambda: f"rename:{at()}:{at()}", lambda: f"path:{node()}"]
             + [lambda: f"child:{node()}:{name()}", lambda: f"named:{at()}", lambda: f"id:{draw.randint(2, 8)}"]
         )()

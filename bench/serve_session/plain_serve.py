@@ -28,6 +28,7 @@ MODE, USER, GROUP, SIZE, BY_HANDLE = 1, 2, 4, 8, 64
 MODES, SET_GROUP = 0o3777, 0o2000
 TELLS_NODE = ("FOUND", "KNOWN", "MADE")
 CHANGING = ("mkdir", "chmod", "chown", "setacl", "rmdir", "unlink", "link", "rename", "write", "ftruncate", "snap-create", "snap-delete")
+FINDING, TRIES = ("LOOKUP", "MKNOD", "MKDIR", "RENAME", "RENAME2", "LINK", "CREATE"), 8
 WITHOUT_REPLY = ("FORGET", "BATCH_FORGET", "INTERRUPT")
 
 
@@ -193,6 +194,8 @@ class Server:
             else:
                 self.times.clock.now()
             return f"ERROR {error}"
+        if word in FINDING:
+            self.change("found", self.asks[0], fields[0] if word.startswith("RENAME") else node, to_image(fields[-1]))
         self.times.mark(word, about, fields, self.number_told(reply))
         return reply
 
@@ -282,14 +285,61 @@ class Server:
                 raise No(path)
             if path != "ESTALE" and self.find(path) == self.table.inode(node):
                 return path
-            self.change("drop", node)
+            self.change("drop", node, 0)
         return None
 
-    def path(self, node):
-        place = self.place(node)
+    def need(self, place):
         if place is None:
             raise No("ESTALE")
         return place
+
+    def path(self, node):
+        return self.need(self.place(node))
+
+    def is_open(self, node):
+        return node in self.table.nodes and self.table.nodes[node].handles > 0
+
+    def reached(self, node, as_user_0=False):
+        """The path by which who asks reaches a node: of several names the first by which a stat isn't denied."""
+        names = self.table.nodes[node].names if node in self.table.nodes else ()
+        if len(names) < 2:
+            return self.place(node)
+        user = 0 if as_user_0 else self.asks[0]
+        if user and self.senders.groups(self.asks[2]) is None:
+            raise No("EACCES")
+        if not self.table.is_current(node):
+            raise No("ESTALE")
+        tried, is_long = 0, False
+        for own in (True, False):
+            for name in reversed([*names]):
+                if tried == TRIES:
+                    break
+                if (user in self.table.finders[name]) != own:
+                    continue
+                path = self.table.path(*name)
+                if path == "ENAMETOOLONG":
+                    is_long = True
+                elif path == "ESTALE" or self.find(path) != self.table.inode(node):
+                    self.change("drop", node, names.index(name))
+                elif user == 0 or not self.is_denied(path):
+                    return path
+                else:
+                    tried += 1
+        if tried or is_long:
+            raise No("EACCES" if tried else "ENAMETOOLONG")
+        return None
+
+    def is_denied(self, path):
+        try:
+            self.as_caller(f"stat {path}")
+        except No as error:
+            if str(error) == "EACCES":
+                return True
+            raise
+        return False
+
+    def path_for(self, node):
+        return self.need(self.reached(node))
 
     def child(self, parent, name):
         """The name of the image and the path of a name of a directory."""
@@ -371,7 +421,7 @@ class Server:
         self.change("rename", parent, image, directory, target)
 
     def do_link(self, directory, node, name):
-        old = self.path(node)
+        old = self.path_for(node)
         image, new = self.child(directory, name)
         self.as_caller(f"link {old} {new}")
         status = self.call(0, f"stat {new}")
@@ -381,7 +431,7 @@ class Server:
         raise No("EPERM")
 
     def do_access(self, node, mask):
-        place = self.place(node)
+        place = self.reached(node)
         if place is not None:
             self.as_caller(f"access {place} {rights(mask & 7)}")
 
@@ -409,7 +459,7 @@ class Server:
         return self.session_of(handle), self.files[handle][0]
 
     def do_open(self, node, flags):
-        handle, path = self.vacant(), self.path(node)
+        handle, path = self.vacant(), self.path_for(node)
         self.as_caller(f"open {path} {asked_of(flags)}")
         self.hold(handle, node, self.call(self.session_of(handle), f"open {path} {letters_of(flags)}"))
         return f"OPENED {handle} 0"
@@ -463,10 +513,10 @@ class Server:
 
     def status(self, node):
         """What who asks is told of a node, and its path."""
-        place = self.place(node)
+        is_open = self.is_open(node)
+        place = self.reached(node, is_open)
         if place is None:
             return None, self.seen(node)
-        is_open = self.table.nodes[node].handles > 0
         return place, self.call(0, f"stat {place}") if is_open else self.as_caller(f"stat {place}")
 
     def do_getattr(self, node, *_):
@@ -498,7 +548,7 @@ class Server:
                 return
             if not dating.are_both_now():
                 raise No("EPERM")
-            self.as_caller(f"access {self.path(node)} -w-")
+            self.as_caller(f"access {self.path_for(node)} -w-")
 
     def keeps_all(self, node, there):
         """Whether a chown or a chmod of who asks that sets what is there would change nothing, and not be refused."""
@@ -509,15 +559,15 @@ class Server:
         owners = there.split()[3:5]
         if user is group is None or self.keeps_all(node, there) and all(who is None or who == int(was) for who, was in zip((user, group), owners)):
             return
-        self.as_caller(f"chown {self.path(node)} {'-' if user is None else user} {'-' if group is None else group}")
+        self.as_caller(f"chown {self.path_for(node)} {'-' if user is None else user} {'-' if group is None else group}")
 
     def set_mode(self, node, there, mode):
         if not (self.keeps_all(node, there) and mode == int(there.split()[1], 8) & MODES):
-            self.as_caller(f"chmod {self.path(node)} {mode:04o}")
+            self.as_caller(f"chmod {self.path_for(node)} {mode:04o}")
 
     def set_size(self, node, handle, size):
         if handle is None:
-            self.as_caller(f"open {self.path(node)} w", f"ftruncate {{}} {size}")
+            self.as_caller(f"open {self.path_for(node)} w", f"ftruncate {{}} {size}")
         else:
             session, descriptor = self.file(handle)
             self.call(session, f"ftruncate {descriptor} {size}")
@@ -560,12 +610,12 @@ class Server:
         if name not in KINDS:
             raise No("EOPNOTSUPP")
         text = acl_of(value)
-        self.as_caller(f"setacl {self.path(node)} {KINDS[name]} {text}")
+        self.as_caller(f"setacl {self.path_for(node)} {KINDS[name]} {text}")
 
     def do_removexattr(self, node, name):
         if name not in KINDS:
             raise No("ENODATA")
-        path, text = self.path(node), "-"
+        path, text = self.path_for(node), "-"
         if KINDS[name] == "a":
             mode = int(self.as_caller(f"stat {path}").split()[1], 8)
             text = ",".join(f"{kind}::{rights(mode >> shift & 7)}" for kind, shift in (("u", 6), ("g", 3), ("o", 0)))

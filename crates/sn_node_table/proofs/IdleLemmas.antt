@@ -3,15 +3,15 @@ use Rattle.std.proofs.Common.{◌≡◌, ◌≢◌, ℕ, ◌==◌, Bool, true, f
 use Rattle.std.specs.Ordering.{nat_cmp, eq_by_cmp}
 use Rattle.std.specs.Cmp.{eq_by_cmp_equiv, nat_cmp_total}
 use Rattle.std.specs.Cmp.Lexicographic.{slice_cmp, nat_list_cmp_total}
-use Rattle.std.specs.Option.{option_map, option_and_then}
+use Rattle.std.specs.Option.{option_map}
 use Rattle.std.specs.FinMap as map
 use Rattle.std.proofs.lemmas.Map.Lookups.{exact_unsigned}
 use Rattle.std.proofs.lemmas.Map.Views.{tells_apart}
 use Rattle.sn_maps.specs.Maps.{updated}
 use Rattle.sn_maps.proofs.MapLemmas.{get-updated}
 use Rattle.sn_node_table.specs.declared.links.Link.{Link}
-use Rattle.sn_node_table.specs.Nodes.{Below, IsIdle, Node, first_link, link_to, new_node, with_handles, with_link, with_lookups, with_name, without_first_link, without_link, without_name}
-use Rattle.sn_node_table.specs.Tables.{IsIdleAt, IsIdleNode, Nodes, Table, added, dropped, dropped_of, handles_of, is_id, linked, linked_over, lookups_of, made, met, met_as, moved, moved_as, named, node_at, one_more, opened, put, unlinked, unlinked_from}
+use Rattle.sn_node_table.specs.Nodes.{Below, IsIdle, Node, link_to, new_node, with_handles, with_link, with_lookups, with_name, without_link, without_link_at, without_name}
+use Rattle.sn_node_table.specs.Tables.{IsIdleAt, IsIdleNode, Nodes, Table, added, dropped, dropped_of, handles_of, is_id, linked, linked_over, lookups_of, made, met, met_as, moved, moved_as, name_at, named, node_at, one_more, opened, put, unlinked, unlinked_from}
 
 -- A change makes no node idle that wasn't.
 abbrev Holds : (Node → Node) → Type 0
@@ -39,8 +39,8 @@ holds-link link node idle = record { lookups = idle.lookups; handles = idle.hand
 holds-unlink : (parent : ℕ) (name : List ℕ) → Holds (without_link parent name)
 holds-unlink parent name node idle = record { lookups = idle.lookups; handles = idle.handles; below = idle.below }
 
-holds-first : Holds without_first_link
-holds-first node idle = record { lookups = idle.lookups; handles = idle.handles; below = idle.below }
+holds-at : (at : ℕ) → Holds (without_link_at at)
+holds-at at node idle = record { lookups = idle.lookups; handles = idle.handles; below = idle.below }
 
 -- a name below does
 some≢none : {X : Type 0} (x : X) → Some x ≢ None
@@ -74,15 +74,15 @@ idle_unlinked t u parent name other apart is idle = record {
   lower = idle.lower;
 }
 
-dropped_at : (o : Option Link) (t : Table) (id parent other : ℕ) → option_map (λ (link : Link). link.parent) o ≡ Some parent → other ≢ parent → IsIdleNode (map.get (dropped_of o t id).nodes other) → IsIdleNode (map.get t.nodes other)
-dropped_at None t id parent other e apart idle = idle
-dropped_at (Some link) t id parent other e apart idle =
+dropped_at : (o : Option Link) (t : Table) (id at parent other : ℕ) → option_map (λ (link : Link). link.parent) o ≡ Some parent → other ≢ parent → IsIdleNode (map.get (dropped_of o t id at).nodes other) → IsIdleNode (map.get t.nodes other)
+dropped_at None t id at parent other e apart idle = idle
+dropped_at (Some link) t id at parent other e apart idle =
     let is : link.parent ≡ parent = grind (arith, e) in
-    idle_updated t.nodes id without_first_link other holds-first (idle_elsewhere (updated t.nodes id without_first_link) link.parent (without_name link.name) other (λ same. apart (same ∙ is)) idle)
+    idle_updated t.nodes id (without_link_at at) other (holds-at at) (idle_elsewhere (updated t.nodes id (without_link_at at)) link.parent (without_name link.name) other (λ same. apart (same ∙ is)) idle)
 
-pub idle_dropped : (t u : Table) (id parent other : ℕ) → option_map (λ (link : Link). link.parent) (option_and_then first_link (map.get t.nodes id)) ≡ Some parent → other ≢ parent → u ≡ dropped t id → IsIdleAt u other → IsIdleAt t other
-idle_dropped t u id parent other e apart is idle = record {
-  node = dropped_at (option_and_then first_link (map.get t.nodes id)) t id parent other e apart (subst (λ (w : Table). IsIdleNode (map.get w.nodes other)) is idle.node);
+pub idle_dropped : (t u : Table) (id at parent other : ℕ) → option_map (λ (link : Link). link.parent) (name_at t id at) ≡ Some parent → other ≢ parent → u ≡ dropped t id at → IsIdleAt u other → IsIdleAt t other
+idle_dropped t u id at parent other e apart is idle = record {
+  node = dropped_at (name_at t id at) t id at parent other e apart (subst (λ (w : Table). IsIdleNode (map.get w.nodes other)) is idle.node);
   lower = idle.lower;
 }
 

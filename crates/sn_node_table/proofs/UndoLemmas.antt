@@ -1,18 +1,16 @@
 -- What takes a change of the nodes back.
 use Rattle.std.proofs.Common.{◌≡◌, ℕ, ◌-◌, Bool, true, false, cond, List, [], ◌∷◌, ◌++◌, length, take, drop, Option, Some, None, refl, ap, ◌∙◌, arith}
-use Rattle.std.specs.Prelude.{slice_get}
 use Rattle.std.specs.Ordering.{nat_cmp, eq_by_cmp}
 use Rattle.std.specs.Cmp.{nat_cmp_total}
-use Rattle.std.specs.Option.{option_and_then, option_map}
+use Rattle.std.specs.Option.{option_map}
 use Rattle.std.specs.FinMap as map
 use Rattle.std.proofs.lemmas.List.{length-append}
 use Rattle.std.proofs.lemmas.Map.Lookups.{exact_unsigned}
-use Rattle.std.proofs.lemmas.Map.Views.{tells_apart}
 use Rattle.std.proofs.Math.Seq.{take-append_seam}
 use Rattle.sn_maps.specs.Maps.{updated}
 use Rattle.sn_maps.proofs.MapLemmas.{get-updated}
 use Rattle.sn_node_table.specs.declared.links.Link.{Link}
-use Rattle.sn_node_table.specs.Nodes.{Node, first_link, with_link, without_first_link, without_last_link}
+use Rattle.sn_node_table.specs.Nodes.{Node, with_link, without_last_link}
 use Rattle.sn_node_table.specs.Tables.{Nodes}
 
 twice : (b : Bool) (o : Option Node) (f g : Node → Node) → ((node : Node) → g (f node) ≡ node) → cond b (option_map g (cond b (option_map f o) o)) (cond b (option_map f o) o) ≡ o
@@ -35,19 +33,3 @@ links_before links link =
 
 pub unlinked_last : (nodes : Nodes) (id : ℕ) (link : Link) → updated (updated nodes id (with_link link)) id without_last_link ≡ nodes
 unlinked_last nodes id link = undone nodes id (with_link link) without_last_link (λ node. ap (λ (links : List Link). record node { links = links }) (links_before node.links link))
-
-none_first : (links : List Link) → slice_get links 0 ≡ None → drop 1 links ≡ links
-none_first [] e = refl
-none_first (link ∷ links) e = absurd (grind (arith, e))
-
-untouched : (o : Option Node) → option_and_then first_link o ≡ None → option_map without_first_link o ≡ o
-untouched None e = refl
-untouched (Some node) e = ap (λ (links : List Link). Some (record node { links = links })) (none_first node.links e)
-
--- a first name is taken from none
-pub no_first : (nodes : Nodes) (id : ℕ) → option_and_then first_link (map.get nodes id) ≡ None → updated nodes id without_first_link ≡ nodes
-no_first nodes id none = map.same_map nat_cmp_total exact_unsigned _ _ (λ q. get-updated nat_cmp_total exact_unsigned nodes id without_first_link q ∙ at_key q (eq_by_cmp nat_cmp q id) refl)
-  where
-    at_key : (q : ℕ) (b : Bool) → eq_by_cmp nat_cmp q id ≡ b → cond b (option_map without_first_link (map.get nodes q)) (map.get nodes q) ≡ map.get nodes q
-    at_key q true e = untouched (map.get nodes q) (ap (λ (k : ℕ). option_and_then first_link (map.get nodes k)) (tells_apart exact_unsigned q id e) ∙ none)
-    at_key q false e = refl

@@ -5,7 +5,7 @@ use Rattle.sn_node_table.specs.declared.links.Link.{Link}
 use Rattle.sn_node_table.specs.declared.path.NoPath.{NoPath}
 use Rattle.sn_node_table.specs.declared.path.NoPath.TheVariants.{Stale, TooLong}
 use Rattle.sn_node_table.specs.Nodes.{first_link}
-use Rattle.sn_node_table.specs.Tables.{Table, node_at}
+use Rattle.sn_node_table.specs.Tables.{Table, name_at, node_at}
 
 -- with a slash and a name at the end, where there is room for them
 abbrev pub extended : List ℕ → Result (List ℕ) NoPath → Result (List ℕ) NoPath
@@ -31,6 +31,10 @@ spelled (Ok (byte ∷ bytes)) = Ok (byte ∷ bytes)
 -- No path has more than 511 names.
 abbrev pub path_of : Table → ℕ → Result (List ℕ) NoPath
 path_of t id = spelled (climbed t 512 id)
+
+-- the path of one of its names, below the first names of that name's directory
+abbrev pub name_path_of : Table → ℕ → ℕ → Result (List ℕ) NoPath
+name_path_of t id at = by_link (climbed t 512) (name_at t id at)
 
 abbrev pub child_path_of : Table → ℕ → List ℕ → Result (List ℕ) NoPath
 child_path_of t parent name = extended name (climbed t 512 parent)

@@ -5,7 +5,7 @@ use Rattle.std.specs.Option.{option_map, option_and_then}
 use Rattle.std.specs.FinMap as map
 use Rattle.sn_maps.specs.Maps.{filtered, updated}
 use Rattle.sn_node_table.specs.declared.links.Link.{Link}
-use Rattle.sn_node_table.specs.Nodes.{IsIdle, Node, below_of, first_link, link_to, new_node, with_handles, with_link, with_lookups, with_name, without_first_link, without_link, without_name}
+use Rattle.sn_node_table.specs.Nodes.{IsIdle, Node, below_of, link_at, link_to, new_node, with_find, with_handles, with_link, with_lookups, with_name, without_link, without_link_at, without_name}
 
 abbrev pub Nodes : Type 0
 Nodes = map.FinMap nat_cmp Node
@@ -130,13 +130,24 @@ given_as (Some id) t = id
 abbrev pub given : Table → ℕ → ℕ
 given t inode = given_as (map.get t.current inode) t
 
--- without the first name of an id
-abbrev pub dropped_of : Option Link → Table → ℕ → Table
-dropped_of None t id = t
-dropped_of (Some link) t id = record t { nodes = updated (updated t.nodes id without_first_link) link.parent (without_name link.name) }
+-- a user found a name, if it is known
+abbrev pub found_of : Option ℕ → Table → ℕ → ℕ → List ℕ → Table
+found_of None t user parent name = t
+found_of (Some id) t user parent name = record t { nodes = updated t.nodes id (with_find user parent name) }
 
-abbrev pub dropped : Table → ℕ → Table
-dropped t id = dropped_of (option_and_then first_link (map.get t.nodes id)) t id
+abbrev pub found : Table → ℕ → ℕ → List ℕ → Table
+found t user parent name = found_of (named t parent name) t user parent name
+
+-- one of an id's names, by its place, and without it
+abbrev pub name_at : Table → ℕ → ℕ → Option Link
+name_at t id at = option_and_then (link_at at) (map.get t.nodes id)
+
+abbrev pub dropped_of : Option Link → Table → ℕ → ℕ → Table
+dropped_of None t id at = t
+dropped_of (Some link) t id at = record t { nodes = updated (updated t.nodes id (without_link_at at)) link.parent (without_name link.name) }
+
+abbrev pub dropped : Table → ℕ → ℕ → Table
+dropped t id at = dropped_of (name_at t id at) t id at
 
 -- REMOVAL
 

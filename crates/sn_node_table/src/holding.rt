@@ -11,8 +11,8 @@ impl NodeTable {
     /// Subtracts lookups that the system forgot. An id that nothing holds any longer is removed, and so are the directories above
     /// it that nothing else held.
     ///
-    /// Proved, also of `close`, `unlink`, `rename` and `drop_first_link`: After a forget, a close, an unlink, a rename, or the
-    /// removal of a first name, the table is the result of that alone, without ids that were removed one after another, each
+    /// Proved, also of `close`, `unlink`, `rename` and `drop_link`: After a forget, a close, an unlink, a rename, or the
+    /// removal of a name that leads elsewhere, the table is the result of that alone, without ids that were removed one after another, each
     /// while no lookup, handle or name below held it. No id becomes idle.
     pub fn forget(&mut self, id: u64, count: u64)
         ensures goes { Goes (forgotten (table_of self.old) id count) (table_of self.new) }
@@ -60,12 +60,12 @@ impl NodeTable {
         Ok(())
     }
 
-    /// Removes the first name of a node, which was found to lead elsewhere. Ids are removed as by `forget`.
-    pub fn drop_first_link(&mut self, id: u64)
-        ensures goes { Goes (dropped (table_of self.old) id) (table_of self.new) }
+    /// Removes the name of a node that is at a place, which was found to lead elsewhere. Ids are removed as by `forget`.
+    pub fn drop_link(&mut self, id: u64, at: usize)
+        ensures goes { Goes (dropped (table_of self.old) id at) (table_of self.new) }
         ensures idle { NoneIsIdled (table_of self.old) (table_of self.new) }
     {
-        if let Some(parent) = self.take_first_link(id) {
+        if let Some(parent) = self.take_link(id, at) {
             self.sweep(parent);
         }
     }

@@ -12,6 +12,7 @@
 //! - A new object gets a new id. The id of an earlier object with its number is then stale: it has no path and no number.
 //! - A path is made of first names ([`paths_are_chains`]). The caller drops a name that leads elsewhere; an id without names has no
 //!   path.
+//! - Of a name the last eight users are known that found it (`NodeTable::found`), and a node's names are in the order in which they were last found.
 //! - An id is removed with its last lookup, handle and known name below: `Goes` says that ids are removed one after another, each
 //!   while nothing holds it, and `NoneIsIdled` that no id becomes idle.
 //! - A call that is refused memory leaves the table unchanged.
@@ -43,7 +44,7 @@ mod sweeping;
 mod table;
 
 pub use laws::{ids_are_given_in_order, nothing_is_idled, paths_are_chains};
-pub use links::Link;
+pub use links::{Finders, Link};
 pub use meeting::NodeFault;
 pub use path::{NoPath, PathText};
 pub use table::{NodeTable, ROOT_ID};

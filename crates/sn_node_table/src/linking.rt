@@ -1,10 +1,8 @@
 //! The names of nodes.
 ghost use Rattle.std.specs.Prelude.{◌≡◌, OnOk, OnErr};
-ghost use Rattle.std.specs.FinMap as map;
-ghost use Rattle.std.specs.Option.{option_and_then, option_map};
-ghost use Rattle.sn_node_table.specs.Nodes.{first_link};
+ghost use Rattle.std.specs.Option.{option_map};
 ghost use Rattle.sn_node_table.specs.declared.links.Link.{Link as TheLink};
-ghost use Rattle.sn_node_table.specs.Tables.{dropped, linked, moved, put, unlinked};
+ghost use Rattle.sn_node_table.specs.Tables.{dropped, found, linked, moved, name_at, put, unlinked};
 
 use crate::links::Link;
 use crate::table::NodeTable;
@@ -84,12 +82,23 @@ impl NodeTable {
         Ok(())
     }
 
-    /// Removes the first name of a node. Returns the directory of that name, which is left even where nothing holds it any longer.
-    pub(crate) fn take_first_link(&mut self, id: u64) -> Option<u64>
-        ensures table { table_of self.new ≡ dropped (table_of self.old) id }
-        ensures parent { result ≡ option_map (λ (link : TheLink). link.parent) (option_and_then first_link (map.get (table_of self.old).nodes id)) }
+    /// A user has found a name of a directory, and is the last one that did; the name is the last of its node's. It allocates nothing.
+    ///
+    /// Proved: Of a name the last eight users are known that found it, and it is the last name of its node from then on.
+    pub fn found(&mut self, user: u32, parent: u64, name: &[u8])
+        ensures { table_of self.new ≡ found (table_of self.old) user parent name.now }
     {
-        let link = self.nodes.take_first_link(id)?;
+        if let Some(id) = self.named(parent, name) {
+            self.nodes.find(id, user, parent, name);
+        }
+    }
+
+    /// Removes the name of a node that is at a place. Returns the directory of that name, which is left even where nothing holds it any longer.
+    pub(crate) fn take_link(&mut self, id: u64, at: usize) -> Option<u64>
+        ensures table { table_of self.new ≡ dropped (table_of self.old) id at }
+        ensures parent { result ≡ option_map (λ (link : TheLink). link.parent) (name_at (table_of self.old) id at) }
+    {
+        let link = self.nodes.take_link(id, at)?;
         self.nodes.take_name(link.parent, link.name.as_bytes());
         Some(link.parent)
     }

@@ -1,5 +1,5 @@
 //! A stored node.
-ghost use Rattle.std.specs.Prelude.{◌≡◌, ◌↔◌, OnOk, OnErr, IsTrue};
+ghost use Rattle.std.specs.Prelude.{◌≡◌, ◌↔◌, None, OnOk, OnErr, OnSome, IsTrue};
 ghost use Rattle.std.specs.Option.{option_copied};
 
 use crate::below::NamesBelow;
@@ -21,7 +21,7 @@ pub(crate) struct StoredNode {
 }
 
 impl StoredNode {
-    ghost use Rattle.sn_node_table.specs.Nodes.{IsIdle, first_link, new_node, with_link, with_name, without_first_link, without_last_link, without_link, without_name};
+    ghost use Rattle.sn_node_table.specs.Nodes.{IsIdle, link_at, new_node, with_find, with_link, with_name, without_last_link, without_link, without_link_at, without_name};
     ghost use Rattle.sn_node_table.specs.Stored.{node_of};
 
     /// A node that was looked up once. It allocates nothing.
@@ -37,11 +37,18 @@ impl StoredNode {
         }
     }
 
-    /// Its first name.
-    pub fn first_link(&self) -> Option<&Link>
-        ensures { option_copied result ≡ first_link (node_of self.now) }
+    /// The name at a place.
+    pub fn link(&self, at: usize) -> Option<&Link>
+        ensures { option_copied result ≡ link_at at (node_of self.now) }
     {
-        self.links.first()
+        self.links.get(at)
+    }
+
+    /// A user has found one of its names, which is the last one then.
+    pub fn find(&mut self, user: u32, parent: u64, name: &[u8])
+        ensures { node_of self.new ≡ with_find user parent name.now (node_of self.old) }
+    {
+        self.links.find(user, parent, name);
     }
 
     /// Adds a name.
@@ -59,12 +66,13 @@ impl StoredNode {
         self.links.pop();
     }
 
-    /// Removes its first name, and returns it.
-    pub fn take_first_link(&mut self) -> Option<Link>
-        ensures link { result ≡ first_link (node_of self.old) }
-        ensures rest { node_of self.new ≡ without_first_link (node_of self.old) }
+    /// Removes the name at a place, and returns it.
+    pub fn take_link(&mut self, at: usize) -> Option<Link>
+        ensures link { result ≡ link_at at (node_of self.old) }
+        ensures rest { OnSome result (node_of self.new ≡ without_link_at at (node_of self.old)) }
+        ensures none { result ≡ None → node_of self.new ≡ node_of self.old }
     {
-        self.links.take_first()
+        self.links.take(at)
     }
 
     /// Removes one of its names.

@@ -1,10 +1,10 @@
 //! The nodes by id.
-ghost use Rattle.std.specs.Prelude.{◌≡◌, OnOk, OnErr};
+ghost use Rattle.std.specs.Prelude.{◌≡◌, None, OnOk, OnErr, OnSome};
 ghost use Rattle.std.specs.Option.{option_and_then, option_copied, option_map};
 ghost use Rattle.std.specs.FinMap as map;
 ghost use Rattle.sn_maps.specs.Maps.{updated};
 ghost use Rattle.sn_node_table.specs.Tables.{unhooked};
-ghost use Rattle.sn_node_table.specs.Nodes.{first_link, with_handles, with_link, with_lookups, with_name, without_first_link, without_last_link, without_link, without_name};
+ghost use Rattle.sn_node_table.specs.Nodes.{link_at, with_find, with_handles, with_link, with_lookups, with_name, without_last_link, without_link, without_link_at, without_name};
 
 use crate::links::{Link, Links};
 use crate::node::StoredNode;
@@ -100,14 +100,24 @@ impl Nodes {
         }
     }
 
-    /// Removes the first name of a node, and returns it.
-    pub fn take_first_link(&mut self, id: u64) -> Option<Link>
-        ensures link { result ≡ option_and_then first_link (map.get (nodes_of self.old) id) }
-        ensures rest { nodes_of self.new ≡ updated (nodes_of self.old) id without_first_link }
+    /// Removes the name of a node that is at a place, and returns it.
+    pub fn take_link(&mut self, id: u64, at: usize) -> Option<Link>
+        ensures link { result ≡ option_and_then (link_at at) (map.get (nodes_of self.old) id) }
+        ensures rest { OnSome result (nodes_of self.new ≡ updated (nodes_of self.old) id (without_link_at at)) }
+        ensures none { result ≡ None → nodes_of self.new ≡ nodes_of self.old }
     {
         match self.map.get_mut(&id) {
-            Some(node) => node.take_first_link(),
+            Some(node) => node.take_link(at),
             None => None,
+        }
+    }
+
+    /// A user has found a name of a node.
+    pub fn find(&mut self, id: u64, user: u32, parent: u64, name: &[u8])
+        ensures { nodes_of self.new ≡ updated (nodes_of self.old) id (with_find user parent name.now) }
+    {
+        if let Some(node) = self.map.get_mut(&id) {
+            node.find(user, parent, name);
         }
     }
 

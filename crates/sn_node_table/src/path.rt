@@ -1,6 +1,6 @@
 //! The path of a node.
 ghost use Rattle.std.specs.Prelude.{◌≡◌, [], OnOk, OnErr, IfErr, MatchResult, Ok, Err};
-ghost use Rattle.sn_node_table.specs.Paths.{child_path_of, climbed, extended, path_of};
+ghost use Rattle.sn_node_table.specs.Paths.{child_path_of, climbed, extended, name_path_of, path_of};
 
 use crate::table::{NodeTable, ROOT_ID};
 use arrayvec::ArrayVec;
@@ -54,7 +54,7 @@ impl NodeTable {
         let Some(node) = self.node(id) else {
             return Err(NoPath::Stale);
         };
-        let Some(link) = node.first_link() else {
+        let Some(link) = node.link(0) else {
             return Err(NoPath::Stale);
         };
         self.climb(hops - 1, link.parent, text)?;
@@ -72,6 +72,16 @@ impl NodeTable {
             text.push(b'/');
         }
         Ok(text)
+    }
+
+    /// The path of one of a node's names, by its place, below the first names of that name's directory. `Stale` where there is none.
+    pub fn name_path(&self, id: u64, at: usize) -> Result<PathText, NoPath>
+        ensures { MatchResult result (λ text. name_path_of (table_of self.now) id at ≡ Ok text.items) (λ fault. name_path_of (table_of self.now) id at ≡ Err fault) }
+    {
+        let Some(link) = self.link_at(id, at) else {
+            return Err(NoPath::Stale);
+        };
+        self.child_path(link.parent, link.name.as_bytes())
     }
 
     /// The path of a name of a directory, whether or not something is there.

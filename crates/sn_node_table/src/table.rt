@@ -3,9 +3,11 @@ ghost use Rattle.std.specs.Prelude.{◌≡◌, ◌-◌, ◌≤◌, ◌^◌, IfOk
 ghost use Rattle.std.specs.Option.{option_copied, option_map};
 ghost use Rattle.std.specs.FinMap as map;
 ghost use Rattle.sn_node_table.specs.Fresh.{AreFresh};
-ghost use Rattle.sn_node_table.specs.Tables.{closed, forgotten, handles_of, inode_of, links_of, looked_up, lookups_of, named, node_at, opened, root_alone};
+ghost use Rattle.sn_node_table.specs.Nodes.{is_found_by};
+ghost use Rattle.sn_node_table.specs.Tables.{closed, forgotten, handles_of, inode_of, links_of, looked_up, lookups_of, name_at, named, node_at, opened, root_alone};
 
 use crate::current::Current;
+use crate::links::Link;
 use crate::node::StoredNode;
 use crate::nodes::Nodes;
 use std::alloc::{AllocError, Global};
@@ -103,6 +105,24 @@ impl NodeTable {
         match self.nodes.get(id) {
             Some(node) => node.links.len(),
             None => 0,
+        }
+    }
+
+    /// One of a node's names, by its place.
+    pub(crate) fn link_at(&self, id: u64, at: usize) -> Option<&Link>
+        ensures { option_copied result ≡ name_at (table_of self.now) id at }
+    {
+        let node = self.nodes.get(id)?;
+        node.link(at)
+    }
+
+    /// Whether a user is one of the last eight who found the name of a node that is at a place.
+    pub fn is_found_by(&self, user: u32, id: u64, at: usize) -> bool
+        ensures { result ≡ is_found_by user (name_at (table_of self.now) id at) }
+    {
+        match self.link_at(id, at) {
+            Some(link) => link.is_found_by(user),
+            None => false,
         }
     }
 

@@ -43,7 +43,7 @@ pub goes_in : {F : Type 0} {did : F → F → List Act → Type 0} {s t : Server
 goes_in {did = did} {s = s} {t = t} {next = next} {r = r} reply other h = subst (λ (p : Plan Reply). Does did s t p r) (next_once next reply other) h
 
 -- the login is known
-pub is_asked : {F : Type 0} {did : F → F → List Act → Type 0} {s t : Server F} (x y : Result Call Errno) (login : Call) (k : Call → Plan Reply) {r : Result Reply Errno}
+pub is_asked : {F A : Type 0} {did : F → F → List Act → Type 0} {s t : Server F} (x y : Result Call Errno) (login : Call) (k : Call → Plan A) {r : Result A Errno}
     → (y ≡ x) ⊎ (y ≡ Err ENOMEM) → y ≡ Ok login → Does did s t (k login) r → Does did s t (Takes (given x >>= k)) r
 unfolding given ◌>>=◌
 is_asked {did = did} {s = s} {t = t} x y login k {r = r} known is h = takes_it (⊎_elim
@@ -52,7 +52,7 @@ is_asked {did = did} {s = s} {t = t} x y login k {r = r} known is h = takes_it (
     known)
 
 -- it isn't
-pub is_not_asked : {F : Type 0} (did : F → F → List Act → Type 0) (s : Server F) (x y : Result Call Errno) (k : Call → Plan Reply) (e : Errno)
+pub is_not_asked : {F A : Type 0} (did : F → F → List Act → Type 0) (s : Server F) (x y : Result Call Errno) (k : Call → Plan A) (e : Errno)
     → (y ≡ x) ⊎ (y ≡ Err ENOMEM) → y ≡ Err e → Does did s s (Takes (given x >>= k)) (Err e)
 unfolding given ◌>>=◌
 is_not_asked did s x y k e known is = ⊎_elim

@@ -4,6 +4,7 @@ use Rattle.std.specs.Prelude.{Option, None, Some, Result, Ok, Err, IsErrAnd, Mat
 use Rattle.arrayvec.specs.ArrayVec.{ArrayVec}
 use Rattle.sn_fuse_replies.specs.declared.errno.Errno.{Errno}
 use Rattle.sn_fuse_replies.specs.declared.errno.Errno.TheVariants.{ENAMETOOLONG, ESTALE}
+use Rattle.sn_model.specs.declared.call.Call.{Call}
 use Rattle.sn_node_table.specs.Paths.{child_path_of, path_of}
 use Rattle.sn_node_table.specs.Tables.{Goes as Loses, NoneIsIdled, dropped, inode_of}
 use Rattle.sn_node_table.specs.Told.{table_of}
@@ -12,7 +13,7 @@ use Rattle.sn_node_table.specs.declared.path.NoPath.TheVariants.{Stale, TooLong}
 use Rattle.sn_plan.specs.Acts.{Act}
 use Rattle.sn_plan.specs.Asking.{finds}
 use Rattle.sn_plan.specs.Follows.{Does, Goes, Tells, Writes, bytes_of, kept_of, text_of}
-use Rattle.sn_plan.specs.Places.{child_at, child_in, forgets, is_number, looked, or_else, path_at, place_of, text_in, tries, tries_all, try_place}
+use Rattle.sn_plan.specs.Places.{child_at, child_in, forgets, is_number, looked, or_else, path_at, path_for, place_for, place_of, text_in, tries, tries_all, try_place}
 use Rattle.sn_plan.specs.Plans.{Plan, Gives, given, ◌>>=◌}
 use Rattle.sn_plan.specs.declared.server.Server.{Server}
 use Rattle.sn_plan.proofs.Following.{after, does_as, does_as_error, fails, gives, gives_ok, goes_before, goes_on, keeps_it, knows_it, served_of}
@@ -40,7 +41,7 @@ text_passed_on (Err x) e h d = does_as_error (sym h) d
 
 -- a first name is forgotten
 pub forgotten : {F : Type 0} (did : F → F → List Act → Type 0) (s t : Server F) (id : ℕ) → served_of s ≡ served_of t → t.files ≡ s.files
-    → Loses (dropped (table_of s.nodes) id) (table_of t.nodes) → NoneIsIdled (table_of s.nodes) (table_of t.nodes) → Does did s t (forgets id) (Ok None)
+    → Loses (dropped (table_of s.nodes) id 0) (table_of t.nodes) → NoneIsIdled (table_of s.nodes) (table_of t.nodes) → Does did s t (forgets id) (Ok None)
 forgotten did s t id same files goes idle = keeps_it same (record { nodes = record { goes = goes; idle = idle }; files = files }) (gives_ok did t None)
 
 -- what a path leads to decides
@@ -163,6 +164,12 @@ pub pathed : {F : Type 0} {did : F → F → List Act → Type 0} {s t : Server 
 unfolding path_at
 pathed {did = did} {t = t} id None h is = does_as (ap bytes_of (sym is)) (after _ h (gives did t (Err ESTALE)))
 pathed {did = did} {t = t} id (Some text) h is = does_as (ap bytes_of (sym is)) (after _ h (gives did t (Ok text.items)))
+
+pub pathed_for : {F : Type 0} {did : F → F → List Act → Type 0} {s t : Server F} (login : Result Call Errno) (id : ℕ) (x : Option (ArrayVec ℕ)) {r : Result (ArrayVec ℕ) Errno}
+    → Does did s t (place_for login id) (text_of (Ok x)) → r ≡ ok_or x ESTALE → Writes did s t (path_for login id) r
+unfolding path_for
+pathed_for {did = did} {t = t} login id None h is = does_as (ap bytes_of (sym is)) (after _ h (gives did t (Err ESTALE)))
+pathed_for {did = did} {t = t} login id (Some text) h is = does_as (ap bytes_of (sym is)) (after _ h (gives did t (Ok text.items)))
 
 -- the path of a name below it
 pub below : {F : Type 0} {did : F → F → List Act → Type 0} {s t : Server F} (parent : ℕ) (name text : List ℕ) {r : Result (List ℕ) Errno}

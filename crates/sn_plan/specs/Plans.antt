@@ -4,7 +4,7 @@ use Rattle.sn_callers.specs.declared.open_files.OpenFile.{OpenFile}
 use Rattle.sn_fuse_replies.specs.declared.errno.Errno.{Errno}
 use Rattle.sn_model.specs.declared.call.Call.{Call}
 use Rattle.sn_model.specs.declared.reply.Reply.{Reply}
-use Rattle.sn_node_table.specs.Tables.{Goes as Loses, NoneIsIdled, Table, closed, dropped, forgotten, made, met, moved, opened, unlinked}
+use Rattle.sn_node_table.specs.Tables.{Goes as Loses, NoneIsIdled, Table, closed, dropped, forgotten, found, made, met, moved, opened, unlinked}
 use Rattle.sn_walk.specs.declared.view.Attributes.{Attributes}
 use Rattle.sn_plan.specs.declared.file_system.Space.{Space}
 
@@ -13,11 +13,12 @@ pub record Kept : Type 0 where
   pub nodes : Table
   pub files : List (Option OpenFile)
 
--- A change of the nodes: the first name of one is forgotten; a name was found to lead to an object; an object was made under a name; a name was
+-- A change of the nodes: the name of one at a place is forgotten; a name was found by a user; a name was found to lead to an object; an object was made under a name; a name was
 -- removed; what a name led to was moved to another one; so many lookups of a node are forgotten; a node has one more handle, or one less.
 -- And of the open files with them: a handle gets an open file, whose node has one more handle; a handle has none any longer, and a node one less.
 pub data Change : Type 0 where
-  Drops : ℕ → Change
+  Drops : ℕ → ℕ → Change
+  Notes : ℕ → ℕ → List ℕ → Change
   Meets : ℕ → List ℕ → ℕ → Change
   Makes : ℕ → List ℕ → ℕ → Change
   Unlinks : ℕ → List ℕ → Change
@@ -70,7 +71,8 @@ pub record Leaves (t u : Table) (changed : Table) : Type 0 where
 
 -- What a change makes of the nodes. Where memory is refused for a rename, both names are forgotten.
 abbrev pub Turns : Change → Table → Table → Type 0
-Turns (Drops id) t u = Leaves t u (dropped t id)
+Turns (Drops id at) t u = Leaves t u (dropped t id at)
+Turns (Notes user parent name) t u = u ≡ found t user parent name
 Turns (Meets parent name number) t u = u ≡ met t parent name number
 Turns (Makes parent name number) t u = u ≡ made t parent name number
 Turns (Unlinks parent name) t u = Leaves t u (unlinked t parent name)

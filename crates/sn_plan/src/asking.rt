@@ -3,7 +3,9 @@ ghost use Rattle.std.specs.Prelude.{◌≡◌, ◌⊎◌, ◌&&◌, ◌||◌, Ok
 ghost use Rattle.sn_fuse_replies.specs.declared.errno.Errno.TheVariants.{ENOMEM};
 ghost use Rattle.sn_plan.specs.Acts as acts;
 ghost use Rattle.sn_plan.specs.Asking.{as_caller, asked, asked_masked, asks, asks_masked, calls, login_by, maker_by};
+ghost use Rattle.sn_plan.specs.Checking.{caller_of};
 ghost use Rattle.sn_plan.specs.Follows.{Does};
+ghost use Rattle.sn_plan.specs.Places.{superuser};
 
 use crate::checker::Checker;
 use crate::file_system::FileSystem;
@@ -28,6 +30,24 @@ impl Asker<'_> {
         ensures { result ≡ maker_by self.now }
     {
         self.checker.maker(self.sender)
+    }
+
+    /// User 0 in the place of who asks.
+    pub(crate) fn superuser(&self) -> Asker<'_>
+        ensures { login_by result ≡ superuser }
+    {
+        Asker {
+            checker: Checker::System,
+            sender: self.sender,
+            status: None,
+        }
+    }
+
+    /// As which user calls are made.
+    pub fn user(&self) -> u32
+        ensures { result ≡ (caller_of self.now.checker self.now.sender).user }
+    {
+        self.checker.caller(self.sender).user
     }
 }
 
@@ -87,7 +107,7 @@ impl<F: FileSystem> Server<F> {
     }
 
     // Logs in, makes a call and logs out.
-    fn call_as(&mut self, login: &Call, call: &Call) -> Reply
+    pub(crate) fn call_as(&mut self, login: &Call, call: &Call) -> Reply
         ensures { Does F.did self.old self.new (asked login.now call.now) (Ok result) }
     {
         let login_reply = self.call(ASKER, login);

@@ -2,7 +2,7 @@
 ghost use Rattle.std.specs.Prelude.{◌<◌, IfOk, Ok, OnOk};
 ghost use Rattle.sn_plan.specs.Follows.{Does};
 ghost use Rattle.sn_plan.specs.Handles as handles;
-ghost use Rattle.sn_plan.specs.Plans.{Closes, Forgets, Holds, Lets, Opens};
+ghost use Rattle.sn_plan.specs.Plans.{Closes, Forgets, Holds, Lets, Notes, Opens};
 
 use crate::file_system::FileSystem;
 use crate::server::Server;
@@ -15,6 +15,13 @@ impl<F: FileSystem> Server<F> {
         ensures { Does F.did self.old self.new (handles.turned (Forgets id count)) (Ok tt) }
     {
         self.nodes.forget(id, count);
+    }
+
+    /// A user has found a name of a directory, if it is known.
+    pub fn found(&mut self, user: u32, parent: u64, name: &[u8])
+        ensures { Does F.did self.old self.new (handles.turned (Notes user parent name.now)) (Ok tt) }
+    {
+        self.nodes.found(user, parent, name);
     }
 
     /// Counts one more handle of a node.

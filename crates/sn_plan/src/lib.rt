@@ -44,6 +44,7 @@ mod handles;
 mod looking;
 mod places;
 mod replies;
+mod searching;
 mod server;
 
 pub use asking::{Asker, word};

@@ -1,6 +1,6 @@
 -- What is done for each message, and what it is answered.
 use Rattle.std.specs.Option.{option_copied}
-use Rattle.std.specs.Prelude.{◌≡◌, ℕ, List, Option, None, Some, Result, Ok, Err, IfOk, drop, min}
+use Rattle.std.specs.Prelude.{◌≡◌, ℕ, Bool, true, List, [], Option, None, Some, Result, Ok, Err, IfOk, drop, min}
 use Rattle.sn_acl.specs.declared.entries.Entry.{Entry}
 use Rattle.sn_callers.specs.declared.login.Caller.{Caller}
 use Rattle.sn_fuse.specs.declared.operation.NewAttributes.{NewAttributes}
@@ -11,7 +11,7 @@ use Rattle.sn_fuse_flags.specs.declared.OpenFlags.{OpenFlags}
 use Rattle.sn_fuse_replies.specs.declared.answer.Attributes.{Attributes}
 use Rattle.sn_fuse_replies.specs.declared.answer.Opened.{Opened}
 use Rattle.sn_fuse_replies.specs.declared.errno.Errno.{Errno}
-use Rattle.sn_fuse_replies.specs.declared.errno.Errno.TheVariants.{EPERM}
+use Rattle.sn_fuse_replies.specs.declared.errno.Errno.TheVariants.{EIO, ENODATA, EPERM}
 use Rattle.sn_listings.specs.Fitting.{fitting}
 use Rattle.sn_listings.specs.Held.{Changes, Directory, entries_of, node_of, unread}
 use Rattle.sn_listings.specs.declared.entry.HeldEntry.{HeldEntry}
@@ -19,7 +19,8 @@ use Rattle.sn_model.specs.declared.call.Call.{Call}
 use Rattle.sn_plan.specs.Acts.{Act}
 use Rattle.sn_plan.specs.Checking.{caller_of, login_from, maker_of}
 use Rattle.sn_plan.specs.Follows.{Does}
-use Rattle.sn_plan.specs.Plans.{Gives, Plan, Refuses, given, ◌>>=◌}
+use Rattle.sn_plan.specs.Handles.{turned}
+use Rattle.sn_plan.specs.Plans.{Gives, Notes, Plan, Refuses, given, ◌>>=◌}
 use Rattle.sn_plan.specs.declared.asking.Asker.{Asker}
 use Rattle.sn_plan.specs.declared.checker.Checker.{Checker}
 use Rattle.sn_plan.specs.declared.server.Server.{Server}
@@ -33,6 +34,7 @@ use Rattle.sn_serve_looks.specs.Messages as looks
 use Rattle.sn_serve_looks.specs.Room.{init}
 use Rattle.sn_serve_looks.specs.Xattrs.{IsRead}
 use Rattle.sn_serve_names.specs.Messages as names
+use Rattle.sn_serve_names.specs.Names.{image_of}
 use Rattle.sn_serve_setattr.specs.Messages.{set_attributes}
 
 -- how a message is done: who checks, the login of who asks, as which user they ask, and to whom is given what is made
@@ -85,6 +87,49 @@ plan_of way node (op.Init major minor readahead flags) = given (told_in told.Beg
 plan_of way node (op.Access mask) = told_as done (names.access way.login node mask)
 plan_of way node other = Gives told.Done
 
+-- ---- who found a name
+
+abbrev pub notes_image : ℕ → ℕ → Result (List ℕ) Errno → Plan (Unit {0})
+notes_image user directory (Ok image) = turned (Notes user directory image)
+notes_image user directory (Err errno) = Gives tt
+
+-- a user found a name of a directory
+unfoldable pub notes_name : ℕ → ℕ → List ℕ → Plan (Unit {0})
+notes_name user directory name = notes_image user directory (image_of name)
+
+-- the directory in which a message looks something up, makes or moves it, and the name there
+abbrev pub directory_found : ℕ → Op → Option ℕ
+directory_found node (op.Lookup name) = Some node
+directory_found node (op.Mknod mode device umask name) = Some node
+directory_found node (op.Mkdir mode umask name) = Some node
+directory_found node (op.Rename directory name other) = Some directory
+directory_found node (op.Rename2 directory flags name other) = Some directory
+directory_found node (op.Link other name) = Some node
+directory_found node (op.Create flags mode umask name) = Some node
+directory_found node other = None
+
+abbrev pub name_found : Op → List ℕ
+name_found (op.Lookup name) = name
+name_found (op.Mknod mode device umask name) = name
+name_found (op.Mkdir mode umask name) = name
+name_found (op.Rename directory name other) = other
+name_found (op.Rename2 directory flags name other) = other
+name_found (op.Link other name) = name
+name_found (op.Create flags mode umask name) = name
+name_found other = []
+
+abbrev pub notes_in : ℕ → Option ℕ → List ℕ → Plan (Unit {0})
+notes_in user None name = Gives tt
+notes_in user (Some directory) name = notes_name user directory name
+
+-- who asks found that name
+abbrev pub notes : ℕ → ℕ → Op → Plan (Unit {0})
+notes user node op = notes_in user (directory_found node op) (name_found op)
+
+-- once it is done
+abbrev pub noting : Way → ℕ → Op → Plan Told → Plan Told
+noting way node op p = p >>= (λ told. notes way.user node op >>= (λ _. Gives told))
+
 -- ---- open directories, which are held besides
 
 abbrev pub Held : Type 0
@@ -116,6 +161,23 @@ pub record Follows {F : Type 0} (did : F → F → List Act → Type 0) (way : W
   pub is : IsPlanOf way node op plan
   pub does : Does did old new plan r
 
+-- EIO says that nothing was changed, where the mount goes on: what follows a change and fails is ENODATA.
+abbrev pub errno_after : Bool → Errno → Errno
+errno_after true EIO = ENODATA
+errno_after changed errno = errno
+
+abbrev pub once_changed : Bool → Result Told Errno → Result Told Errno
+once_changed changed (Ok told) = Ok told
+once_changed changed (Err errno) = Err (errno_after changed errno)
+
+-- it was followed, who found its name is noted, and this is told of what the plan gave
+pub record IsNoted {F : Type 0} (did : F → F → List Act → Type 0) (way : Way) (node : ℕ) (op : Op) (old new : Server F) (r : Result Told Errno) : Type 0 where
+  pub plan : Plan Told
+  pub is : IsPlanOf way node op plan
+  pub outcome : Result Told Errno
+  pub does : Does did old new (noting way node op plan) outcome
+  pub told : r ≡ once_changed new.changed outcome
+
 -- without what it gives
 abbrev pub ended : {A : Type 0} → Result A Errno → Result (Unit {0}) Errno
 ended (Ok a) = Ok tt
@@ -137,7 +199,7 @@ pub record OpensDirectory {F : Type 0} (did : F → F → List Act → Type 0) (
 
 -- A message was answered: its plan was followed, and what is held of open directories is what it says.
 pub data Answers {F : Type 0} (did : F → F → List Act → Type 0) (way : Way) (node : ℕ) (old new : Server F) (before after : Held) : Op → Result Told Errno → Type 0 where
-  follows : {op : Op} {r : Result Told Errno} → Follows did way node op old new r → Keeps before after → Answers did way node old new before after op r
+  follows : {op : Op} {r : Result Told Errno} → IsNoted did way node op old new r → Keeps before after → Answers did way node old new before after op r
   opens : {flags : OpenFlags} {r : Result Opened Errno} → OpensDirectory did way node old new before after r → Answers did way node old new before after (op.OpenDir flags) (told_in told.Handle r)
   lists : {span : Span} {r : Result Entries Errno} → Lists did span old new before after r → Answers did way node old new before after (op.ReadDir span) (told_in told.Listed r)
   closes : {handle : ℕ} {r : Result (Unit {0}) Errno} → Does did old new (releasedir (node_of (before handle))) r → Changes before after handle None

@@ -31,6 +31,7 @@ mod entries;
 mod groups;
 mod host;
 mod marks;
+mod noting;
 mod performing;
 mod service;
 mod subjects;

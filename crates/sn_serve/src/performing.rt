@@ -13,6 +13,7 @@ ghost use Rattle.sn_serve.specs.declared.told.Told.TheVariants as told;
 
 use crate::entries::Entries;
 use crate::groups::{Group, group_of};
+use crate::noting::noted;
 use crate::told::Told;
 use sn_fuse::{NewAttributes, Op, Span};
 use sn_fuse_flags::RenameFlags;
@@ -271,7 +272,9 @@ fn on_mount<F: FileSystem>(
 
 /// Answers a message: what is told, or the error.
 ///
-/// Proved: Each message is answered by what its plan asks for, and by nothing else.
+/// Proved: Each message is answered by what its plan asks for, and by nothing else. Where it is done, who asks is noted as one who found the
+/// name that it looks up, makes or moves to. `EIO` says that no call of it changed something: where one did, and what follows fails so, that is
+/// `ENODATA`.
 pub(crate) fn perform<F: FileSystem>(
     server: &mut Server<F>,
     listings: &mut Listings,
@@ -282,10 +285,22 @@ pub(crate) fn perform<F: FileSystem>(
     ensures { Answers F.did (way_by asker.now) node server.old server.new (directory_at listings.old) (directory_at listings.new) op.now result }
 {
     match group_of(op) {
-        Group::Names => on_names(server, asker, node, op),
-        Group::Files => on_files(server, asker, node, op),
-        Group::Attributes => on_attributes(server, asker, node, op),
+        Group::Names => {
+            let told = on_names(server, asker, node, op);
+            noted(server, asker, node, op, told)
+        }
+        Group::Files => {
+            let told = on_files(server, asker, node, op);
+            noted(server, asker, node, op, told)
+        }
+        Group::Attributes => {
+            let told = on_attributes(server, asker, node, op);
+            noted(server, asker, node, op, told)
+        }
         Group::Directories => on_directories(server, listings, asker, node, op),
-        Group::Mount => on_mount(server, asker, node, op),
+        Group::Mount => {
+            let told = on_mount(server, asker, node, op);
+            noted(server, asker, node, op, told)
+        }
     }
 }

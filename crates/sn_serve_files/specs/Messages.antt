@@ -14,7 +14,7 @@ use Rattle.sn_model.specs.declared.call.Call.TheVariants as call
 use Rattle.sn_model.specs.declared.reply.Reply.{Reply}
 use Rattle.sn_plan.specs.Asking.{asks, asks_masked, calls, finds, once_in}
 use Rattle.sn_plan.specs.Handles.{open_file, turned, vacant}
-use Rattle.sn_plan.specs.Places.{path_at}
+use Rattle.sn_plan.specs.Places.{path_for}
 use Rattle.sn_plan.specs.Plans.{Closes, Forgets, Gives, Opens, Plan, Refuses, Takes, given, ◌>>=◌}
 use Rattle.sn_plan.specs.Replies.{done}
 use Rattle.sn_serve_files.specs.Flags.{asked, is_regular, making, making_new, owned, to_write}
@@ -51,7 +51,7 @@ keeps_open handle node path flags = Takes (opens handle path flags >>= (λ reply
 unfoldable pub open_node : Result Call Errno → ℕ → OpenFlags → Plan Opened
 open_node login node flags = do
   handle ← vacant
-  path ← path_at node
+  path ← path_for login node
   _ ← opens_as login path (asked flags)
   keeps_open handle node path (owned flags)
 

@@ -81,7 +81,7 @@ pub fn open<F: FileSystem>(
     ensures { Does F.did server.old server.new (messages.open_node (login_by asker.now) node flags) result }
 {
     let handle = server.vacant()?;
-    let path = server.path(node)?;
+    let path = server.path_for(asker, node)?;
     open_as(server, asker, path.as_slice(), asked(flags))?;
     keep_open(server, handle, node, path.as_slice(), owned(flags))
 }

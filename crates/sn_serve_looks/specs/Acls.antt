@@ -12,7 +12,7 @@ use Rattle.sn_model.specs.declared.reply.Reply.{Reply}
 use Rattle.sn_model.specs.declared.reply.Reply.TheVariants.{Acl, Refused}
 use Rattle.sn_plan.specs.Asking.{calls}
 use Rattle.sn_plan.specs.Errors.{errno_of}
-use Rattle.sn_plan.specs.Places.{place_of}
+use Rattle.sn_plan.specs.Places.{place_seen}
 use Rattle.sn_plan.specs.Plans.{Gives, Plan, Takes, given, ◌>>=◌}
 use Rattle.sn_serve_looks.specs.Telling.{status_by}
 use Rattle.sn_serve_looks.specs.Xattrs.{has_value, names_text}
@@ -57,7 +57,7 @@ acl_in_place login node kind None = nameless_acl node kind
 acl_in_place login node kind (Some path) = acl_by login node kind path
 
 unfoldable pub acl_of : Result Call Errno → ℕ → AclKind → Plan (Option (List Entry))
-acl_of login node kind = place_of node >>= acl_in_place login node kind
+acl_of login node kind = place_seen login node >>= acl_in_place login node kind
 
 -- ---- which of them have a value
 
@@ -83,4 +83,4 @@ names_in_place login node None = nameless_names node
 names_in_place login node (Some path) = names_by login node path
 
 unfoldable pub names_of : Result Call Errno → ℕ → Plan (List ℕ)
-names_of login node = place_of node >>= names_in_place login node
+names_of login node = place_seen login node >>= names_in_place login node

@@ -14,7 +14,7 @@ use Rattle.sn_model.specs.declared.call.Call.{Call}
 use Rattle.sn_model.specs.declared.call.Call.TheVariants.{SetAcl}
 use Rattle.sn_plan.specs.Asking.{counts}
 use Rattle.sn_plan.specs.Handles.{turned}
-use Rattle.sn_plan.specs.Places.{path_at}
+use Rattle.sn_plan.specs.Places.{path_for}
 use Rattle.sn_plan.specs.Plans.{Forgets, Gives, Plan, given, ◌>>=◌}
 use Rattle.sn_serve_looks.specs.Acls.{acl_of, names_of}
 use Rattle.sn_serve_looks.specs.Room.{statistics_of}
@@ -55,7 +55,7 @@ unfoldable pub setxattr : Result Call Errno → ℕ → List ℕ → Option (Lis
 setxattr login node name read = do
   kind ← given (kind_to_set name)
   acl ← given (ok_or read EINVAL)
-  path ← path_at node
+  path ← path_for login node
   sets login path kind acl
 
 -- the access ACL is that of the mode then
@@ -75,7 +75,7 @@ clears login path Default = clears_default login path
 unfoldable pub removexattr : Result Call Errno → ℕ → List ℕ → Plan (Unit {0})
 removexattr login node name = do
   kind ← given (kind_there name)
-  path ← path_at node
+  path ← path_for login node
   clears login path kind
 
 -- ---- STATFS

@@ -120,7 +120,7 @@ pub(crate) fn acl_of<F: FileSystem>(
 ) -> Result<Option<Acl>, Errno>
     ensures { Does F.did server.old server.new (acls.acl_of (login_by asker.now) node kind) result }
 {
-    let place = server.place(node)?;
+    let place = server.place_seen(asker, node)?;
     let Some(path) = place else {
         return nameless_acl(server, node, kind);
     };

@@ -69,7 +69,7 @@ pub(crate) fn names_of<F: FileSystem>(
 ) -> Result<XattrBytes, Errno>
     ensures { Writes F.did server.old server.new (acls.names_of (login_by asker.now) node) result }
 {
-    let place = server.place(node)?;
+    let place = server.place_seen(asker, node)?;
     let Some(path) = place else {
         return nameless_names(server, node);
     };

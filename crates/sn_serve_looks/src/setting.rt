@@ -52,7 +52,7 @@ fn sets_read<F: FileSystem>(
 {
     let kind = kind_to_set(name)?;
     let acl = read.ok_or(Errno::EINVAL)?;
-    let path = server.path(node)?;
+    let path = server.path_for(asker, node)?;
     sets(server, asker, path.as_slice(), kind, &acl)
 }
 
@@ -126,6 +126,6 @@ pub fn removexattr<F: FileSystem>(
     ensures { Does F.did server.old server.new (messages.removexattr (login_by asker.now) node name.now) result }
 {
     let kind = kind_there(name)?;
-    let path = server.path(node)?;
+    let path = server.path_for(asker, node)?;
     clears(server, asker, path.as_slice(), kind)
 }

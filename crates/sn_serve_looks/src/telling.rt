@@ -1,7 +1,7 @@
 //! What is told of a node.
 ghost use Rattle.std.specs.Prelude.{◌≡◌};
 ghost use Rattle.sn_plan.specs.Asking.{login_by};
-ghost use Rattle.sn_plan.specs.Follows.{Does, kept_of};
+ghost use Rattle.sn_plan.specs.Follows.{Does};
 ghost use Rattle.sn_serve_looks.specs.Telling as telling;
 
 use sn_fuse_replies::Errno;
@@ -35,13 +35,6 @@ fn nameless_status<F: FileSystem>(server: &mut Server<F>, node: u64) -> Result<F
     Ok(status_in(&seen))
 }
 
-/// Whether somebody has a node open.
-fn is_open<F: FileSystem>(server: &Server<F>, node: u64) -> bool
-    ensures { result ≡ telling.is_open node (kept_of server.now) }
-{
-    server.nodes.handles(node) > 0
-}
-
 /// What is told of a node's path: to who asks, or where somebody has the node open, to user 0.
 pub(crate) fn status_by<F: FileSystem>(
     server: &mut Server<F>,
@@ -51,7 +44,7 @@ pub(crate) fn status_by<F: FileSystem>(
 ) -> Result<FileStatus, Errno>
     ensures { Does F.did server.old server.new (telling.status_by (login_by asker.now) node path.now) result }
 {
-    if is_open(server, node) {
+    if server.is_open(node) {
         status_at(server, path)
     } else {
         status_as(server, asker, path)
@@ -66,7 +59,7 @@ pub(crate) fn status_of<F: FileSystem>(
 ) -> Result<FileStatus, Errno>
     ensures { Does F.did server.old server.new (telling.status_of (login_by asker.now) node) result }
 {
-    let place = server.place(node)?;
+    let place = server.place_seen(asker, node)?;
     let Some(path) = place else {
         return nameless_status(server, node);
     };

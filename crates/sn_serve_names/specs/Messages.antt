@@ -11,7 +11,7 @@ use Rattle.sn_model.specs.declared.reply.Access.{Access}
 use Rattle.sn_model.specs.declared.reply.FileStatus.{FileStatus}
 use Rattle.sn_node_table.specs.Tables.{named}
 use Rattle.sn_plan.specs.Asking.{asks, asks_masked, calls, finds}
-use Rattle.sn_plan.specs.Places.{path_at, place_of}
+use Rattle.sn_plan.specs.Places.{path_for, place_for}
 use Rattle.sn_plan.specs.Plans.{Gives, Keeps, Kept, Knows, Plan, Refuses, Renames, Takes, Unlinks, given, ◌>>=◌}
 use Rattle.sn_plan.specs.Replies.{done, status}
 use Rattle.sn_serve_names.specs.Entries.{made_at, met_at, seen_at, status_at}
@@ -59,7 +59,7 @@ accesses login mask None = Gives tt
 accesses login mask (Some path) = takes login (call.Access path (access_of mask))
 
 unfoldable pub access : Result Call Errno → ℕ → ℕ → Plan (Unit {0})
-access login node mask = place_of node >>= accesses login mask
+access login node mask = place_for login node >>= accesses login mask
 
 -- ---- UNLINK, RMDIR
 
@@ -170,7 +170,7 @@ rename login parent name directory other flags = do
 -- one more name of a node
 unfoldable pub link : Result Call Errno → ℕ → ℕ → List ℕ → Plan Entry
 link login node directory name = do
-  old ← path_at node
+  old ← path_for login node
   new ← child_of directory name
   _ ← takes login (call.Link old new.path)
   s ← status_at new.path

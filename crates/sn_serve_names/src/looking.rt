@@ -88,7 +88,7 @@ pub fn access<F: FileSystem>(
 ) -> Result<(), Errno>
     ensures { Does F.did server.old server.new (messages.access (login_by asker.now) node mask) result }
 {
-    let place = server.place(node)?;
+    let place = server.place_for(asker, node)?;
     let Some(path) = place else {
         return Ok(());
     };

@@ -127,7 +127,7 @@ pub fn link<F: FileSystem>(
 ) -> Result<Entry, Errno>
     ensures { Does F.did server.old server.new (messages.link (login_by asker.now) node directory name.now) result }
 {
-    let old = server.path(node)?;
+    let old = server.path_for(asker, node)?;
     let new = child_of(server, directory, name)?;
     link_child(server, asker, old.as_slice(), &new)?;
     let status = status_at(server, new.path())?;

@@ -7,7 +7,7 @@ use Rattle.sn_fuse_replies.specs.declared.errno.Errno.{Errno}
 use Rattle.sn_fuse_replies.specs.declared.errno.Errno.TheVariants.{EINVAL, EPERM, EROFS}
 use Rattle.sn_model.specs.declared.call.Call.{Call}
 use Rattle.sn_model.specs.declared.call.Call.TheVariants as call
-use Rattle.sn_plan.specs.Places.{path_at}
+use Rattle.sn_plan.specs.Places.{path_for}
 use Rattle.sn_plan.specs.Plans.{Gives, Knows, Plan, Refuses, ◌>>=◌}
 use Rattle.sn_serve_files.specs.Messages.{size_at, size_of_open}
 use Rattle.sn_serve_names.specs.Messages.{takes}
@@ -15,7 +15,7 @@ use Rattle.sn_serve_setattr.specs.Flags.{are_now, are_times, come_with_size, fil
 
 -- as who asks, by a path that was looked at
 unfoldable pub size_of_node : Result Call Errno → ℕ → ℕ → Plan (Unit {0})
-size_of_node login node size = path_at node >>= (λ path. size_at login path size)
+size_of_node login node size = path_for login node >>= (λ path. size_at login path size)
 
 abbrev pub size_by : Result Call Errno → ℕ → NewAttributes → Option OpenFile → Plan (Unit {0})
 size_by login node new (Some file) = size_of_open new.handle file new.size
@@ -28,11 +28,11 @@ abbrev pub chown_call : List ℕ → NewAttributes → Call
 chown_call path new = call.Chown path (value_if (sets_user new) new.user) (value_if (sets_group new) new.group)
 
 unfoldable pub new_owner : Result Call Errno → ℕ → NewAttributes → Plan (Unit {0})
-new_owner login node new = path_at node >>= (λ path. takes login (chown_call path new))
+new_owner login node new = path_for login node >>= (λ path. takes login (chown_call path new))
 
 -- the permission bits, S_ISGID and S_ISVTX: S_ISUID isn't kept
 unfoldable pub new_mode : Result Call Errno → ℕ → NewAttributes → Plan (Unit {0})
-new_mode login node new = path_at node >>= (λ path. takes login (call.Chmod path (new.mode % 2048)))
+new_mode login node new = path_for login node >>= (λ path. takes login (call.Chmod path (new.mode % 2048)))
 
 -- what is left of it is asked for where it isn't so already: an answered call that changes nothing needs no record
 abbrev pub where_set : Bool → Plan (Unit {0}) → Plan (Unit {0})
@@ -40,7 +40,7 @@ where_set b p = if b then p else Gives tt
 
 -- both times of now are for who may write, too
 unfoldable pub may_write : Result Call Errno → ℕ → Plan (Unit {0})
-may_write login node = path_at node >>= (λ path. takes login (call.Access path (record { read = false; write = true; execute = false })))
+may_write login node = path_for login node >>= (λ path. takes login (call.Access path (record { read = false; write = true; execute = false })))
 
 -- Who isn't the owner may set both times to now, where they may write. With a new size times of now come along, and that asks for the right to write.
 abbrev pub others_may_date : Result Call Errno → ℕ → NewAttributes → Plan (Unit {0})

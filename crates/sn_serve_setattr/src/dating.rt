@@ -98,7 +98,7 @@ fn may_write<F: FileSystem>(
 ) -> Result<(), Errno>
     ensures { Does F.did server.old server.new (messages.may_write (login_by asker.now) node) result }
 {
-    let path = server.path(node)?;
+    let path = server.path_for(asker, node)?;
     write_at(server, asker, path.as_slice())
 }
 

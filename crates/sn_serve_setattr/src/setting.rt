@@ -43,7 +43,7 @@ fn size_of_node<F: FileSystem>(
 ) -> Result<(), Errno>
     ensures { Does F.did server.old server.new (messages.size_of_node (login_by asker.now) node size) result }
 {
-    let path = server.path(node)?;
+    let path = server.path_for(asker, node)?;
     size_at(server, asker, path.as_slice(), size)
 }
 
@@ -120,7 +120,7 @@ fn new_owner<F: FileSystem>(
 ) -> Result<(), Errno>
     ensures { Does F.did server.old server.new (messages.new_owner (login_by asker.now) node new.now) result }
 {
-    let path = server.path(node)?;
+    let path = server.path_for(asker, node)?;
     chown_at(server, asker, path.as_slice(), new)
 }
 
@@ -175,7 +175,7 @@ fn new_mode<F: FileSystem>(
 ) -> Result<(), Errno>
     ensures { Does F.did server.old server.new (messages.new_mode (login_by asker.now) node new.now) result }
 {
-    let path = server.path(node)?;
+    let path = server.path_for(asker, node)?;
     chmod_at(server, asker, path.as_slice(), new.mode)
 }
 

@@ -22,8 +22,10 @@ impl<'a> Step<'a> {
     pub fn answer(self, table: &mut NodeTable) -> Result<String> {
         match self.word(0)? {
             "meet" | "make" => self.give(table),
-            "open" | "close" | "forget" | "drop" | "unlink" | "rename" => self.change(table),
-            "path" | "child" | "size" => self.path(table),
+            "open" | "close" | "forget" | "drop" | "found" | "unlink" | "rename" => {
+                self.change(table)
+            }
+            "path" | "child" | "name" | "size" => self.path(table),
             "all" => self.all(table),
             _ => self.look(table),
         }
@@ -76,7 +78,8 @@ impl<'a> Step<'a> {
             "open" => table.open(id),
             "close" => table.close(id),
             "forget" => table.forget(id, self.number(2)?),
-            "drop" => table.drop_first_link(id),
+            "drop" => table.drop_link(id, self.number(2)? as usize),
+            "found" => table.found(id as u32, self.number(2)?, self.name(3)?.as_slice()),
             "unlink" => table.unlink(id, self.name(2)?.as_slice()),
             _ => self.rename(table)?,
         }
@@ -97,6 +100,7 @@ impl<'a> Step<'a> {
         let id = self.number(1)?;
         match self.word(0)? {
             "child" => self.path_text(table.child_path(id, self.name(2)?.as_slice())),
+            "name" => self.path_text(table.name_path(id, self.number(2)? as usize)),
             "size" => self.size_text(table.path(id)),
             _ => self.path_text(table.path(id)),
         }
@@ -129,6 +133,14 @@ impl<'a> Step<'a> {
             "inode" => self.number_text(table.inode(id)),
             "id" => self.number_text(table.id(id)),
             "named" => self.number_text(table.named(id, self.name(2)?.as_slice())),
+            "finds" => {
+                let (node, at) = (self.number(2)?, self.number(3)? as usize);
+                self.text(if table.is_found_by(id as u32, node, at) {
+                    "yes"
+                } else {
+                    "no"
+                })
+            }
             "counts" => {
                 let (lookups, handles) = (table.lookups(id), table.handles(id));
                 Ok(format!(in self.alloc; "{lookups}/{handles}")?)

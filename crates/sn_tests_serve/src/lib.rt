@@ -33,11 +33,12 @@ use anyhow::{Context, Result};
 use sn_testing_tables::Report;
 use std::{env, fs};
 
-const CONVERSATIONS: [&str; 15] = [
+const CONVERSATIONS: [&str; 16] = [
     "conversations/names.txt",
     "conversations/files.txt",
     "conversations/directories.txt",
     "conversations/rights.txt",
+    "conversations/links.txt",
     "conversations/mapped.txt",
     "conversations/acls.txt",
     "conversations/snapshots.txt",

@@ -12,17 +12,17 @@ returns-in_err-handle g c = stops _ c.from_residual.result c.from_residual.ensur
 pub returns-in_err-path : goal.returns-in_err-path
 unfolding open_node
 returns-in_err-path g c = and_then _ c.vacant.ensures.does c.in_ok-handle.was
-    (passed_on c.from_residual-in_err-path.result c.in_err-path.field-0.0 c.from_residual-in_err-path.ensures.1 (fails _ (unwritten c.path.ensures c.in_err-path.was)))
+    (passed_on c.from_residual-in_err-path.result c.in_err-path.field-0.0 c.from_residual-in_err-path.ensures.1 (fails _ (unwritten c.path_for.ensures c.in_err-path.was)))
 
 pub returns-in_err-open_as : goal.returns-in_err-open_as
 unfolding open_node
 returns-in_err-open_as g c = and_then _ c.vacant.ensures.does c.in_ok-handle.was
-    (after _ (written c.path.ensures c.in_ok-path.was)
+    (after _ (written c.path_for.ensures c.in_ok-path.was)
     (stops _ c.from_residual-in_err-open_as.result c.from_residual-in_err-open_as.ensures.1 (does_same (ap₂ (opens_as (login_by c.args.asker.now)) c.as_slice.ensures.value c.asked.ensures) c.open_as.ensures) c.in_err-open_as.was))
 
 pub returns : goal.returns
 unfolding open_node
 returns g c = and_then _ c.vacant.ensures.does c.in_ok-handle.was
-    (after _ (written c.path.ensures c.in_ok-path.was)
+    (after _ (written c.path_for.ensures c.in_ok-path.was)
     (and_then _ (does_same (ap₂ (opens_as (login_by c.args.asker.now)) c.as_slice.ensures.value c.asked.ensures) c.open_as.ensures) c.in_ok-open_as.was
     (does_same (ap₂ (keeps_open c.in_ok-handle.handle c.args.node) c.as_slice-2.ensures.value c.owned.ensures) c.keep_open.ensures)))

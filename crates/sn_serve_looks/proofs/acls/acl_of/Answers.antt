@@ -7,13 +7,13 @@ use Rattle.sn_serve_looks.proofs.acls.acl_of.Goals as goal
 
 pub returns-in_err-place : goal.returns-in_err-place
 unfolding acl_of
-returns-in_err-place g c = passed_on c.from_residual.result c.in_err-place.field-0.0 c.from_residual.ensures.1 (fails _ (told_error c.place.ensures c.in_err-place.was))
+returns-in_err-place g c = passed_on c.from_residual.result c.in_err-place.field-0.0 c.from_residual.ensures.1 (fails _ (told_error c.place_seen.ensures c.in_err-place.was))
 
 pub returns-in_default : goal.returns-in_default
 unfolding acl_of
-returns-in_default g c = after _ (told_none c.place.ensures c.in_ok-place.was c.in_default.not-Some) c.nameless_acl.ensures
+returns-in_default g c = after _ (told_none c.place_seen.ensures c.in_ok-place.was c.in_default.not-Some) c.nameless_acl.ensures
 
 pub returns : goal.returns
 unfolding acl_of
-returns g c = after _ (told_text c.place.ensures c.in_ok-place.was c.in-Some.is)
+returns g c = after _ (told_text c.place_seen.ensures c.in_ok-place.was c.in-Some.is)
     (does_same (ap (acl_by (login_by c.args.asker.now) c.args.node c.args.kind) c.as_slice.ensures.value) c.acl_by.ensures)

@@ -18,11 +18,11 @@ pub returns-in_err-path : goal.returns-in_err-path
 unfolding setxattr
 returns-in_err-path g c = after_given _ (sym c.kind_to_set.ensures ∙ c.in_ok-kind.was)
     (after_given _ (sym c.ok_or.ensures.value ∙ c.in_ok-acl.was)
-    (passed_on c.from_residual-in_err-path.result c.in_err-path.field-0.0 c.from_residual-in_err-path.ensures.1 (fails _ (unwritten c.path.ensures c.in_err-path.was))))
+    (passed_on c.from_residual-in_err-path.result c.in_err-path.field-0.0 c.from_residual-in_err-path.ensures.1 (fails _ (unwritten c.path_for.ensures c.in_err-path.was))))
 
 pub returns : goal.returns
 unfolding setxattr
 returns g c = after_given _ (sym c.kind_to_set.ensures ∙ c.in_ok-kind.was)
     (after_given _ (sym c.ok_or.ensures.value ∙ c.in_ok-acl.was)
-    (after _ (written c.path.ensures c.in_ok-path.was)
+    (after _ (written c.path_for.ensures c.in_ok-path.was)
     (does_same (ap (λ (p : List ℕ). sets (login_by c.args.asker.now) p c.in_ok-kind.kind c.in_ok-acl.acl) c.as_slice.ensures.value) c.sets.ensures)))

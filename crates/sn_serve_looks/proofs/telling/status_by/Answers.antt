@@ -1,5 +1,6 @@
 use Rattle.sn_plan.proofs.Following.{after_known, chosen, not_chosen}
-use Rattle.sn_serve_looks.specs.Telling.{is_open, status_by}
+use Rattle.sn_plan.specs.Places.{is_open}
+use Rattle.sn_serve_looks.specs.Telling.{status_by}
 use Rattle.sn_serve_looks.proofs.telling.status_by.Goals as goal
 
 pub returns-then-is_open : goal.returns-then-is_open

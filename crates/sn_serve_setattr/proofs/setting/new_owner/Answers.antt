@@ -8,8 +8,8 @@ use Rattle.sn_serve_setattr.proofs.setting.new_owner.Goals as goal
 
 pub returns-in_err-path : goal.returns-in_err-path
 unfolding new_owner
-returns-in_err-path g c = passed_on c.from_residual.result c.in_err-path.field-0.0 c.from_residual.ensures.1 (fails _ (unwritten c.path.ensures c.in_err-path.was))
+returns-in_err-path g c = passed_on c.from_residual.result c.in_err-path.field-0.0 c.from_residual.ensures.1 (fails _ (unwritten c.path_for.ensures c.in_err-path.was))
 
 pub returns : goal.returns
 unfolding new_owner
-returns g c = after _ (written c.path.ensures c.in_ok-path.was) (does_same (ap (λ (p : List ℕ). takes (login_by c.args.asker.now) (chown_call p c.args.new.now)) c.as_slice.ensures.value) c.chown_at.ensures)
+returns g c = after _ (written c.path_for.ensures c.in_ok-path.was) (does_same (ap (λ (p : List ℕ). takes (login_by c.args.asker.now) (chown_call p c.args.new.now)) c.as_slice.ensures.value) c.chown_at.ensures)

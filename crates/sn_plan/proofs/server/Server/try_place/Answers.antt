@@ -35,8 +35,8 @@ returns g c = elim c.match-path.branch [
       (leads_elsewhere c.args.id c.args.number text found
       (done_to w.self-is (found_as w.as_slice.result.now text w.find.result (Ok found) w.find.ensures w.as_slice.ensures.value w.in_ok-found-in-Ok.was))
       (sym w.is_number.ensures ∙ w.if-is_number.false)
-      (forgotten g.F.FileSystem.did c.match-path.self _ c.args.id refl refl c.drop_first_link.ensures.goes c.drop_first_link.ensures.idle)))
+      (forgotten g.F.FileSystem.did c.match-path.self _ c.args.id refl refl c.drop_link.ensures.goes c.drop_link.ensures.idle)))
   | in-Err-Stale w ↦
       untried c.args.id c.args.number (path_missing _ c.path.result w.in-Err-Stale.field-0 Stale c.path.ensures w.in-Err-Stale.is w.in-Err-Stale.field-0-is)
-      (done_from w.self-is (forgotten g.F.FileSystem.did c.match-path.self _ c.args.id refl refl c.drop_first_link.ensures.goes c.drop_first_link.ensures.idle))
+      (done_from w.self-is (forgotten g.F.FileSystem.did c.match-path.self _ c.args.id refl refl c.drop_link.ensures.goes c.drop_link.ensures.idle))
 ]
