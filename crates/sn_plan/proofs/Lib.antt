@@ -2,4 +2,4 @@ pub mod Going
 pub mod Following
 pub mod Logins
 pub mod Looked
-pub mod Searching
+pub mod Turns

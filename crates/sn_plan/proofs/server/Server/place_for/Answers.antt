@@ -2,7 +2,7 @@ use Rattle.std.proofs.Common.{sym, ◌∙◌}
 use Rattle.sn_plan.specs.Asking.{login_by}
 use Rattle.sn_plan.proofs.Logins.{is_asked, is_not_asked}
 use Rattle.sn_plan.proofs.Looked.{text_passed_on}
-use Rattle.sn_plan.proofs.Searching.{one_name, several_names}
+use Rattle.sn_plan.proofs.Turns.{one_name, several_names}
 use Rattle.sn_plan.proofs.server.Server.place_for.Goals as goal
 
 pub returns-then-has_one_name : goal.returns-then-has_one_name

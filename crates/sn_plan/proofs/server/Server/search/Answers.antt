@@ -3,7 +3,7 @@ use Rattle.std.specs.Prelude.{Result, Ok}
 use Rattle.sn_fuse_replies.specs.declared.errno.Errno.{Errno}
 use Rattle.sn_plan.specs.declared.searching.Search.{Search}
 use Rattle.sn_plan.proofs.Looked.{text_passed_on}
-use Rattle.sn_plan.proofs.Searching.{others_end, others_fail, own_fails, own_reaches, tells_as}
+use Rattle.sn_plan.proofs.Turns.{others_end, others_fail, own_fails, own_reaches, tells_as}
 use Rattle.sn_plan.proofs.server.Server.search.Goals as goal
 
 pub returns-in_err-own : goal.returns-in_err-own

@@ -1,5 +1,5 @@
 use Rattle.std.proofs.Common.{sym, ◌∙◌}
-use Rattle.sn_plan.proofs.Searching.{several_numbered, several_unnumbered}
+use Rattle.sn_plan.proofs.Turns.{several_numbered, several_unnumbered}
 use Rattle.sn_plan.proofs.server.Server.several.Goals as goal
 
 pub returns-in-Some : goal.returns-in-Some

@@ -2,7 +2,7 @@ use Rattle.sn_node_table.specs.declared.path.NoPath.TheVariants.{Stale, TooLong}
 use Rattle.std.proofs.Common.{refl}
 use Rattle.sn_plan.proofs.Following.{gives_it}
 use Rattle.sn_plan.proofs.Looked.{path_missing, path_there}
-use Rattle.sn_plan.proofs.Searching.{name_tried}
+use Rattle.sn_plan.proofs.Turns.{name_tried}
 use Rattle.sn_plan.proofs.server.Server.try_name.Goals as goal
 
 pub returns-in-Ok : goal.returns-in-Ok

@@ -5,7 +5,7 @@ use Rattle.sn_plan.specs.Follows.{kept_of}
 use Rattle.sn_plan.specs.Places.{all_steps}
 use Rattle.sn_plan.specs.declared.searching.Search.{Search}
 use Rattle.sn_plan.proofs.Following.{passed_on}
-use Rattle.sn_plan.proofs.Searching.{step_failed, step_going, step_reached, steps_begun, steps_done, steps_over, turned_to}
+use Rattle.sn_plan.proofs.Turns.{step_failed, step_going, step_reached, steps_begun, steps_done, steps_over, turned_to}
 use Rattle.sn_plan.proofs.server.Server.turn.Goals as goal
 
 pub loop-at-init : goal.loop-at-init

@@ -1,6 +1,6 @@
 use Rattle.sn_plan.specs.Places.{all_steps}
 use Rattle.sn_plan.specs.Follows.{kept_of}
-use Rattle.sn_plan.proofs.Searching.{Steps}
+use Rattle.sn_plan.proofs.Turns.{Steps}
 use Rattle.sn_plan.proofs.server.Server.turn.Given as goal
 
 -- the names from here on have had their turn
