@@ -12,5 +12,5 @@ returns-in_err-path g c = is_not_held c.word.result c.from_residual.result c.wor
 pub returns : goal.returns
 unfolding denied_at
 returns g c = takes_it (after _
-    (does_same (ap (λ (w : List ℕ). asked c.args.login.now (Stat w)) (is_held c.args.path.now c.word.result c.in_ok-path.path c.word.ensures.word c.in_ok-path.was)) c.call_as.ensures)
+    (does_same (ap (λ (w : List ℕ). asked c.args.login.now (Stat w)) (is_held c.args.path.now c.word.result c.in_ok-path.path c.word.ensures.word c.in_ok-path.was)) c.call_as-reply.ensures)
     (gives_as c.is_denied.ensures))
