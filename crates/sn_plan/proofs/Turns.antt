@@ -83,9 +83,9 @@ step_failed {did = did} {t = t} {u = u} login id number own at next left e v is 
 }
 
 -- a result that holds a text
-pub tells_as : {F : Type 0} {did : F → F → List Act → Type 0} {s t : Server F} {p : Plan (Option (List ℕ))} {q : Result (Option (List ℕ)) Errno} {r : Result (Option (ArrayVec ℕ)) Errno}
+pub tells_as : {F : Type 0} {did : F → F → List Act → Type 0} {s t : Server F} {p : Plan (Option (List ℕ))} {q : Result (Option (List ℕ)) Errno} (r : Result (Option (ArrayVec ℕ)) Errno)
     → text_of r ≡ q → Does did s t p q → Tells did s t p r
-tells_as is h = does_as (sym is) h
+tells_as r is h = does_as (sym is) h
 
 -- it begins with the last name
 pub steps_begun : {F : Type 0} (did : F → F → List Act → Type 0) (s : Server F) (login : Call) (id number : ℕ) (own : Bool) (at : ℕ) (left : Left)

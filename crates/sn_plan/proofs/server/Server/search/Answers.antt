@@ -17,7 +17,7 @@ returns-in_err-search-in-Going g c = text_passed_on c.from_residual-in_err-searc
     (others_fail c.args.login.now c.args.id c.args.number c.in-Going.left c.in_err-search-in-Going.field-0.0 c.turn.ensures (c.in_ok-own.was ∙ ap (λ (x : Search). let z : Result Search Errno = Ok x in z) c.in-Going.is)
     c.turn-in-Going.ensures c.in_err-search-in-Going.was)
 
-pub returns-in-Going : goal.returns-in-Going
-returns-in-Going g c = tells_as c.reached.ensures
+pub returns-in_ok-search-in-Going : goal.returns-in_ok-search-in-Going
+returns-in_ok-search-in-Going g c = tells_as c.reached.result c.reached.ensures
     (others_end c.args.login.now c.args.id c.args.number c.in-Going.left c.in_ok-search-in-Going.search c.turn.ensures (c.in_ok-own.was ∙ ap (λ (x : Search). let z : Result Search Errno = Ok x in z) c.in-Going.is)
     c.turn-in-Going.ensures c.in_ok-search-in-Going.was)
