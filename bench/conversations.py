@@ -120,6 +120,8 @@ def serves_of(text):
                 exchanges.append([line[2:], "-"])
             elif line.startswith("< "):
                 exchanges[-1][1] = line[2:]
+            elif line.startswith("* "):
+                exchanges += [[exchanges[-1][0], "*"] for _ in range(int(line[2:]))]
         serves.append((end, exchanges))
     return [line for line in front.split("\n") if line.startswith("?")], serves
 
@@ -141,7 +143,7 @@ def differences(text):
             yield f"ends as {end}, and not {wanted_end}"
         for unique, (asked, wanted) in enumerate(exchanges, 1):
             told = replies.get(unique, "-")
-            if reply_of(unique, told) != reply_of(unique, wanted):
+            if wanted != "*" and reply_of(unique, told) != reply_of(unique, wanted):
                 yield f"{asked} => {told}, and not {wanted}"
 
 
@@ -300,7 +302,7 @@ class Conversation:
 
     def place_to_lose(self):
         """A name of what is open, or any."""
-        return self.known_place({node for _, node in self.server.files.values()})
+        return self.known_place({node for _, node, _ in self.server.files.values()})
 
     def handle(self):
         handles = [*self.server.files]

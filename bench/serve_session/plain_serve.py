@@ -21,7 +21,7 @@ from plain_world import rights  # noqa: E402
 from plain_times import About, Clock, Times, dating_of  # noqa: E402
 from spelling import HEAD, NO_TIMES, WORDS, Misspelt, fields_of, in_full, listing_of  # noqa: E402
 
-HANDLES, BLOCK_HANDLES, MOST_GROUPS, UNMAPPED, MOST_NAMED = 4032, 64, 32, 65534, 32
+HANDLES, OWN_HANDLES, KEPT_HANDLES, BLOCK_HANDLES, MOST_GROUPS, UNMAPPED, MOST_NAMED = 4032, 1024, 64, 64, 32, 65534, 32
 SNAPSHOTS, NUMBERS, LARGEST_MESSAGE = 65537, 65536, 1 << 20
 KINDS = {b"system.posix_acl_access": "a", b"system.posix_acl_default": "d"}
 WRITE_MAX, TAKEN, POSIX_ACL, DATA_BLOCKS, RESERVE = 28_672, 0x480069, 0x100000, 4020, 64
@@ -98,19 +98,27 @@ class Homes:
             self.met[self.met.index(tree)] = None
 
 
+def vacant(user, users):
+    """The least handle that nobody has, by the users of those that somebody has. The last are user 0's, and others have so many at most."""
+    if len(users) >= HANDLES - (KEPT_HANDLES if user else 0):
+        raise No("ENFILE")
+    if user and list(users.values()).count(user) >= OWN_HANDLES:
+        raise No("EMFILE")
+    return next(handle for handle in range(HANDLES) if handle not in users)
+
+
 class Lists:
-    """Open directories. A handle that was taken back last is given first."""
+    """Open directories, by their handles."""
 
     def __init__(self):
-        self.directories, self.vacant = [], []
+        self.directories = []
 
-    def open(self, node):
-        if not self.vacant:
-            self.vacant.append(len(self.directories))
-            self.directories.append(None)
-        handle = self.vacant.pop()
-        self.directories[handle] = {"node": node, "entries": None}
-        return handle
+    def vacant(self, user):
+        return vacant(user, {handle: held["user"] for handle, held in enumerate(self.directories) if held})
+
+    def open(self, handle, node, user):
+        self.directories += [None] * (handle + 1 - len(self.directories))
+        self.directories[handle] = {"node": node, "user": user, "entries": None}
 
     def get(self, handle):
         found = self.directories[handle] if handle < len(self.directories) else None
@@ -121,7 +129,6 @@ class Lists:
     def close(self, handle):
         found = self.get(handle)
         self.directories[handle] = None
-        self.vacant.append(handle)
         return found["node"]
 
 
@@ -403,10 +410,7 @@ class Server:
     # ---- files
 
     def vacant(self):
-        handle = min({*range(len(self.files) + 1)} - {*self.files})
-        if handle == HANDLES:
-            raise No("ENFILE")
-        return handle
+        return vacant(self.sender[0], {handle: user for handle, (_, _, user) in self.files.items()})
 
     @staticmethod
     def session_of(handle):
@@ -414,7 +418,7 @@ class Server:
         return block and block + 1
 
     def hold(self, handle, node, descriptor):
-        self.files[handle] = descriptor, node
+        self.files[handle] = descriptor, node, self.sender[0]
         self.change("open", node)
 
     def file(self, handle):
@@ -589,11 +593,12 @@ class Server:
     # ---- directories
 
     def do_opendir(self, node, _):
-        place = self.place(node)
+        handle, place = self.lists.vacant(self.sender[0]), self.place(node)
         if place is not None:
             self.as_caller(f"readdir {place}")
+        self.lists.open(handle, node, self.sender[0])
         self.change("open", node)
-        return f"OPENED {self.lists.open(node)} 0"
+        return f"OPENED {handle} 0"
 
     def entries(self, node):
         """Number, kind and name of each entry."""

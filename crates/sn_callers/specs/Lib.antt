@@ -1,3 +1,4 @@
 pub mod Sessions
 pub mod Files
 pub mod Logins
+pub mod Shares

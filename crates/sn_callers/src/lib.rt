@@ -8,13 +8,14 @@
 //!
 //! The model. [`OpenFiles`] is seen as a list of 4,032 places, each with an open file or with none. A handle, by which messages
 //! name an open file, is a place of that list. `session_of` (`specs/Sessions`) tells its session, so that no session is asked for more
-//! descriptors than it has ([`handles_have_sessions`]), and `file_at` (`specs/Files`) what it stands for. `login_of` (`specs/Logins`) is the
-//! call that logs a caller in, or the error of a caller whose groups aren't known.
+//! descriptors than it has ([`handles_have_sessions`]), and `file_at` (`specs/Files`) what it stands for. `vacant_for` (`specs/Shares`) is the
+//! handle that a user gets next, by who has the others ([`Shares`]). `login_of` (`specs/Logins`) is the call that logs a caller in, or the
+//! error of a caller whose groups aren't known.
 //!
 //! A descriptor is kept as the reply to `open` told it. So nothing is assumed of which one a session gives next.
 //!
-//! The way through: `sessions` has the sessions and what a handle says of them, `open_files` the table, `login` the call, and `laws`
-//! what follows.
+//! The way through: `sessions` has the sessions and what a handle says of them, `shares` who gets a handle, `open_files` the table, `login` the
+//! call, and `laws` what follows.
 //!
 //! Memory: that of the table is taken when it is made, and that of a login with each call.
 //!
@@ -22,8 +23,8 @@
 //!
 //! ```text
 //! let login = login_of(alloc, &caller, status, all_mapped)?;
-//! let handle = files.vacant().ok_or(Errno::ENFILE)?;
-//! files.open(handle, OpenFile { descriptor, node });
+//! let handle = files.vacant(user)?;
+//! files.open(handle, OpenFile { descriptor, user, node });
 //! ```
 #![tactic(auto)]
 
@@ -31,8 +32,10 @@ mod laws;
 mod login;
 mod open_files;
 mod sessions;
+mod shares;
 
 pub use laws::handles_have_sessions;
 pub use login::{Caller, login_of, told_groups};
 pub use open_files::{FILES_MAX, OpenFile, OpenFiles};
 pub use sessions::{ASKER, LOOKER, session_of};
+pub use shares::{HANDLES_MAX, Shares};

@@ -1,2 +1,3 @@
 pub mod FittingLemmas
+pub mod Places
 pub mod ReadingLemmas

@@ -1,15 +1,24 @@
 -- Open directories, and what is held for them.
-use Rattle.std.specs.Prelude.{◌≡◌, ◌≢◌, ℕ, Bool, false, List, [], Option, None, Some, is_some, is_none, ◌==◌, ◌||◌}
+use Rattle.std.specs.Prelude.{ℕ, Bool, false, List, [], map, slice_index_or, Option, None, Some, is_some, is_none, ◌==◌, ◌||◌}
 use Rattle.std.specs.Option.{option_map}
 use Rattle.sn_listings.specs.declared.entry.HeldEntry.{HeldEntry}
 
--- its node, and its listing, none where it wasn't read
+-- its node, who opened it, and its listing, none where it wasn't read
 pub record Directory : Type 0 where
   pub node : ℕ
+  pub user : ℕ
   pub listing : Option (List HeldEntry)
 
-abbrev pub unread : ℕ → Directory
-unread node = record { node = node; listing = None }
+abbrev pub unread : ℕ → ℕ → Directory
+unread node user = record { node = node; user = user; listing = None }
+
+-- what a handle stands for: nothing past the last place
+abbrev pub directory_at : List (Option Directory) → ℕ → Option Directory
+directory_at directories handle = slice_index_or directories handle None
+
+-- who has the handles
+abbrev pub users_of : List (Option Directory) → List (Option ℕ)
+users_of directories = map (option_map (λ (d : Directory). d.user)) directories
 
 abbrev pub node_of : Option Directory → Option ℕ
 node_of found = option_map (λ (d : Directory). d.node) found
@@ -38,8 +47,3 @@ entries_in (Some entries) = entries
 abbrev pub entries_of : Option Directory → List HeldEntry
 entries_of None = []
 entries_of (Some d) = entries_in d.listing
-
--- a handle has this now, and every other one what it had
-pub record Changes (old new : ℕ → Option Directory) (handle : ℕ) (now : Option Directory) : Type 0 where
-  pub changed : new handle ≡ now
-  pub others : (other : ℕ) → other ≢ handle → new other ≡ old other

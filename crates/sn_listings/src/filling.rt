@@ -44,13 +44,13 @@ fn fill_from(entries: &[HeldEntry], from: u64, answer: &mut Listing) -> Result<(
 }
 
 impl Listings {
-    ghost use Rattle.sn_listings.specs.Told.{directory_at};
+    ghost use Rattle.sn_listings.specs.Held.{directory_at};
 
     // The entries that are held for a handle.
     fn entries(&self, handle: u64) -> &[HeldEntry]
         ensures { result.now ≡ held.entries_of (directory_at self.now handle) }
     {
-        match self.directories.get(handle as usize) {
+        match self.at(handle) {
             Some(directory) => directory.entries(),
             None => &[],
         }

@@ -5,19 +5,20 @@
 //! and the entry at a place tells the next place as the offset after it. Offset 0 makes the listing anew (POSIX.1-2017, readdir() and
 //! rewinddir(): a name that was there throughout is answered once, and one that came or went since may be answered or not).
 //!
-//! The model. [`Listings`] is seen as what each handle stands for: an open directory with its node, and with its listing if it was read
-//! (`specs/Held`). `fitting` (`specs/Fitting`) is what one answer has of a listing: the entries from a place on, as many as fit.
+//! The model. [`Listings`] is seen as a list of 4,032 places, which handles number, each with an open directory or with none: its node, who
+//! opened it, and its listing if it was read (`specs/Held`). Who gets a handle is told by `sn_callers`. `fitting` (`specs/Fitting`) is what one answer has of a listing: the entries from a place on, as many as fit.
 //! `read_bytes` (`specs/Reading`) is what answers have of it one after another, and [`entries_are_read_once`] says that this is each
 //! entry once.
 //!
 //! The way through: `entry` has an entry that is held, `listings` the open directories, `filling` the answer, and `laws` what follows.
 //!
-//! Memory: an entry's name and 40 bytes for each entry that is held, until its handle is released or has another listing.
+//! Memory: that of the handles is taken when they are made; besides an entry's name and 40 bytes for each entry that is held, until its handle is released or has another listing.
 //!
 //! What the sources leave open is decided in `docs/DECISIONS.md`, under "Open directories".
 //!
 //! ```text
-//! let handle = listings.open(node)?;
+//! let handle = listings.vacant(user)?;
+//! listings.open(handle, node, user);
 //! if listings.is_due(handle, offset) {
 //!     listings.hold(handle, entries);
 //! }

@@ -31,12 +31,13 @@ impl<F: FileSystem> Server<F> {
         self.nodes.close(id);
     }
 
-    /// The handle that the next open file gets. `ENFILE` where 4,032 files are open.
-    pub fn vacant(&self) -> Result<u64, Errno>
-        ensures does { Does F.did self.now self.now handles.vacant result }
+    /// The handle that the next open file of a user gets. `ENFILE` where no user may open one more, or none but user 0; else `EMFILE` where
+    /// this one may not (`OpenFiles::vacant`).
+    pub fn vacant(&self, user: u32) -> Result<u64, Errno>
+        ensures does { Does F.did self.now self.now (handles.vacant user) result }
         ensures within { IfOk result (λ handle. handle < 4032) }
     {
-        self.files.vacant().ok_or(Errno::ENFILE)
+        self.files.vacant(user)
     }
 
     /// What a handle stands for. `EBADF` where it stands for nothing.

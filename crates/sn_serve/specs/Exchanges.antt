@@ -12,7 +12,6 @@ use Rattle.sn_fuse_replies.specs.declared.answer.Answer.{Answer}
 use Rattle.sn_fuse_replies.specs.declared.answer.Answer.TheVariants.{Error}
 use Rattle.sn_fuse_replies.specs.declared.errno.Errno.{Errno}
 use Rattle.sn_fuse_replies.specs.declared.errno.Errno.TheVariants.{EINVAL, EIO, ENOMEM, ENOSYS}
-use Rattle.sn_listings.specs.Told.{directory_at}
 use Rattle.sn_plan.specs.Acts.{Act, is_change}
 use Rattle.sn_plan.specs.Checking.{caller_of}
 use Rattle.sn_plan.specs.Follows.{kept_of}
@@ -88,7 +87,7 @@ pub record Performs {F P : Type 0} (did : F → F → List Act → Type 0) (tell
     (told : Result Told Errno) : Type 0 where
   pub text : Option (List ℕ)
   pub is_text : IsTextOf tells old.checker head op before text after
-  pub answers : Answers did (way_of old.checker (sender_of head) text) head.node (cleared old.server) new.server (directory_at old.listings) (directory_at new.listings) op told
+  pub answers : Answers did (way_of old.checker (sender_of head) text) head.node (cleared old.server) new.server old.listings new.listings op told
   pub checker : new.checker ≡ old.checker
 
 -- whether one of the calls changed something

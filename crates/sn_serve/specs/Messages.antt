@@ -1,7 +1,8 @@
 -- What is done for each message, and what it is answered.
 use Rattle.std.specs.Option.{option_copied}
-use Rattle.std.specs.Prelude.{◌≡◌, ℕ, List, Option, None, Some, Result, Ok, Err, IfOk, drop, min}
+use Rattle.std.specs.Prelude.{◌≡◌, ℕ, List, Option, None, Some, Result, Ok, Err, IfOk, drop, min, slice_set}
 use Rattle.sn_acl.specs.declared.entries.Entry.{Entry}
+use Rattle.sn_callers.specs.Shares.{vacant_for}
 use Rattle.sn_callers.specs.declared.login.Caller.{Caller}
 use Rattle.sn_fuse.specs.declared.operation.NewAttributes.{NewAttributes}
 use Rattle.sn_fuse.specs.declared.operation.Op.{Op}
@@ -13,7 +14,7 @@ use Rattle.sn_fuse_replies.specs.declared.answer.Opened.{Opened}
 use Rattle.sn_fuse_replies.specs.declared.errno.Errno.{Errno}
 use Rattle.sn_fuse_replies.specs.declared.errno.Errno.TheVariants.{EPERM}
 use Rattle.sn_listings.specs.Fitting.{fitting}
-use Rattle.sn_listings.specs.Held.{Changes, Directory, entries_of, node_of, unread}
+use Rattle.sn_listings.specs.Held.{Directory, directory_at, entries_of, node_of, unread, users_of}
 use Rattle.sn_listings.specs.declared.entry.HeldEntry.{HeldEntry}
 use Rattle.sn_model.specs.declared.call.Call.{Call}
 use Rattle.sn_plan.specs.Acts.{Act}
@@ -35,16 +36,17 @@ use Rattle.sn_serve_looks.specs.Xattrs.{IsRead}
 use Rattle.sn_serve_names.specs.Messages as names
 use Rattle.sn_serve_setattr.specs.Messages.{set_attributes}
 
--- how a message is done: who checks, the login of who asks, as which user they ask, and to whom is given what is made
+-- how a message is done: who checks, the login of who asks, as which user they ask, to whom is given what is made, and whose is what is opened
 pub record Way : Type 0 where
   pub checker : Checker
   pub login : Result Call Errno
   pub user : ℕ
   pub maker : Option Caller
+  pub opener : ℕ
 
 -- for a sender, with what was told of its process
 abbrev pub way_of : Checker → Caller → Option (List ℕ) → Way
-way_of checker sender text = record { checker = checker; login = login_from checker sender text; user = (caller_of checker sender).user; maker = maker_of checker sender }
+way_of checker sender text = record { checker = checker; login = login_from checker sender text; user = (caller_of checker sender).user; maker = maker_of checker sender; opener = sender.user }
 
 abbrev pub way_by : Asker → Way
 way_by asker = way_of asker.checker asker.sender (option_copied asker.status)
@@ -72,8 +74,8 @@ plan_of way node (op.Rmdir name) = told_as done (names.rmdir way.login node name
 plan_of way node (op.Rename directory name other) = told_as done (names.rename way.login node name directory other (record { 0 = 0 }))
 plan_of way node (op.Rename2 directory flags name other) = told_as done (names.rename way.login node name directory other flags)
 plan_of way node (op.Link other name) = told_as told.Found (names.link way.login other node name)
-plan_of way node (op.Open flags) = told_as told.Handle (files.open_node way.login node flags)
-plan_of way node (op.Create flags mode umask name) = told_as told.Made (files.create way.login way.maker node name flags mode umask)
+plan_of way node (op.Open flags) = told_as told.Handle (files.open_node way.login way.opener node flags)
+plan_of way node (op.Create flags mode umask name) = told_as told.Made (files.create way.login way.maker way.opener node name flags mode umask)
 plan_of way node (op.Read span) = told_as told.Content (files.read span.handle span.offset span.size)
 plan_of way node (op.Write handle offset flags bytes) = told_as told.Written (files.write handle offset bytes)
 plan_of way node (op.Release handle) = told_as done (files.release handle)
@@ -88,15 +90,12 @@ plan_of way node other = Gives told.Done
 -- ---- open directories, which are held besides
 
 abbrev pub Held : Type 0
-Held = ℕ → Option Directory
+Held = List (Option Directory)
 
-abbrev pub Keeps : Held → Held → Type 0
-Keeps before after = (handle : ℕ) → after handle ≡ before handle
-
--- a directory that was opened has a handle that none had
-abbrev pub IsOpened : Held → Held → ℕ → Result Opened Errno → Type 0
-IsOpened before after node (Ok opened) = (before opened.handle ≡ None) × Changes before after opened.handle (Some (unread node))
-IsOpened before after node (Err errno) = Keeps before after
+-- a directory that was opened has its handle
+abbrev pub IsOpened : Held → Held → ℕ → ℕ → Result Opened Errno → Type 0
+IsOpened before after node user (Ok opened) = after ≡ slice_set before opened.handle (Some (unread node user))
+IsOpened before after node user (Err errno) = after ≡ before
 
 -- at most 65,536 bytes of a listing are answered
 abbrev pub listing_room : ℕ → ℕ
@@ -124,23 +123,22 @@ ended (Err errno) = Err errno
 -- what was read is held, and the answer has the entries from an offset on, up to the first that doesn't fit
 pub record Lists {F : Type 0} (did : F → F → List Act → Type 0) (span : Span) (old new : Server F) (before after : Held) (r : Result Entries Errno) : Type 0 where
   pub read : Result (Option (List HeldEntry)) Errno
-  pub does : Does did old new (readdir (before span.handle) span.offset) (images_read read)
+  pub does : Does did old new (readdir (directory_at before span.handle) span.offset) (images_read read)
   pub held : IsHeld read before after span.handle
   pub told : IsTold read (ended r)
-  pub entries : IfOk r (λ entries. entries.listing.bytes ≡ fitting (listing_room span.size) span.offset (drop span.offset (entries_of (after span.handle))))
+  pub entries : IfOk r (λ entries. entries.listing.bytes ≡ fitting (listing_room span.size) span.offset (drop span.offset (entries_of (directory_at after span.handle))))
 
--- a directory that was opened has a handle that none had
+-- a directory that was opened has the least vacant handle, if there is one for the sender
 pub record OpensDirectory {F : Type 0} (did : F → F → List Act → Type 0) (way : Way) (node : ℕ) (old new : Server F) (before after : Held) (r : Result Opened Errno) : Type 0 where
-  pub handle : ℕ
-  pub does : Does did old new (opendir way.login node handle) r
-  pub opened : IsOpened before after node r
+  pub does : Does did old new (opendir way.login (vacant_for way.opener (users_of before)) node) r
+  pub opened : IsOpened before after node way.opener r
 
 -- A message was answered: its plan was followed, and what is held of open directories is what it says.
 pub data Answers {F : Type 0} (did : F → F → List Act → Type 0) (way : Way) (node : ℕ) (old new : Server F) (before after : Held) : Op → Result Told Errno → Type 0 where
-  follows : {op : Op} {r : Result Told Errno} → Follows did way node op old new r → Keeps before after → Answers did way node old new before after op r
+  follows : {op : Op} {r : Result Told Errno} → Follows did way node op old new r → after ≡ before → Answers did way node old new before after op r
   opens : {flags : OpenFlags} {r : Result Opened Errno} → OpensDirectory did way node old new before after r → Answers did way node old new before after (op.OpenDir flags) (told_in told.Handle r)
   lists : {span : Span} {r : Result Entries Errno} → Lists did span old new before after r → Answers did way node old new before after (op.ReadDir span) (told_in told.Listed r)
-  closes : {handle : ℕ} {r : Result (Unit {0}) Errno} → Does did old new (releasedir (node_of (before handle))) r → Changes before after handle None
+  closes : {handle : ℕ} {r : Result (Unit {0}) Errno} → Does did old new (releasedir (node_of (directory_at before handle))) r → after ≡ slice_set before handle None
       → Answers did way node old new before after (op.ReleaseDir handle) (told_in done r)
 
 -- what was done for it

@@ -1,6 +1,5 @@
 //! What is done for each message.
 ghost use Rattle.std.specs.Prelude.{◌≡◌};
-ghost use Rattle.sn_listings.specs.Told.{directory_at};
 ghost use Rattle.sn_plan.specs.Asking.{login_by};
 ghost use Rattle.sn_plan.specs.Follows.{Does};
 ghost use Rattle.sn_serve.specs.Answers as answers;
@@ -215,7 +214,7 @@ fn list<F: FileSystem>(
     listings: &mut Listings,
     span: &Span,
 ) -> Result<Entries, Errno>
-    ensures { Lists F.did span.now server.old server.new (directory_at listings.old) (directory_at listings.new) result }
+    ensures { Lists F.did span.now server.old server.new listings.old listings.new result }
 {
     let mut listing = Listing::new(server.alloc, span.size.min(LISTING_MAX) as usize);
     readdir(server, listings, span.handle, span.offset, &mut listing)?;
@@ -231,7 +230,7 @@ fn on_directories<F: FileSystem>(
     op: &Op<'_>,
 ) -> Result<Told, Errno>
     requires { group_of op.now ≡ group.Directories }
-    ensures { Answers F.did (way_by asker.now) node server.old server.new (directory_at listings.old) (directory_at listings.new) op.now result }
+    ensures { Answers F.did (way_by asker.now) node server.old server.new listings.old listings.new op.now result }
 {
     match op {
         Op::OpenDir { .. } => handle(opendir(server, listings, asker, node)),
@@ -279,7 +278,7 @@ pub(crate) fn perform<F: FileSystem>(
     node: u64,
     op: &Op<'_>,
 ) -> Result<Told, Errno>
-    ensures { Answers F.did (way_by asker.now) node server.old server.new (directory_at listings.old) (directory_at listings.new) op.now result }
+    ensures { Answers F.did (way_by asker.now) node server.old server.new listings.old listings.new op.now result }
 {
     match group_of(op) {
         Group::Names => on_names(server, asker, node, op),

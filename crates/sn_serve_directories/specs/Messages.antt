@@ -1,11 +1,11 @@
 -- The plan of each message on open directories.
-use Rattle.std.specs.Prelude.{◌≡◌, ◌⊎◌, ℕ, Bool, List, Option, None, Some, Result, Ok, Err, if◌then◌else◌}
+use Rattle.std.specs.Prelude.{◌≡◌, ◌⊎◌, ℕ, Bool, List, Option, None, Some, Result, Ok, Err, slice_set, if◌then◌else◌}
 use Rattle.std.specs.Option.{option_map}
 use Rattle.std.specs.declared.vec.Vec.{Vec}
 use Rattle.sn_fuse_replies.specs.declared.answer.Opened.{Opened}
 use Rattle.sn_fuse_replies.specs.declared.errno.Errno.{Errno}
 use Rattle.sn_fuse_replies.specs.declared.errno.Errno.TheVariants.{EBADF, EIO, ENOMEM}
-use Rattle.sn_listings.specs.Held.{Changes, Directory, is_due, listed}
+use Rattle.sn_listings.specs.Held.{Directory, directory_at, is_due, listed}
 use Rattle.sn_listings.specs.declared.entry.HeldEntry.{HeldEntry}
 use Rattle.sn_model.specs.declared.call.Call.{Call}
 use Rattle.sn_model.specs.declared.call.Call.TheVariants.{Readdir}
@@ -37,11 +37,12 @@ may_list_in_place login (Some path) = lists login path
 unfoldable pub may_list : Result Call Errno → ℕ → Plan (Unit {0})
 may_list login node = place_of node >>= may_list_in_place login
 
--- with the handle that the directory gets
-unfoldable pub opendir : Result Call Errno → ℕ → ℕ → Plan Opened
-opendir login node handle = do
+-- with the handle that the directory gets, if there is one for the sender
+unfoldable pub opendir : Result Call Errno → Result ℕ Errno → ℕ → Plan Opened
+opendir login vacant node = do
+  handle ← given vacant
   _ ← may_list login node
-  Takes (turned (Holds node) >>= (λ _. Gives (record { handle = handle; flags = 0 })))
+  turned (Holds node) >>= (λ _. Gives (record { handle = handle; flags = 0 }))
 
 -- ---- READDIR
 
@@ -71,10 +72,10 @@ images_read (Ok read) = Ok (option_map images_of read)
 images_read (Err e) = Err e
 
 -- it is held for the handle, in place of what was
-abbrev pub IsHeld : Result (Option (List HeldEntry)) Errno → (ℕ → Option Directory) → (ℕ → Option Directory) → ℕ → Type 0
-IsHeld (Ok (Some held)) old new handle = Changes old new handle (listed held (old handle))
-IsHeld (Ok None) old new handle = (other : ℕ) → new other ≡ old other
-IsHeld (Err e) old new handle = (other : ℕ) → new other ≡ old other
+abbrev pub IsHeld : Result (Option (List HeldEntry)) Errno → List (Option Directory) → List (Option Directory) → ℕ → Type 0
+IsHeld (Ok (Some held)) old new handle = new ≡ slice_set old handle (listed held (directory_at old handle))
+IsHeld (Ok None) old new handle = new ≡ old
+IsHeld (Err e) old new handle = new ≡ old
 
 -- an error is that of the plan, or there was no memory for the answer
 abbrev pub IsTold : Result (Option (List HeldEntry)) Errno → Result (Unit {0}) Errno → Type 0

@@ -1,7 +1,7 @@
 //! OPENDIR and RELEASEDIR.
-ghost use Rattle.std.specs.Prelude.{◌≡◌, ℕ, None, Some, IfOk, OnErr};
-ghost use Rattle.sn_listings.specs.Held.{Changes, node_of, unread};
-ghost use Rattle.sn_listings.specs.Told.{directory_at};
+ghost use Rattle.std.specs.Prelude.{◌≡◌, None, Some, IfOk, OnErr, slice_set};
+ghost use Rattle.sn_callers.specs.Shares.{vacant_for};
+ghost use Rattle.sn_listings.specs.Held.{directory_at, node_of, unread, users_of};
 ghost use Rattle.sn_plan.specs.Asking.{login_by};
 ghost use Rattle.sn_plan.specs.Follows.{Does};
 ghost use Rattle.sn_serve_directories.specs.Messages as messages;
@@ -46,24 +46,25 @@ fn may_list<F: FileSystem>(
     lists(server, asker, path.as_slice())
 }
 
-/// OPENDIR: opens a directory, whose listing is still to be read. Of a directory to which no name leads nothing is asked.
+/// OPENDIR: opens a directory, whose listing is still to be read. `ENFILE` or `EMFILE` where its sender may open no more, before any call is
+/// made. Of a directory to which no name leads nothing is asked.
 ///
-/// Proved: OPENDIR is one readdir as who asks, by a path that was looked at; the handle that it gives stands for the node, which is held open.
+/// Proved: OPENDIR is one readdir as who asks, by a path that was looked at; the least vacant handle stands for the node, which is held
+/// open, and is the sender's.
 pub fn opendir<F: FileSystem>(
     server: &mut Server<F>,
     listings: &mut Listings,
     asker: &Asker<'_>,
     node: u64,
 ) -> Result<Opened, Errno>
-    ensures plan { (handle : ℕ) × Does F.did server.old server.new (messages.opendir (login_by asker.now) node handle) result }
-    ensures vacant { IfOk result (λ opened. directory_at listings.old opened.handle ≡ None) }
-    ensures opened { IfOk result (λ opened. Changes (directory_at listings.old) (directory_at listings.new) opened.handle (Some (unread node))) }
-    ensures err { OnErr result ((handle : ℕ) → directory_at listings.new handle ≡ directory_at listings.old handle) }
+    ensures plan { Does F.did server.old server.new (messages.opendir (login_by asker.now) (vacant_for asker.now.sender.user (users_of listings.old)) node) result }
+    ensures opened { IfOk result (λ opened. listings.new ≡ slice_set listings.old opened.handle (Some (unread node asker.now.sender.user))) }
+    ensures err { OnErr result (listings.new ≡ listings.old) }
 {
+    let user = asker.sender.user;
+    let handle = listings.vacant(user)?;
     may_list(server, asker, node)?;
-    let Ok(handle) = listings.open(node) else {
-        return Err(Errno::ENOMEM);
-    };
+    listings.open(handle, node, user);
     server.hold(node);
     Ok(Opened { handle, flags: 0 })
 }
@@ -77,7 +78,7 @@ pub fn releasedir<F: FileSystem>(
     handle: u64,
 ) -> Result<(), Errno>
     ensures plan { Does F.did server.old server.new (messages.releasedir (node_of (directory_at listings.old handle))) result }
-    ensures released { Changes (directory_at listings.old) (directory_at listings.new) handle None }
+    ensures released { listings.new ≡ slice_set listings.old handle None }
 {
     match listings.release(handle) {
         Some(node) => {

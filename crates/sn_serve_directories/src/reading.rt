@@ -3,7 +3,7 @@ ghost use Rattle.std.specs.Prelude.{◌≡◌, ◌++◌, ◌-◌, List, Option, 
 ghost use Rattle.sn_fuse_replies.specs.declared.errno.Errno.{Errno as TheErrno};
 ghost use Rattle.sn_listings.specs.Fitting.{fitting};
 ghost use Rattle.sn_listings.specs.Held as held;
-ghost use Rattle.sn_listings.specs.Told.{directory_at};
+ghost use Rattle.sn_listings.specs.Held.{directory_at};
 ghost use Rattle.sn_listings.specs.declared.entry.HeldEntry.{HeldEntry as TheHeldEntry};
 ghost use Rattle.sn_plan.specs.Follows.{Does};
 ghost use Rattle.sn_serve_directories.specs.Messages as messages;
@@ -57,7 +57,7 @@ fn read<F: FileSystem>(
 
 /// Holds what was read for a handle.
 fn hold(listings: &mut Listings, handle: u64, read: Option<Vec<HeldEntry>>)
-    ensures { IsHeld (Ok (list_in read)) (directory_at listings.old) (directory_at listings.new) handle }
+    ensures { IsHeld (Ok (list_in read)) listings.old listings.new handle }
 {
     match read {
         Some(entries) => listings.hold(handle, entries),
@@ -80,7 +80,7 @@ pub fn readdir<F: FileSystem>(
 ) -> Result<(), Errno>
     ensures read { (read : Result (Option (List TheHeldEntry)) TheErrno)
         × Does F.did server.old server.new (messages.readdir (directory_at listings.old handle) offset) (images_read read)
-        × IsHeld read (directory_at listings.old) (directory_at listings.new) handle × IsTold read result }
+        × IsHeld read listings.old listings.new handle × IsTold read result }
     ensures room { answer.new.room ≡ answer.old.room }
     ensures filled { OnOk result (answer.new.bytes ≡ answer.old.bytes
         ++ fitting (answer.old.room - length answer.old.bytes) offset (drop offset (held.entries_of (directory_at listings.new handle)))) }

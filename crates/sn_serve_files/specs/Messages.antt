@@ -41,19 +41,20 @@ opens_as login path flags = Takes (asks login (open_call path flags) >>= (λ rep
 abbrev pub opens : ℕ → List ℕ → CallFlags → Plan Reply
 opens handle path flags = calls (session_of handle) (open_call path flags)
 
--- a handle gets what was opened
-abbrev pub gets : ℕ → ℕ → ℕ → Plan Opened
-gets handle node descriptor = turned (Opens handle (record { descriptor = descriptor; node = node })) >>= (λ _. Gives (opened_as handle))
+-- a handle of a user gets what was opened
+abbrev pub gets : ℕ → ℕ → ℕ → ℕ → Plan Opened
+gets handle user node descriptor = turned (Opens handle (record { descriptor = descriptor; user = user; node = node })) >>= (λ _. Gives (opened_as handle))
 
-unfoldable pub keeps_open : ℕ → ℕ → List ℕ → CallFlags → Plan Opened
-keeps_open handle node path flags = Takes (opens handle path flags >>= (λ reply. given (number reply) >>= gets handle node))
+unfoldable pub keeps_open : ℕ → ℕ → ℕ → List ℕ → CallFlags → Plan Opened
+keeps_open handle user node path flags = Takes (opens handle path flags >>= (λ reply. given (number reply) >>= gets handle user node))
 
-unfoldable pub open_node : Result Call Errno → ℕ → OpenFlags → Plan Opened
-open_node login node flags = do
-  handle ← vacant
+-- the handle is of the user of the message's head
+unfoldable pub open_node : Result Call Errno → ℕ → ℕ → OpenFlags → Plan Opened
+open_node login user node flags = do
+  handle ← vacant user
   path ← path_at node
   _ ← opens_as login path (asked flags)
-  keeps_open handle node path (owned flags)
+  keeps_open handle user node path (owned flags)
 
 -- ---- CREATE, MKNOD
 
@@ -69,28 +70,28 @@ abbrev pub entry_at : ℕ → NamedPath → Bool → Plan Entry
 entry_at parent child was_there = if was_there then met parent child else made_at parent child
 
 -- the handle gets what user 0 opened; where that is refused, the lookup that the entry counted is forgotten, since no answer tells of it
-abbrev pub keeps_made : ℕ → Entry → Result ℕ Errno → Plan Created
-keeps_made handle entry (Ok descriptor) = gets handle entry.node descriptor >>= (λ opened. Gives (record { entry = entry; opened = opened }))
-keeps_made handle entry (Err e) = turned (Forgets entry.node 1) >>= (λ _. Refuses e)
+abbrev pub keeps_made : ℕ → ℕ → Entry → Result ℕ Errno → Plan Created
+keeps_made handle user entry (Ok descriptor) = gets handle user entry.node descriptor >>= (λ opened. Gives (record { entry = entry; opened = opened }))
+keeps_made handle user entry (Err e) = turned (Forgets entry.node 1) >>= (λ _. Refuses e)
 
-unfoldable pub opens_made : ℕ → ℕ → NamedPath → Bool → CallFlags → Plan Created
-opens_made handle parent child was_there flags = Takes (do
+unfoldable pub opens_made : ℕ → ℕ → ℕ → NamedPath → Bool → CallFlags → Plan Created
+opens_made handle user parent child was_there flags = Takes (do
   entry ← entry_at parent child was_there
   reply ← opens handle child.path flags
-  keeps_made handle entry (number reply))
+  keeps_made handle user entry (number reply))
 
 -- what was there has an owner
 abbrev pub gives_new : Option Caller → ℕ → NamedPath → Bool → Plan (Unit {0})
 gives_new maker parent child was_there = if was_there then Gives tt else gives_owner maker parent child.path
 
-unfoldable pub create : Result Call Errno → Option Caller → ℕ → List ℕ → OpenFlags → ℕ → ℕ → Plan Created
-create login maker parent name flags mode umask = do
-  handle ← vacant
+unfoldable pub create : Result Call Errno → Option Caller → ℕ → ℕ → List ℕ → OpenFlags → ℕ → ℕ → Plan Created
+create login maker user parent name flags mode umask = do
+  handle ← vacant user
   child ← child_of parent name
   found ← finds child.path
   _ ← makes_file login child (making flags) mode umask
   _ ← gives_new maker parent child (is_some found)
-  opens_made handle parent child (is_some found) (owned flags)
+  opens_made handle user parent child (is_some found) (owned flags)
 
 unfoldable pub makes_node : Result Call Errno → Option Caller → ℕ → List ℕ → ℕ → ℕ → Plan Entry
 makes_node login maker parent name mode umask = do

@@ -70,15 +70,16 @@ fn entry_at<F: FileSystem>(
 fn keep_made<F: FileSystem>(
     server: &mut Server<F>,
     handle: u64,
+    user: u32,
     entry: Entry,
     descriptor: Result<u32, Errno>,
 ) -> Result<Created, Errno>
     requires { handle < 4032 }
-    ensures { Does F.did server.old server.new (messages.keeps_made handle entry descriptor) result }
+    ensures { Does F.did server.old server.new (messages.keeps_made handle user entry descriptor) result }
 {
     match descriptor {
         Ok(descriptor) => {
-            let opened = get_handle(server, handle, entry.node, descriptor);
+            let opened = get_handle(server, handle, user, entry.node, descriptor);
             Ok(Created { entry, opened })
         }
         Err(errno) => {
@@ -92,18 +93,19 @@ fn keep_made<F: FileSystem>(
 fn open_made<F: FileSystem>(
     server: &mut Server<F>,
     handle: u64,
+    user: u32,
     parent: u64,
     child: &Child,
     was_there: bool,
     flags: CallFlags,
 ) -> Result<Created, Errno>
     requires { handle < 4032 }
-    ensures { Does F.did server.old server.new (messages.opens_made handle parent child.now was_there flags) result }
+    ensures { Does F.did server.old server.new (messages.opens_made handle user parent child.now was_there flags) result }
 {
     let path = word(server.alloc, child.path())?;
     let entry = entry_at(server, parent, child, was_there)?;
     let reply = server.call(session_of(handle), &open_call(path, flags));
-    keep_made(server, handle, entry, number(&reply))
+    keep_made(server, handle, user, entry, number(&reply))
 }
 
 /// Gives a file to its maker, if it wasn't there already.
@@ -123,8 +125,8 @@ fn give_new<F: FileSystem>(
     }
 }
 
-/// CREATE: makes a file, or without O_EXCL opens the one that is there, and opens it. `ENFILE` where 4,032 are open, before any call is made.
-/// Of the mode and the umask the permission bits count.
+/// CREATE: makes a file, or without O_EXCL opens the one that is there, and opens it. `ENFILE` or `EMFILE` where its sender may open no more,
+/// before any call is made. Of the mode and the umask the permission bits count.
 ///
 /// Proved: CREATE is an open as who asks that makes the file, with the umask of its message, by a path whose directory was looked at, and then
 /// one of user 0 as for OPEN. A file that user 0 made for somebody is given to them; one that was made gets an id that was never given; where user 0's open is refused, no lookup is counted.
@@ -137,15 +139,24 @@ pub fn create<F: FileSystem>(
     mode: u32,
     umask: u32,
 ) -> Result<Created, Errno>
-    ensures { Does F.did server.old server.new (messages.create (login_by asker.now) (maker_by asker.now) parent name.now flags mode umask) result }
+    ensures { Does F.did server.old server.new (messages.create (login_by asker.now) (maker_by asker.now) asker.now.sender.user parent name.now flags mode umask) result }
 {
-    let handle = server.vacant()?;
+    let user = asker.sender.user;
+    let handle = server.vacant(user)?;
     let child = child_of(server, parent, name)?;
     let found = server.find(child.path())?;
     let was_there = found.is_some();
     make_file(server, asker, &child, making(flags), mode, umask)?;
     give_new(server, asker, parent, &child, was_there)?;
-    open_made(server, handle, parent, &child, was_there, owned(flags))
+    open_made(
+        server,
+        handle,
+        user,
+        parent,
+        &child,
+        was_there,
+        owned(flags),
+    )
 }
 
 /// Makes a file that isn't there.

@@ -37,51 +37,60 @@ fn open_as<F: FileSystem>(
     numbered(&reply)
 }
 
-/// Gives a handle to a file that user 0 has opened.
+/// Gives a handle to a file that user 0 has opened for a user.
 pub(crate) fn get_handle<F: FileSystem>(
     server: &mut Server<F>,
     handle: u64,
+    user: u32,
     node: u64,
     descriptor: u32,
 ) -> Opened
     requires { handle < 4032 }
-    ensures { Does F.did server.old server.new (messages.gets handle node descriptor) (Ok result) }
+    ensures { Does F.did server.old server.new (messages.gets handle user node descriptor) (Ok result) }
 {
-    server.open(handle, OpenFile { descriptor, node });
+    let file = OpenFile {
+        descriptor,
+        user,
+        node,
+    };
+    server.open(handle, file);
     Opened { handle, flags: 0 }
 }
 
-/// Opens what is at a path, as user 0, for a handle.
+/// Opens what is at a path, as user 0, for a handle of a user.
 fn keep_open<F: FileSystem>(
     server: &mut Server<F>,
     handle: u64,
+    user: u32,
     node: u64,
     path: &[u8],
     flags: CallFlags,
 ) -> Result<Opened, Errno>
     requires { handle < 4032 }
-    ensures { Does F.did server.old server.new (messages.keeps_open handle node path.now flags) result }
+    ensures { Does F.did server.old server.new (messages.keeps_open handle user node path.now flags) result }
 {
     let path = word(server.alloc, path)?;
     let reply = server.call(session_of(handle), &open_call(path, flags));
     let descriptor = number(&reply)?;
-    Ok(get_handle(server, handle, node, descriptor))
+    Ok(get_handle(server, handle, user, node, descriptor))
 }
 
-/// OPEN: opens a file. `ENFILE` where 4,032 are open, before any call is made.
+/// OPEN: opens a file. `ENFILE` or `EMFILE` where its sender may open no more, before any call is made.
 ///
 /// Proved: OPEN is an open as who asks, by a path that was looked at, with the rights and the truncation that the message asks for, and then
-/// one of user 0, with these rights alone, in the session of the least vacant handle. The handle stands for the descriptor that the latter told.
+/// one of user 0, with these rights alone, in the session of the least vacant handle. The handle stands for the descriptor that the latter told,
+/// and is the sender's.
 pub fn open<F: FileSystem>(
     server: &mut Server<F>,
     asker: &Asker<'_>,
     node: u64,
     flags: OpenFlags,
 ) -> Result<Opened, Errno>
-    ensures { Does F.did server.old server.new (messages.open_node (login_by asker.now) node flags) result }
+    ensures { Does F.did server.old server.new (messages.open_node (login_by asker.now) asker.now.sender.user node flags) result }
 {
-    let handle = server.vacant()?;
+    let user = asker.sender.user;
+    let handle = server.vacant(user)?;
     let path = server.path(node)?;
     open_as(server, asker, path.as_slice(), asked(flags))?;
-    keep_open(server, handle, node, path.as_slice(), owned(flags))
+    keep_open(server, handle, user, node, path.as_slice(), owned(flags))
 }

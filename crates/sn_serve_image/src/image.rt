@@ -36,6 +36,7 @@ fn serve_mounted<D: Device + Drop, H: Host, R: Read, W: Write>(
 ) -> Served<D>
     requires nodes { table_of new_connection.nodes ≡ root_alone }
     requires files { new_connection.files ≡ replicate 4032 None }
+    requires listings { new_connection.listings ≡ replicate 4032 None }
     requires frames { new_connection.frames ≡ [] }
     ensures { IsServedFrom D.tells_bytes H.tells checker times result.times mounted host.old host.new (R.remaining input.old) (R.remaining input.new) (W.contents output.old) (W.contents output.new) result.outcome (D.disk result.device) (D.status result.device) }
 {

@@ -1,6 +1,5 @@
 -- What a server keeps of a mount whose messages weren't answered yet.
-use Rattle.std.specs.Prelude.{◌≡◌, ℕ, None, replicate}
-use Rattle.sn_listings.specs.Told.{directory_at}
+use Rattle.std.specs.Prelude.{◌≡◌, None, replicate}
 use Rattle.sn_node_table.specs.Tables.{root_alone}
 use Rattle.sn_node_table.specs.Told.{table_of}
 use Rattle.sn_plan.specs.declared.checker.Checker.{Checker}
@@ -12,6 +11,6 @@ pub record IsNew {F : Type 0} (first : Service F) (file_system : F) (checker : C
   pub served : first.server.file_system ≡ file_system
   pub nodes : table_of first.server.nodes ≡ root_alone
   pub files : first.server.files ≡ replicate 4032 None
-  pub listings : (handle : ℕ) → directory_at first.listings handle ≡ None
+  pub listings : first.listings ≡ replicate 4032 None
   pub checks : first.checker ≡ checker
   pub dates : first.times ≡ times

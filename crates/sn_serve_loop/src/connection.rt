@@ -1,5 +1,5 @@
 //! What answers the messages of a mount.
-ghost use Rattle.std.specs.Prelude.{◌≡◌, ℕ, [], None, IfOk, replicate};
+ghost use Rattle.std.specs.Prelude.{◌≡◌, [], None, IfOk, replicate};
 ghost use Rattle.sn_node_table.specs.Tables.{root_alone};
 ghost use Rattle.sn_node_table.specs.Told.{table_of};
 ghost use Rattle.sn_serve_loop.specs.Connections.{IsNew};
@@ -25,6 +25,7 @@ pub struct Connection<F> {
 pub struct NewConnection {
     pub nodes: NodeTable,
     pub files: OpenFiles,
+    pub listings: Listings,
     pub frames: Frames,
 }
 
@@ -33,11 +34,13 @@ impl NewConnection {
     pub fn new(alloc: Global) -> Result<NewConnection, AllocError>
         ensures nodes { IfOk result (λ connection. table_of connection.nodes ≡ root_alone) }
         ensures files { IfOk result (λ connection. connection.files ≡ replicate 4032 None) }
+        ensures listings { IfOk result (λ connection. connection.listings ≡ replicate 4032 None) }
         ensures frames { IfOk result (λ connection. connection.frames ≡ []) }
     {
         Ok(NewConnection {
             nodes: NodeTable::new(alloc)?,
             files: OpenFiles::new(alloc)?,
+            listings: Listings::new(alloc)?,
             frames: Frames::new(alloc)?,
         })
     }
@@ -52,12 +55,14 @@ impl NewConnection {
     ) -> Connection<F>
         requires nodes { table_of self.nodes ≡ root_alone }
         requires files { self.files ≡ replicate 4032 None }
+        requires listings { self.listings ≡ replicate 4032 None }
         ensures new { IsNew result.service file_system checker times }
         ensures frames { result.frames ≡ self.frames }
     {
         let NewConnection {
             nodes,
             files,
+            listings,
             frames,
         } = self;
         Connection {
@@ -69,7 +74,7 @@ impl NewConnection {
                     files,
                     alloc,
                 },
-                listings: Listings::new(alloc),
+                listings,
                 checker,
                 times,
             },

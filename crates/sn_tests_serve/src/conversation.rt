@@ -26,7 +26,7 @@ pub(crate) struct Senders<'a> {
 #[derive(Clone, Copy)]
 pub(crate) struct Exchange<'a> {
     pub asked: &'a str,
-    /// `-` where it has none.
+    /// `-` where it has none, and `*` where it isn't compared.
     pub wanted: &'a str,
 }
 
@@ -91,6 +91,15 @@ fn answer_last<'a>(exchanges: &mut [Exchange<'a>], wanted: &'a str) -> Result<()
     Ok(())
 }
 
+/// The last message so many times more.
+fn repeat_last(exchanges: &mut Vec<Exchange<'_>>, times: &str) -> Result<()> {
+    let asked = exchanges.last().context("nothing to repeat")?.asked;
+    for _ in 0..number_of(times)? {
+        exchanges.push(Exchange { asked, wanted: "*" })?;
+    }
+    Ok(())
+}
+
 fn take_line<'a>(exchanges: &mut Vec<Exchange<'a>>, line: &'a str) -> Result<()> {
     let (mark, rest) = line
         .split_once(' ')
@@ -104,6 +113,7 @@ fn take_line<'a>(exchanges: &mut Vec<Exchange<'a>>, line: &'a str) -> Result<()>
             Ok(())
         }
         "<" => answer_last(exchanges, rest),
+        "*" => repeat_last(exchanges, rest),
         _ => bail!("nobody says: {line}"),
     }
 }

@@ -12,6 +12,7 @@
 //! | `= END` | a serve begins, which has to end so: `clean`, `message` where what comes is no message |
 //! | `> LINE` | a message. Its number is its place in the serve, from 1 up |
 //! | `< LINE` | its reply; `-` where it has none |
+//! | `* COUNT` | the message before it so many times more, whose replies aren't compared |
 //!
 //! The lines `?` stand before the first serve. After each serve the image has to be sound.
 //!
@@ -33,12 +34,14 @@ use anyhow::{Context, Result};
 use sn_testing_tables::Report;
 use std::{env, fs};
 
-const CONVERSATIONS: [&str; 15] = [
+const CONVERSATIONS: [&str; 17] = [
     "conversations/names.txt",
     "conversations/files.txt",
     "conversations/directories.txt",
     "conversations/rights.txt",
     "conversations/mapped.txt",
+    "conversations/handles.txt",
+    "conversations/handles_kernel.txt",
     "conversations/acls.txt",
     "conversations/snapshots.txt",
     "conversations/forgets.txt",

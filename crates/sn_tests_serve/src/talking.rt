@@ -43,9 +43,11 @@ fn compare(
     let mut unique = 0_u64;
     for exchange in exchanges {
         unique = unique.saturating_add(1);
-        let wanted = reply_of(report.alloc(), unique, exchange.wanted)?;
         let told = replies.take(unique);
-        count(report, tally, exchange.asked, told, &wanted)?;
+        if exchange.wanted != "*" {
+            let wanted = reply_of(report.alloc(), unique, exchange.wanted)?;
+            count(report, tally, exchange.asked, told, &wanted)?;
+        }
     }
     count(report, tally, "all replies", replies.bytes, &[])
 }

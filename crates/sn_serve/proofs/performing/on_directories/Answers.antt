@@ -5,7 +5,7 @@ use Rattle.sn_serve.proofs.performing.on_directories.Goals as goal
 pub returns-in-OpenDir : goal.returns-in-OpenDir
 returns-in-OpenDir g c =
     let o = c.opendir.ensures in
-    rw c.in-OpenDir.is (answers_as c.handle.ensures (opens (record { handle = o.plan.0; does = o.plan.1; opened = is_opened _ _ _ c.opendir.result o.vacant o.opened o.err })))
+    rw c.in-OpenDir.is (answers_as c.handle.ensures (opens (record { does = o.plan; opened = is_opened _ _ _ _ c.opendir.result o.opened o.err })))
 
 pub returns-in-ReadDir : goal.returns-in-ReadDir
 returns-in-ReadDir g c = rw c.in-ReadDir.is (answers_as c.listed.ensures (lists c.list.ensures))

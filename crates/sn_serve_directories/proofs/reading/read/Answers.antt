@@ -1,5 +1,5 @@
 use Rattle.std.proofs.Common.{◌∙◌, Bool, ap, sym}
-use Rattle.sn_listings.specs.Told.{directory_at}
+use Rattle.sn_listings.specs.Held.{directory_at}
 use Rattle.sn_plan.proofs.Following.{does_same, refuses}
 use Rattle.sn_serve_directories.specs.Messages.{read_if}
 use Rattle.sn_serve_directories.proofs.Steps.{due_known, none_known}

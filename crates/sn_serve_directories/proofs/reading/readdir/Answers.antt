@@ -9,7 +9,7 @@ pub returns-in_err-read-clause-read : goal.returns-in_err-read-clause-read
 returns-in_err-read-clause-read g c = (
   Err c.in_err-read.field-0.0,
   does_as (ap (λ r. images_read (lists_in r)) c.in_err-read.was) c.read.ensures,
-  λ other. refl,
+  refl,
   failed_so c.from_residual.result c.in_err-read.field-0.0 c.from_residual.ensures.1,
 )
 

@@ -43,4 +43,4 @@ returns g c = and_then _ c.vacant.ensures.does c.in_ok-handle.was
     (and_then _ (does_same (ap finds c.path.ensures) c.find.ensures) c.in_ok-found.was
     (and_then _ (does_same (ap (λ (f : CallFlags). makes_file (login_by c.args.asker.now) c.in_ok-child.child f c.args.mode c.args.umask) c.making.ensures) c.make_file.ensures) c.in_ok-make_file.was
     (and_then _ (does_same (ap (gives_new (maker_by c.args.asker.now) c.args.parent c.in_ok-child.child) c.is_some-was_there.ensures) c.give_new.ensures) c.in_ok-give_new.was
-    (does_same (ap₂ (opens_made c.in_ok-handle.handle c.args.parent c.in_ok-child.child) c.is_some-was_there.ensures c.owned.ensures) c.open_made.ensures)))))
+    (does_same (ap₂ (opens_made c.in_ok-handle.handle c.args.asker.now.sender.user c.args.parent c.in_ok-child.child) c.is_some-was_there.ensures c.owned.ensures) c.open_made.ensures)))))

@@ -16,4 +16,4 @@ pub returns : goal.returns
 unfolding opens_made
 returns g c = takes_it (and_then _ c.entry_at.ensures c.in_ok-entry.was
     (after _ (does_same (ap₂ calls c.session_of.ensures (c.open_call.ensures ∙ ap (λ (w : List ℕ). open_call w c.args.flags) (is_held c.path.result.now c.word.result c.in_ok-path.path c.word.ensures.word c.in_ok-path.was ∙ c.path.ensures))) c.call-reply.ensures)
-    (does_same (ap (keeps_made c.args.handle c.in_ok-entry.entry) c.number.ensures) c.keep_made.ensures)))
+    (does_same (ap (keeps_made c.args.handle c.args.user c.in_ok-entry.entry) c.number.ensures) c.keep_made.ensures)))

@@ -25,4 +25,4 @@ unfolding open_node
 returns g c = and_then _ c.vacant.ensures.does c.in_ok-handle.was
     (after _ (written c.path.ensures c.in_ok-path.was)
     (and_then _ (does_same (ap₂ (opens_as (login_by c.args.asker.now)) c.as_slice.ensures.value c.asked.ensures) c.open_as.ensures) c.in_ok-open_as.was
-    (does_same (ap₂ (keeps_open c.in_ok-handle.handle c.args.node) c.as_slice-2.ensures.value c.owned.ensures) c.keep_open.ensures)))
+    (does_same (ap₂ (keeps_open c.in_ok-handle.handle c.args.asker.now.sender.user c.args.node) c.as_slice-2.ensures.value c.owned.ensures) c.keep_open.ensures)))
