@@ -128,9 +128,12 @@ def pattern(term):
 
 
 def reported():
-    """The lines of imports: those that the program is compared with, and that of a directory, which only the source has."""
+    """The lines of imports: those that the program is compared with, and that of a directory, which only the source has; and those of
+    exports, by their source."""
     found = re.findall(r"snapfs: (entry [^,\n]*)", (PROGRAM / "commands.txt").read_text())
     source = (TOP / "crates/sn_import_image/src/report.rt").read_text()
+    left_out = (TOP / "crates/sn_program/src/left_out.rt").read_text()
+    found += [f"{words}PATH" for words in re.findall(r'b"snapfs: (left out, [^"]*)"', left_out)] + [f"1{words}" for words in re.findall(r'b"( left out)\\n"', left_out)]
     return found + [f"{word}PATH: REASON" for word in re.findall(r'"snapfs: (directory )"', source)]
 
 

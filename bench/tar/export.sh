@@ -80,6 +80,42 @@ status=0
 [ "$status $(head -n 1 err)" = "1 snapfs: file" ]
 echo "refused paths and a full output: as told"
 
+# what has a path of over 1,023 bytes is left out, and told; the archive has its end
+{
+    echo "0 login 0 0 -"
+    echo "0 mkdir /moved 0755"
+    file /moved/kept1234567 "kept"
+    file /moved/left12345678 "left"
+    echo "0 mkdir /moved/below1234567 0755"
+    echo "0 mkdir /moved/below1234567/low 0755"
+    path=
+    for _ in 1 2 3 4 5; do
+        path=$path/$long
+        echo "0 mkdir $path 0755"
+    done
+    echo "0 rename /moved $path/moved"
+    file /z "after it"
+} >deep.snap
+"$program" mkfs deep.img 4096 >/dev/null
+"$program" run deep.img deep.snap | awk '$1 != "ok" { print "refused: " $0; exit 1 }'
+status=0
+"$program" export deep.img / >deep.tar 2>err || status=$?
+{
+    for name in below1234567 left12345678; do printf 'snapfs: left out, path too long: %s\n' "$(printf '%s/moved/%s' "$path" "$name" | head -c 1023)"; done
+    echo "snapfs: 2 left out"
+} | cmp - err
+[ "$status" = 1 ]
+LC_ALL=C tar -tf deep.tar >listed
+{
+    echo ./
+    below=.
+    for _ in 1 2 3 4 5; do below=$below/$long && echo "$below/"; done
+    printf '%s/moved/\n%s/moved/kept1234567\n./z\n' "$below" "$below"
+} | cmp - listed
+"$program" export deep.img /z >z.tar
+"$program" check deep.img | grep -q '^clean'
+echo "paths of over 1,023 bytes: left out and told, and nothing else"
+
 if [ "$(id -u)" = 0 ] && command -v getfacl >/dev/null; then
     mkdir owned && tar --acls -xpf one.tar -C owned --numeric-owner
     (cd owned && getfacl -n -c -p shared) | grep -q '^user:1002:r-x'

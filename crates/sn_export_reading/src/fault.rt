@@ -4,7 +4,7 @@ use std::io;
 /// Why a tree isn't written, or not all of it.
 #[derive(Clone, Copy, Debug)]
 pub enum ExportFault {
-    /// Nothing lies at the path, or it is misspelt, is the directory of snapshots, or has more bytes than a call takes.
+    /// Nothing lies at the path of the tree, or it is misspelt, is the directory of snapshots, or has more bytes than a call takes.
     Path,
     /// Memory was refused, to the export or to a call.
     Memory,

@@ -22,4 +22,5 @@ mod reading;
 pub use fault::ExportFault;
 pub use reading::{
     Calls, close, directory_acls, file_acls, log_in, names_of, open, read, status_of,
+    status_of_name,
 };

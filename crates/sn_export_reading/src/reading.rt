@@ -83,7 +83,7 @@ fn fault_of(reply: &Reply) -> ExportFault
 /// the call was refused for another reason, as where the session is open already, or answered by the reply of another call. So it is of each
 /// call here, but that [`status_of`] tells `Path` where it was refused for another reason.
 ///
-/// Proved, also of `status_of`, `names_of`, `file_acls`, `directory_acls`, `open`, `read` and `close`: Over a world that a mount may find, what
+/// Proved, also of `status_of`, `status_of_name`, `names_of`, `file_acls`, `directory_acls`, `open`, `read` and `close`: Over a world that a mount may find, what
 /// is read is what the path leads user 0 to in its trees, and these are the same after it. User 0 has a file open from `open` to `close`, and
 /// none before and after them.
 /// Proved, also of the same: `Stopped` is told only where the last call was refused since the device failed or the mount has stopped, and `Path`
@@ -125,6 +125,25 @@ pub fn status_of<C: Calls>(
     match calls.call(SESSION, &stat) {
         Reply::Status(status) => Ok(status),
         reply => Err(fault_by(&reply, ExportFault::Path)),
+    }
+}
+
+/// The same of a path that was found before, or of a name in a directory that was listed. The faults are those of [`log_in`].
+pub fn status_of_name<C: Calls>(
+    alloc: Global,
+    calls: &mut C,
+    path: &[u8],
+) -> Result<FileStatus, ExportFault>
+    ensures status { (trees : Trees) → Reads trees (C.serves calls.old) → IfOk result (λ status. HasStatus trees path.now status × Reads trees (C.serves calls.new)) }
+    ensures told { Goes (C.last calls.old) → Tells (C.last calls.new) result }
+    ensures path { IfErr result (λ fault. is_of_path fault ≡ false) }
+{
+    let stat = Call::Stat {
+        path: Word::new(alloc, path)?,
+    };
+    match calls.call(SESSION, &stat) {
+        Reply::Status(status) => Ok(status),
+        reply => Err(fault_of(&reply)),
     }
 }
 

@@ -31,10 +31,10 @@ use Rattle.sn_model.specs.Tests.{full, prefix, there}
 use Rattle.sn_model.specs.Tree.{Node, Tree, attributes_of, link_to}
 use Rattle.sn_model.specs.World.{Trees, tree_in, viewed_if, viewed_trees}
 use Rattle.sn_model.proofs.DecisionLemmas.{seen_node, walked_ok}
-use Rattle.sn_export.specs.Archives.{Visit}
 use Rattle.sn_export_reading.specs.Serving.{HasStatus, LeadsTo, reader}
 use Rattle.sn_export_writing.specs.Visits.{IsAt}
-use Rattle.sn_export_walk.specs.Visiting.{IsHere, image_below}
+use Rattle.sn_export_walk.specs.Meeting.{Met, image_below}
+use Rattle.sn_export_walk.specs.Visiting.{IsHere}
 use Rattle.sn_export_walk.specs.declared.levels.Paths.{Paths}
 use Rattle.sn_export_reading.proofs.Leads.{path_ok, same_names}
 
@@ -306,12 +306,12 @@ found_node trees path found home tree number leads at is =
     ap (λ (t : Option Tree). (viewed_if t).node number) (sym is) ∙ ap (attributes_at (viewed_trees trees)) (sym at) ∙ f.last.seen in
     seen_node tree number (finite.get tree.nodes number) found.attributes seen
 
-pub is_at : (trees : Trees) (home : Home) (tree : Tree) (paths : Paths) (visit : Visit) (status : FileStatus) → IsHere trees home tree paths visit → HasStatus trees paths.image.items status
-    → (found : Found) × (node : Node) × IsAt trees (record { home = home; tree = tree; visit = visit; found = found; node = node }) paths.image.items paths.told.items status
-is_at trees home tree paths visit status here has =
+pub is_at : (trees : Trees) (home : Home) (tree : Tree) (paths : Paths) (met : Met) (status : FileStatus) → IsHere trees home tree paths met → HasStatus trees paths.image.items status
+    → (found : Found) × (node : Node) × IsAt trees (record { home = home; tree = tree; visit = met.visit; found = found; node = node }) paths.image.items paths.told.items status
+is_at trees home tree paths met status here has =
     let found = has.0 in
     let at = here.leads found has.1 in
-    let n = found_node trees paths.image.items found home tree visit.number has.1 at here.tree_is in (
+    let n = found_node trees paths.image.items found home tree met.visit.number has.1 at here.tree_is in (
       found,
       n.0,
       record {

@@ -3,7 +3,10 @@ pub mod Order
 pub mod Names
 pub mod Stack
 pub mod Below
+pub mod Told
+pub mod Leaving
 pub mod Steps
 pub mod Placed
 pub mod Places
 pub mod Archived
+pub mod Without

@@ -1,4 +1,4 @@
--- The names of a directory, and the visits to them.
+-- The names of a directory, as they are met.
 use Rattle.std.proofs.Common.{◌≡◌, ℕ, zero, suc, ◌==◌, Bool, true, false, cond, T, ◌&&◌, Option, Some, None, List, [], ◌∷◌, map, filter, drop, refl, sym, ap, subst, ◌∙◌, eqb-true}
 use Rattle.std.specs.Prelude.{slice_get, IsSomeAnd}
 use Rattle.std.specs.List.{AllByRecursion}
@@ -15,7 +15,7 @@ use Rattle.sn_model.specs.NameTree.{HasKind, IsTree}
 use Rattle.sn_model.specs.Seen.{names_of}
 use Rattle.sn_model.specs.Tree.{Node, Tree, link_cmp, link_to}
 use Rattle.sn_model.proofs.LinkLemmas.{links_total}
-use Rattle.sn_export.specs.Archives.{Visit, below, visits_in}
+use Rattle.sn_export_walk.specs.Meeting.{Met, met_in, names_below}
 
 -- ---- the entries of a map are found in it
 
@@ -91,15 +91,14 @@ all_links tree =
 pub names_in_directory : (tree : Tree) (directory : ℕ) → AllByRecursion (IsNameIn tree directory) (links_in tree directory)
 names_in_directory tree directory = named_in tree directory (finite.entries tree.links) (all_links tree)
 
--- ---- the visits to them
+-- ---- what is met in it
 
-abbrev visit_to : List ℕ → LinkEntry → Visit
-visit_to path e = record { path = below path e.0.name; number = e.1 }
+abbrev met_to : Met → LinkEntry → Met
+met_to met e = met_in met (e.0.name, e.1)
 
-mapped_twice : (path : List ℕ) (es : List LinkEntry)
-    → map (λ (child : List ℕ × ℕ). record { path = below path child.0; number = child.1 }) (map (λ (e : LinkEntry). (e.0.name, e.1)) es) ≡ map (visit_to path) es
-mapped_twice path [] = refl
-mapped_twice path (e ∷ es) = ap (λ (vs : List Visit). visit_to path e ∷ vs) (mapped_twice path es)
+mapped_twice : (met : Met) (es : List LinkEntry) → map (met_in met) (map (λ (e : LinkEntry). (e.0.name, e.1)) es) ≡ map (met_to met) es
+mapped_twice met [] = refl
+mapped_twice met (e ∷ es) = ap (λ (ms : List Met). met_to met e ∷ ms) (mapped_twice met es)
 
 nth_none : {A B : Type 0} (f : A → List ℕ) (g : A → B) (es : List A) (n : ℕ) → slice_get (map f es) n ≡ None → drop n (map g es) ≡ []
 nth_none f g [] zero e = refl
@@ -114,35 +113,34 @@ nth_some P f g (x ∷ es) zero name are e = (x, are.0, (let same : f x ≡ name 
 nth_some P f g (x ∷ es) (suc n) name are e = nth_some P f g es n name are.1 e
 
 -- a directory of which so many names were met has none left
-pub no_name_left : (tree : Tree) (directory : ℕ) (path : List ℕ) (met : ℕ) → slice_get (names_of tree directory) met ≡ None → drop met (visits_in tree (record { path = path; number = directory })) ≡ []
-no_name_left tree directory path met e =
-    ap (drop met) (mapped_twice path (links_in tree directory)) ∙ nth_none (λ (e : LinkEntry). e.0.name) (visit_to path) (links_in tree directory) met e
+pub no_name_left : (tree : Tree) (met : Met) (count : ℕ) → slice_get (names_of tree met.visit.number) count ≡ None → drop count (names_below tree met) ≡ []
+no_name_left tree met count e = ap (drop count) (mapped_twice met (links_in tree met.visit.number)) ∙ nth_none (λ (e : LinkEntry). e.0.name) (met_to met) (links_in tree met.visit.number) count e
 
 -- or the next one
-pub name_left : (tree : Tree) (directory : ℕ) (path : List ℕ) (met : ℕ) (name : List ℕ) → slice_get (names_of tree directory) met ≡ Some name
-    → (number : ℕ) × (finite.get tree.links (link_to directory name) ≡ Some number)
-    × (drop met (visits_in tree (record { path = path; number = directory })) ≡ record { path = below path name; number = number } ∷ drop (suc met) (visits_in tree (record { path = path; number = directory })))
-name_left tree directory path met name e =
-    let x = nth_some (IsNameIn tree directory) (λ (e : LinkEntry). e.0.name) (visit_to path) (links_in tree directory) met name (names_in_directory tree directory) e in
-    let all = mapped_twice path (links_in tree directory) in
-    let named : visit_to path x.0 ≡ record { path = below path name; number = x.0.1 } = ap (λ (n : List ℕ). record { path = below path n; number = x.0.1 }) x.2 in (
+pub name_left : (tree : Tree) (met : Met) (count : ℕ) (name : List ℕ) → slice_get (names_of tree met.visit.number) count ≡ Some name
+    → (number : ℕ) × (finite.get tree.links (link_to met.visit.number name) ≡ Some number) × (drop count (names_below tree met) ≡ met_in met (name, number) ∷ drop (suc count) (names_below tree met))
+name_left tree met count name e =
+    let directory = met.visit.number in
+    let x = nth_some (IsNameIn tree directory) (λ (e : LinkEntry). e.0.name) (met_to met) (links_in tree directory) count name (names_in_directory tree directory) e in
+    let all = mapped_twice met (links_in tree directory) in
+    let named : met_to met x.0 ≡ met_in met (name, x.0.1) = ap (λ (n : List ℕ). met_in met (n, x.0.1)) x.2 in (
       x.0.1,
       ap (λ (n : List ℕ). finite.get tree.links (link_to directory n)) (sym x.2) ∙ x.1,
-      ap (drop met) all ∙ x.3 ∙ ap (λ (v : Visit). v ∷ drop (suc met) (map (visit_to path) (links_in tree directory))) named ∙ ap (λ (vs : List Visit). record { path = below path name; number = x.0.1 } ∷ drop (suc met) vs) (sym all),
+      ap (drop count) all ∙ x.3 ∙ ap (λ (m : Met). m ∷ drop (suc count) (map (met_to met) (links_in tree directory))) named ∙ ap (λ (ms : List Met). met_in met (name, x.0.1) ∷ drop (suc count) ms) (sym all),
     )
 
 -- a file has no names in it
-pub none_in_file : (limits : Limits) (tree : Tree) (visit : Visit) (node : Node) → IsTree limits tree → finite.get tree.nodes visit.number ≡ Some node → node.kind ≡ File → visits_in tree visit ≡ []
-none_in_file limits tree visit node whole there is =
-    mapped_twice visit.path (links_in tree visit.number) ∙ told (links_in tree visit.number) (names_in_directory tree visit.number)
+pub none_in_file : (limits : Limits) (tree : Tree) (met : Met) (node : Node) → IsTree limits tree → finite.get tree.nodes met.visit.number ≡ Some node → node.kind ≡ File → names_below tree met ≡ []
+none_in_file limits tree met node whole there is =
+    mapped_twice met (links_in tree met.visit.number) ∙ told (links_in tree met.visit.number) (names_in_directory tree met.visit.number)
   where
-    never : (e : LinkEntry) → IsNameIn tree visit.number e → ⊥
+    never : (e : LinkEntry) → IsNameIn tree met.visit.number e → ⊥
     never e named =
-        let kind : HasKind tree visit.number Directory = whole.hierarchy.held (link_to visit.number e.0.name) e.1 named in
+        let kind : HasKind tree met.visit.number Directory = whole.hierarchy.held (link_to met.visit.number e.0.name) e.1 named in
         let is_directory : node.kind ≡ Directory = subst (λ (o : Option Node). IsSomeAnd o (λ n. n.kind ≡ Directory)) there kind in
         let both : File ≡ Directory = sym is ∙ is_directory in
         cc
 
-    told : (es : List LinkEntry) → AllByRecursion (IsNameIn tree visit.number) es → map (visit_to visit.path) es ≡ []
+    told : (es : List LinkEntry) → AllByRecursion (IsNameIn tree met.visit.number) es → map (met_to met) es ≡ []
     told [] are = refl
     told (e ∷ es) are = absurd (never e are.0)

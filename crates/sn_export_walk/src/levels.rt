@@ -1,13 +1,14 @@
 //! Where a walk is.
 ghost use Rattle.std.specs.Prelude.{◌≡◌, ◌++◌, true, IfErr, IfOk, List, OnOk};
-ghost use Rattle.sn_export.specs.Archives.{Visit, below};
+ghost use Rattle.sn_export.specs.Archives.{below};
 ghost use Rattle.sn_limits.specs.Names.{is_name};
 ghost use Rattle.sn_model.specs.Tree.{Tree};
 ghost use Rattle.sn_model.specs.World.{Trees};
 ghost use Rattle.sn_walk.specs.declared.object.Home.{Home};
 ghost use Rattle.sn_export_reading.specs.Faults.{is_own};
 ghost use Rattle.sn_export_reading.specs.Serving.{AreFound};
-ghost use Rattle.sn_export_walk.specs.Visiting.{IsLevel, IsNextIn, image_below};
+ghost use Rattle.sn_export_walk.specs.Meeting.{Met, image_below};
+ghost use Rattle.sn_export_walk.specs.Visiting.{IsLevel, IsNextIn};
 ghost use Rattle.sn_export_reading.specs.declared.fault.ExportFault.TheVariants.{Memory as no_memory};
 
 use sn_export_reading::ExportFault;
@@ -87,7 +88,7 @@ pub struct Level {
 impl Level {
     /// The paths of its next name. `None` where all were met.
     pub fn enter_next(&mut self, alloc: Global) -> Result<Option<Paths>, ExportFault>
-        ensures next { (trees : Trees) (home : Home) (tree : Tree) (own : List Visit) → AreFound trees → IsLevel trees home tree self.old own
+        ensures next { (trees : Trees) (home : Home) (tree : Tree) (own : List Met) → AreFound trees → IsLevel trees home tree self.old own
             → IfOk result (λ next. IsNextIn trees home tree next own self.new) }
         ensures fault { IfErr result (λ fault. is_own fault ≡ true) }
     {

@@ -1,4 +1,5 @@
 pub mod AnswerLemmas
 pub mod CopyLemmas
+pub mod LeftOutLemmas
 pub mod ReaderLemmas
 pub mod ServeLemmas

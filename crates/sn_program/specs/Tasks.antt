@@ -113,6 +113,12 @@ IsImported Done = Unit {0}
 IsImported InPart = Unit {0}
 IsImported came = ⊥
 
+-- an archive was written, of all or in part
+abbrev pub IsExported : Ending → Type 0
+IsExported Done = Unit {0}
+IsExported InPart = Unit {0}
+IsExported came = ⊥
+
 -- who checks what messages may do, by the words of the command
 abbrev pub checker_of : CheckerWord → Bool → Checker
 checker_of by.Program maps_all = checker.Server maps_all
@@ -143,7 +149,7 @@ Leaves (task.Run image script) came old new = (came ≡ Done) × SaysRun old new
 Leaves (task.Mkfs image blocks) came old new = (came ≡ Done) × Says (answer.Done ∷ []) old new
 Leaves (task.StopAt cut how image script out) came old new = ComesOfCopy how came old new
 Leaves (task.Check image) came old new = SaysVerdict came old new
-Leaves (task.Export image path) came old new = (came ≡ Done) × WritesStream old new
+Leaves (task.Export image path) came old new = IsExported came × WritesStream old new
 Leaves (task.Import image path) came old new = IsImported came × (new ≡ old)
 Leaves (task.Serve image asked) came old new = (came ≡ Done) × ServesMount asked (Ok tt) old new
 

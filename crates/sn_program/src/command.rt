@@ -12,7 +12,7 @@ ghost use Rattle.sn_model.specs.declared.reply.Reply.TheVariants as answer_of;
 ghost use Rattle.sn_program.specs.Answers.{AreEventsOf};
 ghost use Rattle.sn_program.specs.Fault.{IsOfFile, fault_in, outcome_of};
 ghost use Rattle.sn_program.specs.Fault.{status_of as exit_of};
-ghost use Rattle.sn_program.specs.Tasks.{AsksToStop, Begins, BeginsOfCopy, BeginsToSay, BeginsToSayRun, BeginsToSayVerdict, HasBegun, IsDamaged, IsDone, IsStop, Leaves, LeavesOfCopy, Says, SaysRun, SaysVerdict, came_of};
+ghost use Rattle.sn_program.specs.Tasks.{AsksToStop, Begins, BeginsOfCopy, BeginsToSay, BeginsToSayRun, BeginsToSayVerdict, HasBegun, IsDamaged, IsDone, IsExported, IsStop, Leaves, LeavesOfCopy, Says, SaysRun, SaysVerdict, came_of};
 ghost use Rattle.sn_program.specs.declared.fault.ProgramFault.{ProgramFault as Why};
 ghost use Rattle.sn_program.specs.declared.fault.ProgramFault.TheVariants as fault;
 ghost use Rattle.sn_program.specs.declared.ending.Ending.TheVariants as ended;
@@ -239,13 +239,17 @@ fn export_on<
     F: FileExt + OpenFile + LockFile + Read + Drop,
     R: Files<File = F> + AllocGlobal,
     W: Write,
->(rt: &R, image: &str, path: &str, out: &mut W) -> Result<(), ProgramFault>
-    ensures done { OnOk result (WritesStream (W.contents out.old) (W.contents out.new)) }
-    ensures front { OnErr result (BeginsStream (W.contents out.old) (W.contents out.new)) }
-    ensures words { IfErr result (λ why. why ≢ fault.Usage) }
+    E: Write + Drop,
+>(rt: &R, image: &str, path: &str, out: &mut W, err: E) -> Came<E>
+    ensures done { IfOk result.done (λ came. IsExported came × WritesStream (W.contents out.old) (W.contents out.new)) }
+    ensures quiet { IfOk result.done (λ came. (came ≡ ended.InPart) ⊎ (result.err ≡ err)) }
+    ensures front { OnErr result.done (BeginsStream (W.contents out.old) (W.contents out.new)) }
+    ensures words { IfErr result.done (λ why. why ≢ fault.Usage) }
 {
-    let opened = FileDevice::open(rt.alloc(), rt, image);
-    export_from(rt.alloc(), on_file(Which::Image, opened)?, path, out)
+    match on_file(Which::Image, FileDevice::open(rt.alloc(), rt, image)) {
+        Ok(device) => export_from(rt.alloc(), device, path, out, err),
+        Err(fault) => failed(fault, err),
+    }
 }
 
 /// Of what was done nothing is reported.
@@ -260,7 +264,7 @@ fn quietly<E: Drop>(outcome: Result<(), ProgramFault>, err: E) -> Came<E>
     }
 }
 
-/// Does what a task asks for. Only an import writes to standard error.
+/// Does what a task asks for. Only an import and an export write to standard error.
 fn execute<
     F: FileExt + OpenFile + LockFile + Read + Drop,
     R: Files<File = F> + AllocGlobal + Clock,
@@ -292,7 +296,7 @@ fn execute<
             done: check_image(rt, image, out, watch),
             err,
         },
-        Task::Export { image, path } => quietly(export_on(rt, image, path, out), err),
+        Task::Export { image, path } => export_on(rt, image, path, out, err),
         Task::Import { image, path } => import_on(rt, image, path, input, err),
         Task::Serve { image, checker } => quietly(serve_on(rt, image, checker, input, out), err),
     }
@@ -362,8 +366,8 @@ pub fn refuse<E: Write, P: Write>(fault: ProgramFault, err: &mut E, person: &mut
 
 /// Does what the words ask for, and gives the exit status, and standard error back. The status is 0 where all of it was done, 3 where an
 /// image was checked and is damaged, 2 for words that are no command, else 1. A fault is reported by a line on standard error, also that of
-/// a run which was cut short and whose remains were saved, where the status is 0. What an import doesn't make is reported there too, with
-/// status 1. An archive and the messages of a mount are read from `input`. `person` is shown which file failed and why, what a damage means, how far a long run has
+/// a run which was cut short and whose remains were saved, where the status is 0. What an import doesn't make, and what an export leaves out, is
+/// reported there too, with status 1. An archive and the messages of a mount are read from `input`. `person` is shown which file failed and why, what a damage means, how far a long run has
 /// come, and which commands there are where the words are none.
 ///
 /// Proved: Status 0 comes only where the words ask for a task and it is done: `mkfs` writes one `ok`, `check` a `clean`,
@@ -373,7 +377,8 @@ pub fn refuse<E: Write, P: Write>(fault: ProgramFault, err: &mut E, person: &mut
 /// status 2 nothing is written, with status 1 nothing or the front of what the words may be answered.
 /// Proved: Status 3 comes only where the words ask for a check and one was made: one line with a fault is written then, and
 /// nothing on standard error.
-/// Proved: `export` writes a stream of members and its end, or with status 1 nothing or the front of one.
+/// Proved: `export` writes a stream of members and its end, or with status 1 nothing or the front of one. With status 0 it writes nothing on
+/// standard error: then nothing was left out.
 /// Proved: `import` writes nothing on standard output, and with status 0 nothing on standard error: then all entries were made.
 /// Proved: `serve` writes replies to messages, each by its plan, for which the kernel has checked exactly where the words say so, and nothing where there
 /// was no mount.

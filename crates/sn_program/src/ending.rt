@@ -9,7 +9,7 @@ use sn_core::Damage;
 pub enum Ending {
     /// All that was asked for.
     Done,
-    /// An archive was imported, and some of its entries weren't made, which is reported.
+    /// An archive was imported, and some of its entries weren't made; or one was written, and some paths were left out. That is reported.
     InPart,
     /// A run was cut short, and ended with a fault, which is reported.
     Told(ProgramFault),
@@ -19,9 +19,9 @@ pub enum Ending {
 
 /// What came of a task, and standard error after it.
 #[derive(Drop)]
-pub(crate) struct Came<E: Drop> {
-    pub(crate) done: Result<Ending, ProgramFault>,
-    pub(crate) err: E,
+pub struct Came<E: Drop> {
+    pub done: Result<Ending, ProgramFault>,
+    pub err: E,
 }
 
 /// A task was done, and nothing reported yet.

@@ -42,8 +42,7 @@ pub enum ProgramFault {
     File { which: Which, error: io::Error },
     #[error("memory")]
     Memory,
-    /// Nothing lies at the path of the tree that is to be written, or a path in it has more bytes than a call takes; or no directory
-    /// of the live tree lies at the path that an archive goes to.
+    /// Nothing lies at the path of the tree that is to be written, or no directory of the live tree at the path that an archive goes to.
     #[error("path")]
     Path,
     /// There was no mount.

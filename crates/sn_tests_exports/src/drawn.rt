@@ -1,6 +1,7 @@
 //! Drawn trees, and snapshots of them.
 
 use crate::drawing::calls_of;
+use crate::told::Told;
 use crate::walking::Walk;
 use anyhow::{Result, ensure};
 use sn_device::MemDevice;
@@ -54,7 +55,7 @@ fn draw_on(alloc: Global, disk: &mut Disk, number: u32) -> Result<Drawn> {
     })
 }
 
-/// The archive of what lies at a path, and how the export ended. So many calls of the device succeed before one fails, where that
+/// The archive of what lies at a path, of which nothing may be left out, and how the export ended. So many calls of the device succeed before one fails, where that
 /// is asked for.
 pub fn exported(
     alloc: Global,
@@ -67,7 +68,15 @@ pub fn exported(
         device.fail_at(calls.saturating_add(1));
     }
     let mut out = Vec::new(alloc);
-    let Exported { outcome, .. } = export_image(alloc, device, path.as_bytes(), &mut out);
+    let mut told = Told::new(alloc);
+    let Exported { outcome, .. } = export_image(
+        alloc,
+        device,
+        path.as_bytes(),
+        &mut out,
+        &mut told,
+    );
+    ensure!(told.text()?.is_empty(), "paths that are left out");
     Ok((out, outcome))
 }
 

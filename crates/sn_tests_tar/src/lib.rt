@@ -11,6 +11,7 @@ mod acls;
 mod heads;
 mod nodes;
 mod records;
+mod told;
 mod trees;
 
 use anyhow::{Context, Result};

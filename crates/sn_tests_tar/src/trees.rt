@@ -1,6 +1,7 @@
 //! Whole trees that tables have.
 
 use crate::nodes::{Node, Tree};
+use crate::told::Told;
 use anyhow::{Context, Result};
 use sn_export_walk::{ExportFault, export};
 use sn_testing_archives::push_runs;
@@ -12,7 +13,7 @@ pub fn run(report: &mut Report<'_>) -> Result<()> {
     report.table("tar/trees.txt", answer)
 }
 
-/// A case is a path, or `-` for none, and the nodes of the tree.
+/// A case is a path, or `-` for none, and the nodes of the tree. After the stream are the paths that are left out.
 fn answer(alloc: Global, case: Case<'_>) -> Result<String> {
     let mut words = case.text().split_ascii_whitespace();
     let path = match words.next().context("no path")? {
@@ -25,10 +26,12 @@ fn answer(alloc: Global, case: Case<'_>) -> Result<String> {
     }
     let mut tree = Tree::new(alloc, nodes);
     let mut stream = Vec::new(alloc);
-    match export(alloc, &mut tree, path.as_bytes(), &mut stream) {
+    let mut told = Told::new(alloc);
+    match export(alloc, &mut tree, path.as_bytes(), &mut stream, &mut told) {
         Ok(()) => {
             let mut text = String::new(alloc);
             push_runs(&mut text, stream.as_slice())?;
+            told.push_to(&mut text)?;
             Ok(text)
         }
         Err(fault) => Ok(String::from_str(alloc, name_of(fault))?),

@@ -3,12 +3,13 @@ use Rattle.std.specs.Prelude.{IfErr, IsErr, OnOk, Result}
 use Rattle.sn_device.specs.Disk.{reads}
 use Rattle.sn_model.specs.World.{trees_of}
 use Rattle.sn_serving.specs.Served.{Served}
-use Rattle.sn_export_walk.specs.Untold.{IsUntold}
+use Rattle.sn_export_walk.specs.Untold.{IsNoTree}
 use Rattle.sn_export_reading.specs.declared.fault.ExportFault.TheVariants as export
 use Rattle.sn_export_reading.specs.Serving.{Reads}
 use Rattle.sn_export_walk.specs.Archives.{WritesArchive}
 use Rattle.sn_export_walk.proofs.Archived as archived
 use Rattle.sn_export_walk.proofs.Ends.{begins_nothing}
+use Rattle.sn_export_walk.proofs.Told.{some_none}
 use Rattle.sn_export_image.specs.Worlds.{HasTreesOf, RunsOver}
 use Rattle.sn_export_image.specs.declared.fault.ImageFault.{ImageFault}
 use Rattle.sn_export_image.specs.declared.fault.ImageFault.TheVariants as fault
@@ -19,12 +20,12 @@ pub returns-in-Err-clause-front : goal.returns-in-Err-clause-front
 returns-in-Err-clause-front g c = begins_nothing (g.W.Write.contents c.args.out.now)
 
 pub returns-in-Err-clause-begun : goal.returns-in-Err-clause-begun
-returns-in-Err-clause-begun g c = λ told world image. archived.begins_nothing (trees_of world) c.args.path.now (g.W.Write.contents c.args.out.now)
+returns-in-Err-clause-begun g c = λ told world image. archived.begins_nothing (trees_of world) c.args.path.now (g.L.LeftOut.told c.args.left_out.now) (g.W.Write.contents c.args.out.now)
 
 pub returns-clause-archive : goal.returns-clause-archive
 returns-clause-archive g c = λ told world image.
     (let m = c.in-Ok.ensures.mounted told world image in
-    subst (λ (r : Result (Unit {0}) ImageFault). OnOk r (WritesArchive (trees_of world) c.args.path.now (g.W.Write.contents c.args.out.now) (g.W.Write.contents c.write_tree-written.new.out))) (sym c.of_end.ensures)
+    subst (λ (r : Result (Unit {0}) ImageFault). OnOk r (WritesArchive (trees_of world) c.args.path.now (g.L.LeftOut.told c.args.left_out.now) (g.L.LeftOut.told c.write_tree-written.new.left_out) (g.W.Write.contents c.args.out.now) (g.W.Write.contents c.write_tree-written.new.out))) (sym c.of_end.ensures)
     (on_written _ c.finish-end.result.0 c.write_tree-written.result (c.write_tree-written.ensures.archive world (told, m.is_in) m.found)))
 
 pub returns-clause-begun : goal.returns-clause-begun
@@ -46,7 +47,7 @@ returns-in-Err-clause-path g c = λ told world image e. (let never : fault.Mount
 pub returns-clause-path : goal.returns-clause-path
 returns-clause-path g c = λ told world image.
     (let m = c.in-Ok.ensures.mounted told world image in
-    subst (λ (r : Result (Unit {0}) ImageFault). IfErr r (λ why. why ≡ fault.Export export.Path → IsUntold (trees_of world) c.args.path.now)) (sym c.of_end.ensures)
+    subst (λ (r : Result (Unit {0}) ImageFault). IfErr r (λ why. why ≡ fault.Export export.Path → IsNoTree (trees_of world) c.args.path.now)) (sym c.of_end.ensures)
     (untold _ c.finish-end.result.0 c.write_tree-written.result (c.write_tree-written.ensures.path world (told, m.is_in) m.found)))
 
 pub returns-clause-refused : goal.returns-clause-refused
@@ -59,3 +60,6 @@ pub returns-clause-nothing : goal.returns-clause-nothing
 returns-clause-nothing g c = λ told world image none.
     (let m = c.in-Ok.ensures.mounted told world image in
     c.write_tree-written.ensures.nothing world (told, m.is_in) m.found none)
+
+pub returns-in-Err-clause-reported : goal.returns-in-Err-clause-reported
+returns-in-Err-clause-reported g c = some_none (g.L.LeftOut.told c.args.left_out.now)

@@ -8,13 +8,13 @@ pub returns-in-Ok-clause-front : goal.returns-in-Ok-clause-front
 returns-in-Ok-clause-front g c = begins_kept _ _ _ c.export.ensures.front c.flush.ensures.bytes
 
 pub returns-in-Ok-clause-begun : goal.returns-in-Ok-clause-begun
-returns-in-Ok-clause-begun g c = λ world serves found bytes is. front_kept _ _ _ _ (c.export.ensures.begun world serves found bytes is) c.flush.ensures.bytes
+returns-in-Ok-clause-begun g c = λ world serves found left_out bytes is. (let b = c.export.ensures.begun world serves found left_out bytes is in (front_kept _ _ _ _ b.0 c.flush.ensures.bytes, b.1))
 
 pub returns-in-Err-clause-front : goal.returns-in-Err-clause-front
 returns-in-Err-clause-front g c = begins_kept _ _ _ c.export.ensures.front c.flush.ensures.bytes
 
 pub returns-in-Err-clause-begun : goal.returns-in-Err-clause-begun
-returns-in-Err-clause-begun g c = λ world serves found bytes is. front_kept _ _ _ _ (c.export.ensures.begun world serves found bytes is) c.flush.ensures.bytes
+returns-in-Err-clause-begun g c = λ world serves found left_out bytes is. (let b = c.export.ensures.begun world serves found left_out bytes is in (front_kept _ _ _ _ b.0 c.flush.ensures.bytes, b.1))
 
 pub returns-in_err-export-clause-told : goal.returns-in_err-export-clause-told
 returns-in_err-export-clause-told g c = λ goes. err_tells _ _ c.from_residual.result c.from_residual.ensures.1 (c.in_err-export.ensures.told goes)

@@ -2,8 +2,8 @@ use Rattle.sn_export_reading.proofs.Faults.{err_tells, error_as, own_told, own_n
 use Rattle.std.proofs.Common.{◌∙◌, ◌++◌, ◌∷◌, List, ℕ, [], ap, inl, refl, subst, sym, inr}
 use Rattle.std.proofs.lemmas.Result.{on_ok_weaker}
 use Rattle.sn_tar.specs.declared.kind.Kind.TheVariants as kinds
-use Rattle.sn_export.specs.Archives.{visits_in}
 use Rattle.sn_export_reading.specs.Serving.{LeadsTo}
+use Rattle.sn_export_walk.specs.Meeting.{Met, names_below}
 use Rattle.sn_export_walk.specs.Visiting.{AreLevels}
 use Rattle.sn_export_writing.specs.Visits.{entry_told}
 use Rattle.sn_export_writing.specs.Writing.{BeginsHeads, WritesHeads}
@@ -45,12 +45,13 @@ returns-clause-visited g c = λ trees at is kind r pending levels.
     (let a = c.in_ok-acls.ensures.acls trees r in
     let n = c.in_ok-names.ensures.names trees a.4 in
     let level : Level = record { paths = c.args.paths; names = c.in_ok-names.names; met = 0 } in
+    let here : Met = record { image = c.args.paths.image.items; visit = at.visit } in
     let top = on_top trees at.home at.tree c.args.levels.now.items level _ pending levels (level_is trees at c.args.status.now level n.0 is (subst (λ (p : List ℕ). LeadsTo trees p n.0) c.as_slice-image.ensures.value n.1) n.2 refl) in
     let path = c.as_slice-2.ensures.value ∙ c.in_ok-told.ensures.told ∙ ap (λ (p : List ℕ). p ++ 47 ∷ []) c.as_slice.ensures.value in
     on_ok_weaker c.put_directory.result (λ w. (
       directory_written trees at c.args.paths.image.items c.args.paths.told.items c.args.status.now c.in_ok-acls.acls is a.0 (subst (λ (p : List ℕ). LeadsTo trees p a.0) c.as_slice-image.ensures.value a.1) a.2 a.3 _ _ _ _
           (subst (λ (p : List ℕ). WritesHeads (entry_told kinds.Directory p [] 0 c.args.status.now) c.in_ok-acls.acls c.args.written.now.past c.put_directory.new.past (g.W.Write.contents c.args.out.now) (g.W.Write.contents c.put_directory.new.out)) path w),
-      subst (λ (ls : List Level). AreLevels trees at.home at.tree ls (visits_in at.tree at.visit ++ pending)) (sym c.in_ok-push.ensures.items) top,
+      subst (λ (ls : List Level). AreLevels trees at.home at.tree ls (names_below at.tree here ++ pending)) (sym c.in_ok-push.ensures.items) top,
       n.3,
     )) c.put_directory.ensures.heads)
 
