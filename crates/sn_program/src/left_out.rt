@@ -25,9 +25,9 @@ fn put<E: Write>(err: &mut E, is_broken: &mut bool, text: &[u8])
 fn put_path<E: Write>(err: &mut E, is_broken: &mut bool, path: &[u8])
     ensures { IsPut is_broken.old is_broken.new (E.contents err.old) (E.contents err.new) (left_out_line path.now) }
 {
-    let shown = &path[..path.len().min(SHOWN_MAX)];
+    let count = path.len().min(SHOWN_MAX);
     put(err, is_broken, b"snapfs: left out, path too long: ");
-    put(err, is_broken, shown);
+    put(err, is_broken, &path[..count]);
     put(err, is_broken, b"\n");
 }
 
@@ -83,10 +83,12 @@ impl<E: Write + Drop> Lines<E> {
             count,
             is_broken,
         } = self;
-        if count == 0 {
+        let is_none = count == 0;
+        if is_none {
             return (Ending::Done, err);
         }
-        let (mut err, mut is_broken) = (err, is_broken);
+        let mut err = err;
+        let mut is_broken = is_broken;
         put_count(&mut err, &mut is_broken, count);
         (Ending::InPart, err)
     }
