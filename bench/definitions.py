@@ -5,8 +5,8 @@
 
 FILE is a source file below crates/, as sn_run/src/running.rt, and FUNCTION a function of it. A definition is counted where
 the contract names it, or one that is counted does. Lines of imports and comments and blank lines aren't counted, nor are
-types that the code declares, and what the toolchain defines. With no words the five contracts are taken that a user of the
-program rests on. The last line has the sums.
+types that the code declares, and what the toolchain defines. The last line has the sums. With no words these are told of `run` alone, of the
+five contracts that a user of the program rests on for a run, and of these with those of exports, imports and mounts.
 """
 
 import re
@@ -15,12 +15,18 @@ from pathlib import Path
 
 TOP = Path(__file__).resolve().parent.parent
 CRATES = TOP / "crates"
-SHOWN = [
+RUN = [("sn_run/src/running.rt", "run")]
+RUNS = [
     ("sn_program/src/run.rt", "answer"),
     ("sn_program/src/copy.rt", "answer_cut"),
-    ("sn_run/src/running.rt", "run"),
+    *RUN,
     ("sn_fs/src/mounting.rt", "mount"),
     ("sn_fs/src/calling.rt", "call"),
+]
+ARCHIVES_AND_MOUNTS = [
+    ("sn_export_image/src/image.rt", "export_image"),
+    ("sn_import_image/src/image.rt", "import_image"),
+    ("sn_serve_image/src/image.rt", "serve_image"),
 ]
 IMPORT = re.compile(r"^\s*(?:pub |ghost )?use Rattle\.([\w.]+?)(?:\.\{([^}]*)\})?(?: as (\w+))?;?\s*$")
 
@@ -113,18 +119,32 @@ def reached(wanted):
     return files, found
 
 
-def main():
-    words = sys.argv[1:]
-    wanted = list(zip(words[::2], words[1::2])) or SHOWN
+def counted(wanted):
+    """For each file that some contracts reach the lines that they name and all of them, where it has such."""
     files, found = reached(wanted)
-    whole = used = 0
     for file in sorted(found):
         lines = sum(len(files[file].items[name]) for name in found[file])
-        every = sum(len(item) for item in files[file].items.values())
         if lines:
-            print(f"{lines:5} of {every:4}  {file.relative_to(CRATES)}")
-            whole, used = whole + every, used + lines
-    print(f"{used} lines of definitions are named, in files of {whole}")
+            yield file, lines, sum(len(item) for item in files[file].items.values())
+
+
+def tell(wanted, whose=""):
+    """Writes the sums of some contracts."""
+    told = list(counted(wanted))
+    print(f"{sum(lines for _, lines, _ in told)} lines of definitions are named{whose}, in files of {sum(every for _, _, every in told)}")
+
+
+def main():
+    words = sys.argv[1:]
+    wanted = list(zip(words[::2], words[1::2])) or RUNS + ARCHIVES_AND_MOUNTS
+    for file, lines, every in counted(wanted):
+        print(f"{lines:5} of {every:4}  {file.relative_to(CRATES)}")
+    if words:
+        tell(wanted)
+        return
+    tell(RUN, " by `run`")
+    tell(RUNS, " by the five of runs")
+    tell(wanted, " by all eight")
 
 
 if __name__ == "__main__":

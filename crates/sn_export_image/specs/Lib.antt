@@ -1,2 +1,3 @@
 pub mod Worlds
 pub mod Faults
+pub mod Exports

@@ -24,9 +24,12 @@ impl<D: Device + Drop> Model for Exporting<D> {
 }
 
 impl<D: Device + Drop> Calls for Exporting<D> {
+    ghost use Rattle.sn_export_image.specs.Exports.{Comes};
     ghost use Rattle.sn_export_image.specs.Worlds.{RunsOver};
 
     ghost serves = { RunsOver D.tells_bytes };
+
+    ghost last = { Comes D.tells_bytes };
 
     fn call(&mut self, session: u32, call: &Call) -> Reply {
         self.serving.call(session, call)

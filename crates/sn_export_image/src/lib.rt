@@ -4,8 +4,8 @@
 //! long as it runs (`RunsOver` of `specs/Worlds`). A mount runs over the world that the device's disk is an image of, so what
 //! [`export_image`] writes is the archive of what the path leads user 0 to in that world, or after an error the front of it.
 //!
-//! The trees aren't changed: after an export without a fault the disk is an image of the same, whatever a crash leaves (`HasTreesOf`). The mount may
-//! write as any does, and the unmount makes a consistency point.
+//! What is called is a run of the machine in which no tree changes (`IsExported` of `specs/Exports`): however an export ends, the disk is an image of the same
+//! trees, whatever a crash leaves (`KeepsTheTrees` of `sn_serving`). The mount may write as any does, and the unmount makes a consistency point.
 //!
 //! What the sources leave open is decided in `docs/DECISIONS.md`, under "Archives of trees".
 //!

@@ -1,2 +1,3 @@
 pub mod Serving
+pub mod Asking
 pub mod Faults

@@ -11,6 +11,7 @@ ghost use Rattle.sn_walk.specs.declared.walking.Found.{Found};
 ghost use Rattle.sn_export_reading.specs.Faults as faults;
 ghost use Rattle.sn_export_reading.specs.Faults.{Goes, LeadsNowhere, Tells, is_of_path};
 ghost use Rattle.sn_export_reading.specs.declared.fault.ExportFault.TheVariants.{Contradiction, Path};
+ghost use Rattle.sn_export_reading.specs.Asking.{IsOfExport};
 ghost use Rattle.sn_export_reading.specs.Serving.{HasStatus, IsStepOf, LeadsTo, Reads, ReadsFile, bytes_at};
 
 use crate::fault::ExportFault;
@@ -27,13 +28,14 @@ pub trait Calls {
     /// Whether it is a machine that runs over a world. One of which that isn't known is over none.
     ghost serves: { Self → World → Type 0 };
 
-    /// Whether this is the reply that it gave last, `None` before the first. Of one of which that isn't known nothing is.
-    ghost last: { Self → Option TheReply → Type 0 } = { λ _ _. ⊥ };
+    /// Whether calls of an export led from the second one up to the first, of which this reply was given last, `None` before any. Of one of
+    /// which that isn't known nothing is.
+    ghost last: { Self → Self → Option TheReply → Type 0 } = { λ _ _ _. ⊥ };
 
     /// The reply to a call of a session: that of a step of the machine.
     fn call(&mut self, session: u32, call: &Call) -> Reply
         ensures step { (world : World) → serves self.old world → IsStepOf world session call.now result (serves self.new) }
-        ensures last { (before : Option TheReply) → last self.old before → last self.new (Some result) };
+        ensures last { (first : Self) → IsOfExport session call.now → (before : Option TheReply) → last self.old first before → last self.new first (Some result) };
 }
 
 // The session of the walk.
@@ -90,7 +92,7 @@ fn fault_of(reply: &Reply) -> ExportFault
 /// by none but `status_of`.
 pub fn log_in<C: Calls>(alloc: Global, calls: &mut C) -> Result<(), ExportFault>
     ensures session { (world : World) → C.serves calls.old world → IsFound limits_written world → OnOk result (Reads (trees_of world) (C.serves calls.new)) }
-    ensures told { Goes (C.last calls.old) → Tells (C.last calls.new) result }
+    ensures told { (first : C) → Goes (C.last calls.old first) → Tells (C.last calls.new first) result }
     ensures path { IfErr result (λ fault. is_of_path fault ≡ false) }
 {
     let groups = Groups::new(alloc, &[])?;
@@ -115,9 +117,9 @@ pub fn status_of<C: Calls>(
     path: &[u8],
 ) -> Result<FileStatus, ExportFault>
     ensures status { (trees : Trees) → Reads trees (C.serves calls.old) → IfOk result (λ status. HasStatus trees path.now status × Reads trees (C.serves calls.new)) }
-    ensures told { Goes (C.last calls.old) → Tells (C.last calls.new) result }
+    ensures told { (first : C) → Goes (C.last calls.old first) → Tells (C.last calls.new first) result }
     ensures nowhere { (trees : Trees) → Reads trees (C.serves calls.old) → IfErr result (λ fault. fault ≡ Path → LeadsNowhere trees path.now) }
-    ensures last { Goes (C.last calls.old) → IfOk result (λ status. C.last calls.new (Some (reply.Status status))) }
+    ensures last { (first : C) → Goes (C.last calls.old first) → IfOk result (λ status. C.last calls.new first (Some (reply.Status status))) }
 {
     let stat = Call::Stat {
         path: Word::new(alloc, path)?,
@@ -133,7 +135,7 @@ pub fn status_of<C: Calls>(
 pub fn names_of<C: Calls>(alloc: Global, calls: &mut C, path: &[u8]) -> Result<Names, ExportFault>
     ensures names { (trees : Trees) → Reads trees (C.serves calls.old)
         → IfOk result (λ names. (found : Found) × LeadsTo trees path.now found × (names ≡ listed trees found.object) × Reads trees (C.serves calls.new)) }
-    ensures told { Goes (C.last calls.old) → Tells (C.last calls.new) result }
+    ensures told { (first : C) → Goes (C.last calls.old first) → Tells (C.last calls.new first) result }
     ensures path { IfErr result (λ fault. is_of_path fault ≡ false) }
 {
     let readdir = Call::Readdir {
@@ -153,7 +155,7 @@ fn acl_of<C: Calls>(
 ) -> Result<Option<StoredAcl>, ExportFault>
     ensures acl { (trees : Trees) → Reads trees (C.serves calls.old)
         → IfOk result (λ acl. (found : Found) × LeadsTo trees path.now found × (acl ≡ acl_at (viewed_trees trees) kind found) × Reads trees (C.serves calls.new)) }
-    ensures told { Goes (C.last calls.old) → Tells (C.last calls.new) result }
+    ensures told { (first : C) → Goes (C.last calls.old first) → Tells (C.last calls.new first) result }
     ensures path { IfErr result (λ fault. is_of_path fault ≡ false) }
 {
     let getacl = Call::GetAcl {
@@ -169,7 +171,7 @@ fn acl_of<C: Calls>(
 fn access_acl<C: Calls>(alloc: Global, calls: &mut C, path: &[u8]) -> Result<StoredAcl, ExportFault>
     ensures acl { (trees : Trees) → Reads trees (C.serves calls.old)
         → IfOk result (λ acl. (found : Found) × LeadsTo trees path.now found × (acl ≡ found.attributes.acl) × Reads trees (C.serves calls.new)) }
-    ensures told { Goes (C.last calls.old) → Tells (C.last calls.new) result }
+    ensures told { (first : C) → Goes (C.last calls.old first) → Tells (C.last calls.new first) result }
     ensures path { IfErr result (λ fault. is_of_path fault ≡ false) }
 {
     match acl_of(alloc, calls, path, AclKind::Access)? {
@@ -183,7 +185,7 @@ pub fn file_acls<C: Calls>(alloc: Global, calls: &mut C, path: &[u8]) -> Result<
     ensures plain { IfOk result (λ acls. acls.default ≡ None) }
     ensures access { (trees : Trees) → Reads trees (C.serves calls.old)
         → IfOk result (λ acls. (found : Found) × LeadsTo trees path.now found × (acls.access ≡ found.attributes.acl) × Reads trees (C.serves calls.new)) }
-    ensures told { Goes (C.last calls.old) → Tells (C.last calls.new) result }
+    ensures told { (first : C) → Goes (C.last calls.old first) → Tells (C.last calls.new first) result }
     ensures path { IfErr result (λ fault. is_of_path fault ≡ false) }
 {
     let access = access_acl(alloc, calls, path)?;
@@ -201,7 +203,7 @@ fn default_acl<C: Calls>(
 ) -> Result<Option<Acl>, ExportFault>
     ensures acl { (trees : Trees) → Reads trees (C.serves calls.old)
         → IfOk result (λ acl. (found : Found) × LeadsTo trees path.now found × (acl ≡ default_acl_at (viewed_trees trees) found.object) × Reads trees (C.serves calls.new)) }
-    ensures told { Goes (C.last calls.old) → Tells (C.last calls.new) result }
+    ensures told { (first : C) → Goes (C.last calls.old first) → Tells (C.last calls.new first) result }
     ensures path { IfErr result (λ fault. is_of_path fault ≡ false) }
 {
     match acl_of(alloc, calls, path, AclKind::Default)? {
@@ -219,7 +221,7 @@ pub fn directory_acls<C: Calls>(
     ensures acls { (trees : Trees) → Reads trees (C.serves calls.old)
         → IfOk result (λ acls. (found : Found) × LeadsTo trees path.now found × (acls.access ≡ found.attributes.acl) × (acls.default ≡ default_acl_at (viewed_trees trees) found.object)
         × Reads trees (C.serves calls.new)) }
-    ensures told { Goes (C.last calls.old) → Tells (C.last calls.new) result }
+    ensures told { (first : C) → Goes (C.last calls.old first) → Tells (C.last calls.new first) result }
     ensures path { IfErr result (λ fault. is_of_path fault ≡ false) }
 {
     let access = access_acl(alloc, calls, path)?;
@@ -235,7 +237,7 @@ pub fn directory_acls<C: Calls>(
 pub fn open<C: Calls>(alloc: Global, calls: &mut C, path: &[u8]) -> Result<u32, ExportFault>
     ensures file { (trees : Trees) → Reads trees (C.serves calls.old)
         → IfOk result (λ fd. (found : Found) × LeadsTo trees path.now found × ReadsFile trees fd (bytes_at trees found.object) 0 (C.serves calls.new)) }
-    ensures told { Goes (C.last calls.old) → Tells (C.last calls.new) result }
+    ensures told { (first : C) → Goes (C.last calls.old first) → Tells (C.last calls.new first) result }
     ensures path { IfErr result (λ fault. is_of_path fault ≡ false) }
 {
     let open = Call::Open {
@@ -257,7 +259,7 @@ pub fn open<C: Calls>(alloc: Global, calls: &mut C, path: &[u8]) -> Result<u32, 
 pub fn read<C: Calls>(calls: &mut C, fd: u32, count: u64) -> Result<FileData, ExportFault>
     ensures bytes { (trees : Trees) (content : List ℕ) (offset : ℕ) → ReadsFile trees fd content offset (C.serves calls.old)
         → IfOk result (λ bytes. (bytes ≡ take count (drop offset content)) × ReadsFile trees fd content (offset + length bytes) (C.serves calls.new)) }
-    ensures told { Goes (C.last calls.old) → Tells (C.last calls.new) result }
+    ensures told { (first : C) → Goes (C.last calls.old first) → Tells (C.last calls.new first) result }
     ensures path { IfErr result (λ fault. is_of_path fault ≡ false) }
 {
     match calls.call(SESSION, &Call::Read { fd, count }) {
@@ -269,7 +271,7 @@ pub fn read<C: Calls>(calls: &mut C, fd: u32, count: u64) -> Result<FileData, Ex
 /// Closes a file. The faults are those of [`log_in`], though the machine refuses no close of an open file.
 pub fn close<C: Calls>(calls: &mut C, fd: u32) -> Result<(), ExportFault>
     ensures closed { (trees : Trees) (content : List ℕ) (offset : ℕ) → ReadsFile trees fd content offset (C.serves calls.old) → OnOk result (Reads trees (C.serves calls.new)) }
-    ensures told { Goes (C.last calls.old) → Tells (C.last calls.new) result }
+    ensures told { (first : C) → Goes (C.last calls.old first) → Tells (C.last calls.new first) result }
     ensures path { IfErr result (λ fault. is_of_path fault ≡ false) }
 {
     match calls.call(SESSION, &Call::Close { fd }) {

@@ -1,3 +1,4 @@
 pub mod Doing
 pub mod Openings
 pub mod Works
+pub mod Refusals

@@ -3,6 +3,7 @@ use Rattle.std.proofs.Common.{◌≡◌, ◌∙◌, ℕ, Bool, true, false, ◌|
 use Rattle.std.specs.Prelude.{IfOk, IsErrAnd, IsTrue, Option, Result, Ok, Err}
 use Rattle.sn_device.specs.Disk.{Disk, reads}
 use Rattle.sn_device.specs.declared.status.Status.{Status}
+use Rattle.sn_examine.specs.Laws.{IsSomeClean}
 use Rattle.sn_held.specs.Images.{IsImage}
 use Rattle.sn_model.specs.declared.end.End.{End}
 use Rattle.sn_model.specs.declared.end.End.TheVariants as ending
@@ -35,8 +36,9 @@ quiet_where_whole Q (ending.Mount why) result is_told q = tt
 
 pub carried_out : {E : Type 0} (told : Bool) (names : Names) (path : List ℕ) (input : Option (List ℕ)) (outcome : Result Made ImportFault) (disk : Disk) (status : Status) (last : Disk) (last_status : Status) (result : Result (Unit {0}) ImportFault) (end : End)
     (first new : Seen E) (acts : List Act) → Did told new first acts → IsWork names path input acts result → IsLastEnd end → first.2 ≡ false → outcome ≡ outcome_of end result new.2
-    → (IsTrue told → (world : World) → IsImage (reads disk) world → IsMountOf world disk status first.0) → (IsTrue told → Unmounts end new.0 last last_status) → IsCarriedOut told names path input outcome disk status last last_status
-carried_out told names path input outcome disk status last last_status result end first new acts d work is_last none is mounted ended = record {
+    → (IsTrue told → (world : World) → IsImage (reads disk) world → IsMountOf world disk status first.0) → (IsTrue told → Unmounts end new.0 last last_status) → (IsTrue told → IsSomeClean status.sectors (reads disk)) → IsCarriedOut told names path input outcome disk status last last_status
+carried_out told names path input outcome disk status last last_status result end first new acts d work is_last none is mounted ended clean = record {
+  clean = clean;
   acts = acts;
   result = result;
   work = work;

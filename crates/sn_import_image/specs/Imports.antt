@@ -1,8 +1,8 @@
 -- What an import does to an image.
-use Rattle.std.specs.Prelude.{◌≡◌, ℕ, Bool, IsTrue, List, [], ◌++◌, if◌then◌else◌, Option, Result, Ok, Err}
+use Rattle.std.specs.Prelude.{◌≡◌, ℕ, Bool, true, IsTrue, List, [], ◌++◌, if◌then◌else◌, Option, Result, Ok, Err}
 use Rattle.sn_device.specs.Disk.{Disk, reads}
 use Rattle.sn_device.specs.declared.status.Status.{Status}
-use Rattle.sn_examine.specs.Failing.{IsSoOf}
+use Rattle.sn_examine.specs.Laws.{IsSomeClean}
 use Rattle.sn_held.specs.Images.{IsImage}
 use Rattle.sn_model.specs.declared.call.Event.{Event}
 use Rattle.sn_model.specs.declared.end.End.{End}
@@ -10,10 +10,9 @@ use Rattle.sn_model.specs.declared.end.End.TheVariants as ending
 use Rattle.sn_model.specs.declared.fault.MountFault.{MountFault}
 use Rattle.sn_model.specs.declared.reply.Reply.{Reply}
 use Rattle.sn_model.specs.World.{World}
-use Rattle.sn_check.specs.Verdicts.{IsCause}
 use Rattle.sn_run.specs.Ending.{IsLastEnd}
-use Rattle.sn_run.specs.Runs.{IsRunOf}
-use Rattle.sn_serving.specs.Served.{IsRunOver}
+use Rattle.sn_serving.specs.Reading.{LeavesTheTrees}
+use Rattle.sn_serving.specs.Served.{IsNotMounted, IsRunOver}
 use Rattle.sn_import_entry.specs.declared.names.Names.{Names}
 use Rattle.sn_import_calls.specs.Acts.{Act}
 use Rattle.sn_import_run.specs.Imports.{IsImport}
@@ -47,9 +46,10 @@ outcome_of ending.Memory done is_told = Err fault.Memory
 outcome_of ending.Stopped done is_told = Err fault.Stopped
 outcome_of (ending.Mount why) done is_told = Err (fault.Mount why)
 
--- Where there is a mount, the calls of the import are all that is called, and where the device tells its bytes, a run of the machine from the world that
--- the disk was an image of, with all that a crash leaves of it.
+-- Where there is a mount, of a disk without a fault, the calls of the import are all that is called, and where the device tells its bytes, a run of the machine
+-- from the world that the disk was an image of, with all that a crash leaves of it.
 pub record IsCarriedOut (told : Bool) (names : Names) (path : List ℕ) (input : Option (List ℕ)) (outcome : Result Made ImportFault) (disk : Disk) (status : Status) (last : Disk) (last_status : Status) : Type 0 where
+  pub clean : IsTrue told → IsSomeClean status.sectors (reads disk)
   pub acts : List Act
   pub result : Result (Unit {0}) ImportFault
   pub work : IsWork names path input acts result
@@ -61,9 +61,12 @@ pub record IsCarriedOut (told : Bool) (names : Names) (path : List ℕ) (input :
   pub are : AreEventsOf acts events replies
   pub run : IsTrue told → (world : World) → IsImage (reads disk) world → IsRunOver world events replies end disk status last last_status
 
--- Without a mount nothing is called, and a crash leaves that world. The cause is that of a check, and it is the device only where that has failed.
+-- Without a mount nothing is called, and the disk is left as a run leaves it that finds no mount.
 pub record IsUnmounted (told : Bool) (why : MountFault) (outcome : Result Made ImportFault) (disk : Disk) (status : Status) (last : Disk) (last_status : Status) : Type 0 where
   pub outcome_is : outcome ≡ Err (fault.Mount why)
-  pub cause : IsTrue told → IsCause status.sectors (reads disk) why
-  pub failed : IsSoOf why status last_status
-  pub run : IsTrue told → (world : World) → IsImage (reads disk) world → IsRunOf world [] [] (ending.Mount why) disk last
+  pub left : IsNotMounted told why disk status last last_status
+
+-- An import that ends since its path leads to no directory leaves the trees that were there.
+abbrev pub RefusedImportsKeepTrees : Type 0
+RefusedImportsKeepTrees = (names : Names) (path : List ℕ) (input : Option (List ℕ)) (outcome : Result Made ImportFault) (disk : Disk) (status : Status) (last : Disk) (last_status : Status) (world : World)
+    → IsCarriedOut true names path input outcome disk status last last_status → outcome ≡ Err fault.Path → IsImage (reads disk) world → LeavesTheTrees disk last world

@@ -44,7 +44,8 @@ fn import_into<C: Calls, R: Read>(
 /// Proved: What is called are the login of user 0, the look at the path, and the calls of the archive's entries (`import` of sn_import_run), with steps of
 /// consistency points after them: over each device that tells its bytes, from the world that its disk is an image of, this is a run of the
 /// machine, and a crash leaves what that leaves; where the device counted no failure and hasn't ended, none occurred in it.
-/// Proved: Where all is made and the mount is ended, nothing is written to the output of reports; a fault of the mount has the cause of a check.
+/// Proved: Where all is made and the mount is ended, nothing is written to the output of reports.
+/// Proved: Only a disk without a fault is mounted. Any other is left as it was, and its fault is told as a run tells it.
 pub fn import_image<D: Device + Drop, R: Read, E: Write + Drop>(
     alloc: Global,
     device: D,

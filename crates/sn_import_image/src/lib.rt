@@ -6,9 +6,11 @@
 //! `specs/Importing`). So the whole is a run of the machine, from the world that the disk is an image of, whose calls are those of the entries:
 //! `IsCarriedOut` of `specs/Imports`.
 //!
-//! An import isn't atomic: after a crash the entries before it are there, and perhaps a front of the calls of one.
+//! An import isn't atomic: after a crash the entries before it are there, and perhaps a front of the calls of one. One whose path leads to no directory
+//! leaves the trees as they were ([`refused_imports_keep_trees`]).
 //!
-//! The way through: `image` has the entry point, `opening` the first calls, `importing` the mount that answers calls, and `report` the lines.
+//! The way through: `image` has the entry point, `opening` the first calls, `importing` the mount that answers calls,
+//! `report` the lines, and `laws` the law.
 //!
 //! What the sources leave open is decided in `docs/DECISIONS.md`, under "Archives as they are made".
 //!
@@ -20,8 +22,10 @@
 mod fault;
 mod image;
 mod importing;
+mod laws;
 mod opening;
 mod report;
 
 pub use fault::{ImportFault, Made};
 pub use image::{Imported, import_image};
+pub use laws::refused_imports_keep_trees;

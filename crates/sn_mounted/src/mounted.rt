@@ -1,8 +1,7 @@
 //! A mounted file system that answers a server.
 ghost use Rattle.std.specs.Prelude.{◌≡◌, ◌∷◌, [], false, List, IsTrue, IfErr, IfOk, OnErr, OnOk, length, replicate};
-ghost use Rattle.sn_check.specs.Verdicts.{IsCause};
 ghost use Rattle.sn_device.specs.Disk.{reads};
-ghost use Rattle.sn_examine.specs.Failing.{IsSoOf};
+ghost use Rattle.sn_examine.specs.Laws.{IsSomeClean};
 ghost use Rattle.sn_held.specs.Images.{IsImage};
 ghost use Rattle.sn_homes.specs.Homes.{number_of};
 ghost use Rattle.std.specs.Option.{option_map};
@@ -10,17 +9,14 @@ ghost use Rattle.sn_live_view.specs.Looking.{known_by};
 ghost use Rattle.sn_walk.specs.Views.{attributes_at};
 ghost use Rattle.sn_walk.specs.Paths.{parsed};
 ghost use Rattle.sn_model.specs.World.{World, trees_of, viewed_trees};
-ghost use Rattle.sn_model.specs.declared.call.Event.{Event as Chosen};
 ghost use Rattle.sn_model.specs.declared.call.Event.TheVariants as event;
-ghost use Rattle.sn_model.specs.declared.end.End.TheVariants as ending;
 ghost use Rattle.sn_model.specs.declared.reply.Reply.{Reply as Told};
 ghost use Rattle.sn_mounted.specs.Doing.{LooksAt, cause_of};
 ghost use Rattle.sn_mounted.specs.Shown.{Finds, Sees, met_by, object_by, object_in, places_after};
 ghost use Rattle.sn_plan.specs.declared.errors.LookFault.TheVariants as fault;
 ghost use Rattle.sn_run.specs.Ending.{IsLastEnd};
-ghost use Rattle.sn_run.specs.Runs.{IsRunOf};
 ghost use Rattle.sn_serving.specs.Pacing.{Paces};
-ghost use Rattle.sn_serving.specs.Served.{IsMountOf, Leads, Unmounts};
+ghost use Rattle.sn_serving.specs.Served.{IsMountOf, IsNotMounted, Leads, Unmounts};
 
 use sn_core::{
     Attributes, Call, Device, End, Known, LookFault as Unseen, Object, Path, Reply, Unmounted,
@@ -111,10 +107,8 @@ impl<D: Device + Drop> Mounted<D> {
         ensures mounted { IsTrue D.tells_bytes → (world : World) → IsImage (reads (D.disk device)) world
             → IfOk result (λ m. IsMountOf world (D.disk device) (D.status device) m.served) }
         ensures places { IfOk result (λ m. m.places ≡ []) }
-        ensures unmounted { IsTrue D.tells_bytes → (world : World) → IsImage (reads (D.disk device)) world
-            → IfErr result (λ u. (events : List Chosen) → IsRunOf world events [] (ending.Mount u.fault) (D.disk device) (D.disk u.device)) }
-        ensures cause { IsTrue D.tells_bytes → IfErr result (λ u. IsCause (D.status device).sectors (reads (D.disk device)) u.fault) }
-        ensures failed { IfErr result (λ u. IsSoOf u.fault (D.status device) (D.status u.device)) }
+        ensures clean { IsTrue D.tells_bytes → OnOk result (IsSomeClean (D.status device).sectors (reads (D.disk device))) }
+        ensures unmounted { IfErr result (λ u. IsNotMounted D.tells_bytes u.fault (D.disk device) (D.status device) (D.disk u.device) (D.status u.device)) }
     {
         let blocks = data_blocks(device.sectors());
         match Serving::new(alloc, device) {

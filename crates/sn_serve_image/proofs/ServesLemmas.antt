@@ -3,6 +3,7 @@ use Rattle.std.proofs.Common.{◌≡◌, ℕ, Bool, List, [], ◌++◌, sym, sub
 use Rattle.std.specs.Prelude.{IsTrue, Option, Result}
 use Rattle.sn_device.specs.Disk.{Disk, reads}
 use Rattle.sn_device.specs.declared.status.Status.{Status}
+use Rattle.sn_examine.specs.Laws.{IsSomeClean}
 use Rattle.sn_held.specs.Images.{IsImage}
 use Rattle.sn_model.specs.World.{World}
 use Rattle.sn_mounted.specs.Doing.{Did, DidFrom, PacesIn, begins}
@@ -19,13 +20,14 @@ use Rattle.sn_serve_image.specs.declared.fault.ServeFault.{ServeFault}
 
 pub served : {P : Type 0} (told : Bool) (tells : P → ℕ → Option (List ℕ) → P → Type 0) (checker : Checker) (dates left : Dates) (mounted : Shown) (before after : P) (input rest output written : Option (List ℕ))
     (outcome : Result (Unit {0}) ServeFault) (disk : Disk) (status : Status) (last : Disk) (last_status : Status) → mounted.places ≡ [] → IsServedFrom told tells checker dates left mounted before after input rest output written outcome last last_status
-    → (IsTrue told → (world : World) → IsImage (reads disk) world → IsMountOf world disk status mounted.served) → IsServed told tells checker dates left before after input rest output written outcome disk status last last_status
-served told tells checker dates left mounted before after input rest output written outcome disk status last last_status none s mounts =
+    → (IsTrue told → (world : World) → IsImage (reads disk) world → IsMountOf world disk status mounted.served) → (IsTrue told → IsSomeClean status.sectors (reads disk)) → IsServed told tells checker dates left before after input rest output written outcome disk status last last_status
+served told tells checker dates left mounted before after input rest output written outcome disk status last last_status none s mounts clean =
     let none_done : Did told mounted s.first.server.file_system [] = subst (λ (now : Shown). Did told mounted now []) (sym s.new.served) begins in
     let logged : Did told mounted s.conversation.first.server.file_system s.conversation.logins = s.conversation.grows.grows mounted [] none_done in
     let did : Did told mounted s.ended.server.file_system (s.conversation.logins ++ s.conversation.conversation.acts) = (conversation_grows (DidFrom told) tells stopped (PacesIn told) s.conversation.conversation.converses).grows mounted s.conversation.logins logged in
     let part : IsPartOfRun told mounted s.ended.server.file_system (s.conversation.logins ++ s.conversation.conversation.acts) = did_runs told mounted s.ended.server.file_system (s.conversation.logins ++ s.conversation.conversation.acts) did in
     record {
+      clean = clean;
       mounted = mounted;
       places = none;
       served = s;

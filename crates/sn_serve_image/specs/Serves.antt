@@ -1,9 +1,8 @@
 -- What a serve does to an image.
 use Rattle.std.specs.Prelude.{◌≡◌, ℕ, Bool, IsTrue, List, [], ◌++◌, Option, Result, Ok, Err}
-use Rattle.sn_check.specs.Verdicts.{IsCause}
 use Rattle.sn_device.specs.Disk.{Disk, reads}
 use Rattle.sn_device.specs.declared.status.Status.{Status}
-use Rattle.sn_examine.specs.Failing.{IsSoOf}
+use Rattle.sn_examine.specs.Laws.{IsSomeClean}
 use Rattle.sn_held.specs.Images.{IsImage}
 use Rattle.sn_model.specs.World.{World}
 use Rattle.sn_model.specs.declared.call.Event.{Event}
@@ -16,13 +15,12 @@ use Rattle.sn_mounted.specs.Runs.{AreEventsOf}
 use Rattle.sn_mounted.specs.Shown.{Shown}
 use Rattle.sn_plan.specs.declared.checker.Checker.{Checker}
 use Rattle.sn_run.specs.Ending.{IsLastEnd}
-use Rattle.sn_run.specs.Runs.{IsRunOf}
 use Rattle.sn_serve.specs.declared.service.Service.{Service}
 use Rattle.sn_serve_loop.specs.Connections.{IsNew}
 use Rattle.sn_serve_loop.specs.Conversations.{LogsInAndConverses}
 use Rattle.sn_serve_loop.specs.declared.stop.Stop.{Stop}
 use Rattle.sn_serve_loop.specs.declared.stop.Stop.TheVariants as stop
-use Rattle.sn_serving.specs.Served.{IsRunOver, Unmounts}
+use Rattle.sn_serving.specs.Served.{IsNotMounted, IsRunOver, Unmounts}
 use Rattle.sn_times.specs.Dates.{Dates}
 use Rattle.sn_serve_image.specs.declared.fault.ServeFault.{ServeFault}
 use Rattle.sn_serve_image.specs.declared.fault.ServeFault.TheVariants as fault
@@ -59,9 +57,10 @@ pub record IsServedFrom {P : Type 0} (told : Bool) (tells : P → ℕ → Option
   pub outcome_is : outcome ≡ outcome_of end why
   pub unmounts : IsTrue told → Unmounts end ended.server.file_system.served last last_status
 
--- All that was called is a run: where the device tells its bytes, from the world that the disk was an image of, with all that a crash leaves of it, and no failure is invented in it.
+-- The disk has no fault, and all that was called is a run: where the device tells its bytes, from the world that the disk was an image of, with all that a crash leaves of it, and no failure is invented in it.
 pub record IsServed {P : Type 0} (told : Bool) (tells : P → ℕ → Option (List ℕ) → P → Type 0) (checker : Checker) (dates left : Dates) (before after : P) (input rest output written : Option (List ℕ))
     (outcome : Result (Unit {0}) ServeFault) (disk : Disk) (status : Status) (last : Disk) (last_status : Status) : Type 0 where
+  pub clean : IsTrue told → IsSomeClean status.sectors (reads disk)
   pub mounted : Shown
   pub places : mounted.places ≡ []
   pub served : IsServedFrom told tells checker dates left mounted before after input rest output written outcome last last_status
@@ -70,12 +69,10 @@ pub record IsServed {P : Type 0} (told : Bool) (tells : P → ℕ → Option (Li
   pub are : AreEventsOf (served.conversation.logins ++ served.conversation.conversation.acts) events replies
   pub run : IsTrue told → (world : World) → IsImage (reads disk) world → IsRunOver world events replies served.end disk status last last_status
 
--- Without a mount no message is read, and a crash leaves that world. The cause is that of a check, and it is the device only where that has failed.
+-- Without a mount no message is read, and the disk is left as a run leaves it that finds no mount.
 pub record IsUnmounted (told : Bool) (why : MountFault) (outcome : Result (Unit {0}) ServeFault) (disk : Disk) (status : Status) (last : Disk) (last_status : Status) : Type 0 where
   pub outcome_is : outcome ≡ Err (fault.Mount why)
-  pub cause : IsTrue told → IsCause status.sectors (reads disk) why
-  pub failed : IsSoOf why status last_status
-  pub run : IsTrue told → (world : World) → IsImage (reads disk) world → IsRunOf world [] [] (ending.Mount why) disk last
+  pub left : IsNotMounted told why disk status last last_status
 
 -- Without memory for what is kept, nothing is done.
 pub record IsRefused (outcome : Result (Unit {0}) ServeFault) (disk last : Disk) : Type 0 where

@@ -60,6 +60,7 @@ fn serve_mounted<D: Device + Drop, H: Host, R: Read, W: Write>(
 /// crash leaves what that leaves.
 /// Proved: No failure is invented: where the device counted none and hasn't ended, none occurred in that run, and what is looked for is missed only for memory, for a read that the device
 /// failed, or once a failure has stopped the mount.
+/// Proved: Only a disk without a fault is mounted. Any other is left as it was, and its fault is told as a run tells it.
 pub fn serve_image<D: Device + Drop, H: Host, R: Read, W: Write>(
     alloc: Global,
     device: D,

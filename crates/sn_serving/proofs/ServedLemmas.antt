@@ -8,6 +8,7 @@ use Rattle.sn_device.specs.Sectors.{Contents}
 use Rattle.sn_device.specs.declared.status.Status.{Status}
 use Rattle.sn_events.specs.Answers.{Answers}
 use Rattle.sn_events.specs.Mounting.{Mounts}
+use Rattle.sn_examine.specs.Failing.{IsSoOf}
 use Rattle.sn_examine.specs.Laws.{IsSomeClean}
 use Rattle.sn_examine.proofs.ImageLemmas.{clean_image}
 use Rattle.sn_fs.specs.Looking.{IsUnseen}
@@ -20,6 +21,8 @@ use Rattle.sn_live_world.specs.declared.fault.LookFault.TheVariants as look
 use Rattle.sn_model.specs.declared.call.Event.{Event}
 use Rattle.sn_model.specs.declared.call.Event.TheVariants as event
 use Rattle.sn_model.specs.declared.end.End.{End}
+use Rattle.sn_model.specs.declared.end.End.TheVariants as ending
+use Rattle.sn_model.specs.declared.fault.MountFault.{MountFault}
 use Rattle.sn_model.specs.declared.reply.Reply.{Reply}
 use Rattle.sn_model.specs.Machine.{Running, State, Stopped}
 use Rattle.sn_model.specs.World.{World}
@@ -28,10 +31,12 @@ use Rattle.sn_mount.proofs.AllowedLemmas.{world_stays}
 use Rattle.sn_mount.specs.Costs.{CostsMount}
 use Rattle.sn_opening.specs.Opens.{Opens}
 use Rattle.sn_run.specs.Ending.{EndsSo}
+use Rattle.sn_run.specs.Runs.{NotMounted}
+use Rattle.sn_run.proofs.RunLemmas.{is_run, is_unfit}
 use Rattle.sn_sound.specs.Disks.{IsOfDevice}
 use Rattle.sn_sound.proofs.DiskLemmas.{one_size}
 use Rattle.sn_sound.proofs.WorldLemmas.{opens_to_found}
-use Rattle.sn_serving.specs.Served.{Holding, IsIn, IsMountOf, Leads, MeansSome, Misses, Served, Unmounts, answers, misses, rests, seen}
+use Rattle.sn_serving.specs.Served.{Holding, IsIn, IsMountOf, IsNotMounted, Leads, MeansSome, Misses, Served, Unmounts, answers, misses, rests, seen}
 
 -- ---- events, one after the other
 
@@ -115,6 +120,16 @@ is_mount old status h has_stopped world device m costs within image =
       leaves = it.leaves;
       costs = (h.at.blocks, within, costs);
     }
+
+-- where there is no mount that is a run too
+pub not_mounted : (told : Bool) (why : MountFault) (disk : Disk) (status : Status) (last : Disk) (last_status : Status) → (IsTrue told → IsOfDevice status.sectors (reads disk)) → IsSoOf why status last_status
+    → (IsTrue told → NotMounted why [] disk status last last_status) → IsNotMounted told why disk status last last_status
+not_mounted told why disk status last last_status device failed left = record {
+  left = left;
+  unfit = λ is fault lacks events. is_unfit events [] disk last status last_status fault lacks (ending.Mount why) (left is);
+  failed = failed;
+  run = λ is world image events. is_run events [] disk last status last_status world (device is) image (ending.Mount why) (left is);
+}
 
 -- ---- steps
 

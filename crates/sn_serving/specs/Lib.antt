@@ -1,3 +1,4 @@
 pub mod Served
+pub mod Reading
 pub mod Paces
 pub mod Pacing

@@ -2,11 +2,13 @@
 use Rattle.std.specs.Prelude.{◌≡◌, ◌⊎◌, ◌-◌, Bool, true, false, List, [], ◌∷◌, IsTrue}
 use Rattle.sn_block.specs.Counts.{FailsRead}
 use Rattle.sn_cp_progress.specs.Meaning.{Means}
-use Rattle.sn_device.specs.Disk.{Always, Disk}
+use Rattle.sn_device.specs.Disk.{Always, Disk, reads}
 use Rattle.sn_device.specs.Status.{has_ended}
 use Rattle.sn_device.specs.declared.status.Status.{Status}
 use Rattle.sn_events.specs.Answers.{Answers, CostsMountOf, left_of}
+use Rattle.sn_examine.specs.Failing.{IsSoOf}
 use Rattle.sn_held.specs.Held.{Held}
+use Rattle.sn_held.specs.Images.{IsImage}
 use Rattle.sn_held.specs.Moments.{ShowsState}
 use Rattle.sn_held.specs.Rooms.{left}
 use Rattle.sn_limits.specs.Versions.{limits_written}
@@ -14,15 +16,17 @@ use Rattle.sn_live_world.specs.declared.fault.LookFault.{LookFault}
 use Rattle.sn_live_world.specs.declared.fault.LookFault.TheVariants as look
 use Rattle.sn_model.specs.declared.call.Event.{Event}
 use Rattle.sn_model.specs.declared.end.End.{End}
+use Rattle.sn_model.specs.declared.end.End.TheVariants as ending
+use Rattle.sn_model.specs.declared.fault.MountFault.{MountFault}
 use Rattle.sn_model.specs.declared.reply.Reply.{Reply}
-use Rattle.sn_model.specs.Machine.{Holds, Running, State, Stopped, WholeRun}
+use Rattle.sn_model.specs.Machine.{Anything, Holds, Lacks, Running, State, Stopped, WholeRun}
 use Rattle.sn_model.specs.Settling.{nameless_in}
 use Rattle.sn_model.specs.World.{World}
 use Rattle.sn_model.specs.Worlds.{IsFound}
 use Rattle.sn_mount.specs.Recovering.{LeavesTheWorld}
 use Rattle.sn_run.specs.Ending.{EndsSo}
 use Rattle.sn_run.specs.Laws.{Unfailing}
-use Rattle.sn_run.specs.Runs.{IsRunOf}
+use Rattle.sn_run.specs.Runs.{IsRunOf, LacksRoot, NotMounted}
 use Rattle.sn_serving.specs.declared.pace.Room.{Room}
 
 -- the world that it holds, whether it has stopped, the disk and the counts of its device, and what is left of that, of the log and of the point in progress
@@ -87,6 +91,14 @@ pub record IsMountOf (world : World) (disk : Disk) (status : Status) (s : Served
   pub found : IsFound limits_written world
   pub leaves : LeavesTheWorld disk s.disk world
   pub costs : CostsMountOf status s.status
+
+-- There is no mount, for this cause, and whatever events were to come none is answered: what a run says then, over any disk. One without a root is reported by its
+-- fault, and of an image a crash leaves its world.
+pub record IsNotMounted (told : Bool) (why : MountFault) (disk : Disk) (status : Status) (last : Disk) (last_status : Status) : Type 0 where
+  pub left : IsTrue told → NotMounted why [] disk status last last_status
+  pub unfit : IsTrue told → (fault : MountFault) → LacksRoot status.sectors (reads disk) fault → (events : List Event) → WholeRun Anything limits_written (Lacks fault) events [] (ending.Mount why)
+  pub failed : IsSoOf why status last_status
+  pub run : IsTrue told → (world : World) → IsImage (reads disk) world → (events : List Event) → IsRunOf world events [] (ending.Mount why) disk last
 
 -- The last unmount makes this end as that of a run, and leaves the device so.
 pub record Unmounts (end : End) (s : Served) (last : Disk) (last_status : Status) : Type 0 where

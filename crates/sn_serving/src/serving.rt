@@ -2,18 +2,15 @@
 ghost use Rattle.std.specs.Prelude.{◌≡◌, ◌++◌, ◌∷◌, [], false, List, IsTrue, IfErr, IfOk, OnOk, length, replicate};
 ghost use Rattle.sn_check.specs.Verdicts.{IsCause};
 ghost use Rattle.sn_device.specs.Disk.{reads};
-ghost use Rattle.sn_examine.specs.Failing.{IsSoOf};
+ghost use Rattle.sn_examine.specs.Laws.{IsSomeClean};
 ghost use Rattle.sn_held.specs.Images.{IsImage};
 ghost use Rattle.sn_live_view.specs.Looking.{known_by};
 ghost use Rattle.sn_model.specs.World.{World, trees_of, viewed_trees};
-ghost use Rattle.sn_model.specs.declared.call.Event.{Event as Chosen};
 ghost use Rattle.sn_model.specs.declared.call.Event.TheVariants as event;
-ghost use Rattle.sn_model.specs.declared.end.End.TheVariants as ending;
 ghost use Rattle.sn_model.specs.declared.reply.Reply.{Reply as Told};
 ghost use Rattle.sn_run.specs.Ending.{IsLastEnd};
-ghost use Rattle.sn_run.specs.Runs.{IsRunOf};
 ghost use Rattle.sn_serving.specs.Pacing.{AreMade, MakesDue, Paces};
-ghost use Rattle.sn_serving.specs.Served.{IsMountOf, Leads, Misses, Unmounts};
+ghost use Rattle.sn_serving.specs.Served.{IsMountOf, IsNotMounted, Leads, Misses, Unmounts};
 ghost use Rattle.sn_walk.specs.Views.{attributes_at};
 
 use crate::pace::{Room, steps_due};
@@ -51,16 +48,16 @@ impl<D: Device + Drop> Model for Serving<D> {
 impl<D: Device + Drop> Serving<D> {
     /// Mounts a device, as `mount` does, or says why not and hands it back.
     ///
-    /// Proved: A device that can't be mounted is refused for the cause of a check, and for the device only where that has failed.
-    /// Proved: What is mounted runs over the world that the disk is an image of, and a crash leaves no other from the mount's
+    /// Proved: A device that can't be mounted is refused for the cause of a check, and for the device only where that has failed. Before a
+    /// first sync has succeeded nothing is written to it, and from then on a crash leaves its world: a disk with a fault is left as it was.
+    /// Proved: What is mounted has no fault, and runs over the world that the disk is an image of. A crash leaves no other from the mount's
     /// first sync on; where nothing is mounted, that is a run without a reply.
     pub fn new(alloc: Global, device: D) -> Result<Serving<D>, Unmounted<D>>
         ensures mounted { IsTrue D.tells_bytes → (world : World) → IsImage (reads (D.disk device)) world
             → IfOk result (IsMountOf world (D.disk device) (D.status device)) }
-        ensures unmounted { IsTrue D.tells_bytes → (world : World) → IsImage (reads (D.disk device)) world
-            → IfErr result (λ u. (events : List Chosen) → IsRunOf world events [] (ending.Mount u.fault) (D.disk device) (D.disk u.device)) }
         ensures cause { IsTrue D.tells_bytes → IfErr result (λ u. IsCause (D.status device).sectors (reads (D.disk device)) u.fault) }
-        ensures failed { IfErr result (λ u. IsSoOf u.fault (D.status device) (D.status u.device)) }
+        ensures clean { IsTrue D.tells_bytes → OnOk result (IsSomeClean (D.status device).sectors (reads (D.disk device))) }
+        ensures unmounted { IfErr result (λ u. IsNotMounted D.tells_bytes u.fault (D.disk device) (D.status device) (D.disk u.device) (D.status u.device)) }
     {
         match mount(alloc, device) {
             Ok(fs) => Ok(Serving {

@@ -17,16 +17,16 @@ pub returns-in-Err-clause-begun : goal.returns-in-Err-clause-begun
 returns-in-Err-clause-begun g c = λ world serves found bytes is. front_kept _ _ _ _ (c.export.ensures.begun world serves found bytes is) c.flush.ensures.bytes
 
 pub returns-in_err-export-clause-told : goal.returns-in_err-export-clause-told
-returns-in_err-export-clause-told g c = λ goes. err_tells _ _ c.from_residual.result c.from_residual.ensures.1 (c.in_err-export.ensures.told goes)
+returns-in_err-export-clause-told g c = λ first goes. err_tells _ _ c.from_residual.result c.from_residual.ensures.1 (c.in_err-export.ensures.told first goes)
 
 pub returns-in_err-export-clause-path : goal.returns-in_err-export-clause-path
 returns-in_err-export-clause-path g c = λ world serves found. error_as _ _ c.from_residual.result c.from_residual.ensures.1 (c.in_err-export.ensures.path world serves found)
 
 pub returns-in-Ok-clause-told : goal.returns-in-Ok-clause-told
-returns-in-Ok-clause-told g c = λ goes. c.in_ok-export.ensures.told goes
+returns-in-Ok-clause-told g c = λ first goes. c.in_ok-export.ensures.told first goes
 
 pub returns-in-Err-clause-told : goal.returns-in-Err-clause-told
-returns-in-Err-clause-told g c = λ goes. c.in_ok-export.ensures.told goes
+returns-in-Err-clause-told g c = λ first goes. c.in_ok-export.ensures.told first goes
 
 pub returns-in-Err-clause-path : goal.returns-in-Err-clause-path
 returns-in-Err-clause-path g c = λ world serves found. never_path _ refl

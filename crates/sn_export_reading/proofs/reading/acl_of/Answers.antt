@@ -1,6 +1,6 @@
 use Rattle.sn_export_reading.specs.Faults.{refusal_in}
 use Rattle.sn_export_reading.proofs.Faults.{granted, told_of, never_of_path, err_tells}
-use Rattle.std.proofs.Common.{◌≡◌, List, ℕ, subst, ap, inr}
+use Rattle.std.proofs.Common.{◌≡◌, List, ℕ, subst, ap, inr, refl}
 use Rattle.sn_model.specs.declared.call.Call.TheVariants as call
 use Rattle.sn_model.specs.declared.reply.Reply.TheVariants as answer
 use Rattle.sn_export_reading.specs.Serving.{IsStepOf}
@@ -15,13 +15,13 @@ returns-in-Acl-clause-acl g c = λ trees r.
     (k.0, k.1, k.2, reads_on trees r k.3))
 
 pub returns-in_err-new-clause-told : goal.returns-in_err-new-clause-told
-returns-in_err-new-clause-told g c = λ goes. err_tells _ _ c.from_residual.result c.from_residual.ensures.1 (inr goes)
+returns-in_err-new-clause-told g c = λ first goes. err_tells _ _ c.from_residual.result c.from_residual.ensures.1 (inr goes)
 
 pub returns-in-Acl-clause-told : goal.returns-in-Acl-clause-told
-returns-in-Acl-clause-told g c = λ goes. (let is : c.call.result ≡ answer.Acl c.in-Acl.acl = c.in-Acl.is in granted (g.C.Calls.last c.args.calls.now) _ c.call.result c.call.ensures.last goes (ap refusal_in is))
+returns-in-Acl-clause-told g c = λ first goes. (let is : c.call.result ≡ answer.Acl c.in-Acl.acl = c.in-Acl.is in granted _ _ c.call.result (c.call.ensures.last first (refl, tt)) goes (ap refusal_in is))
 
 pub returns-clause-told : goal.returns-clause-told
-returns-clause-told g c = λ goes. told_of (g.C.Calls.last c.args.calls.now) _ c.call.result c.call.ensures.last goes c.fault_of.result c.fault_of.ensures
+returns-clause-told g c = λ first goes. told_of _ _ c.call.result (c.call.ensures.last first (refl, tt)) goes c.fault_of.result c.fault_of.ensures
 
 pub returns-clause-path : goal.returns-clause-path
 returns-clause-path g c = never_of_path c.fault_of.result c.call.result c.fault_of.ensures

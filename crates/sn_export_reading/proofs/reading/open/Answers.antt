@@ -1,6 +1,6 @@
 use Rattle.sn_export_reading.specs.Faults.{refusal_in}
 use Rattle.sn_export_reading.proofs.Faults.{granted, told_of, never_of_path, err_tells}
-use Rattle.std.proofs.Common.{◌≡◌, ◌∙◌, List, ℕ, ap, subst, sym, inr}
+use Rattle.std.proofs.Common.{◌≡◌, ◌∙◌, List, ℕ, ap, subst, sym, inr, refl}
 use Rattle.sn_model.specs.declared.call.Call.TheVariants as call
 use Rattle.sn_model.specs.declared.reply.Reply.TheVariants as answer
 use Rattle.sn_export_reading.specs.Serving.{IsStepOf, to_read}
@@ -15,16 +15,16 @@ returns-in-Ok-clause-file g c = λ trees r.
     open_told trees r.runs c.args.path.now _ _ r.none_open step is)
 
 pub returns-in_err-new-clause-told : goal.returns-in_err-new-clause-told
-returns-in_err-new-clause-told g c = λ goes. err_tells _ _ c.from_residual.result c.from_residual.ensures.1 (inr goes)
+returns-in_err-new-clause-told g c = λ first goes. err_tells _ _ c.from_residual.result c.from_residual.ensures.1 (inr goes)
 
 pub returns-in-Ok-clause-told : goal.returns-in-Ok-clause-told
-returns-in-Ok-clause-told g c = λ goes. (let is : c.call.result ≡ answer.Number c.in-Number.fd = c.in-Number.is in granted (g.C.Calls.last c.args.calls.now) _ c.call.result c.call.ensures.last goes (ap refusal_in is))
+returns-in-Ok-clause-told g c = λ first goes. (let is : c.call.result ≡ answer.Number c.in-Number.fd = c.in-Number.is in granted _ _ c.call.result (c.call.ensures.last first (refl, refl)) goes (ap refusal_in is))
 
 pub returns-in-Number-clause-told : goal.returns-in-Number-clause-told
-returns-in-Number-clause-told g c = λ goes. inr (let is : c.call.result ≡ answer.Number c.in-Number.fd = c.in-Number.is in granted (g.C.Calls.last c.args.calls.now) _ c.call.result c.call.ensures.last goes (ap refusal_in is))
+returns-in-Number-clause-told g c = λ first goes. inr (let is : c.call.result ≡ answer.Number c.in-Number.fd = c.in-Number.is in granted _ _ c.call.result (c.call.ensures.last first (refl, refl)) goes (ap refusal_in is))
 
 pub returns-clause-told : goal.returns-clause-told
-returns-clause-told g c = λ goes. told_of (g.C.Calls.last c.args.calls.now) _ c.call.result c.call.ensures.last goes c.fault_of.result c.fault_of.ensures
+returns-clause-told g c = λ first goes. told_of _ _ c.call.result (c.call.ensures.last first (refl, refl)) goes c.fault_of.result c.fault_of.ensures
 
 pub returns-clause-path : goal.returns-clause-path
 returns-clause-path g c = never_of_path c.fault_of.result c.call.result c.fault_of.ensures

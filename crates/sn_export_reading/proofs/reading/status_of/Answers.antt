@@ -17,13 +17,13 @@ returns-in-Status-clause-status g c = λ trees r.
     (k.0, reads_on trees r k.1))
 
 pub returns-in_err-new-clause-told : goal.returns-in_err-new-clause-told
-returns-in_err-new-clause-told g c = λ goes. err_tells _ _ c.from_residual.result c.from_residual.ensures.1 (inr goes)
+returns-in_err-new-clause-told g c = λ first goes. err_tells _ _ c.from_residual.result c.from_residual.ensures.1 (inr goes)
 
 pub returns-in-Status-clause-told : goal.returns-in-Status-clause-told
-returns-in-Status-clause-told g c = λ goes. (let is : c.call.result ≡ answer.Status c.in-Status.status = c.in-Status.is in granted (g.C.Calls.last c.args.calls.now) _ c.call.result c.call.ensures.last goes (ap refusal_in is))
+returns-in-Status-clause-told g c = λ first goes. (let is : c.call.result ≡ answer.Status c.in-Status.status = c.in-Status.is in granted _ _ c.call.result (c.call.ensures.last first (refl, tt)) goes (ap refusal_in is))
 
 pub returns-clause-told : goal.returns-clause-told
-returns-clause-told g c = λ goes. told_of_lookup (g.C.Calls.last c.args.calls.now) _ c.call.result c.call.ensures.last goes c.fault_by.result c.fault_by.ensures
+returns-clause-told g c = λ first goes. told_of_lookup _ _ c.call.result (c.call.ensures.last first (refl, tt)) goes c.fault_by.result c.fault_by.ensures
 
 pub returns-in_err-new-clause-nowhere : goal.returns-in_err-new-clause-nowhere
 returns-in_err-new-clause-nowhere g c = λ trees r. error_as _ _ c.from_residual.result c.from_residual.ensures.1 (never_path _ refl)
@@ -34,4 +34,4 @@ returns-clause-nowhere g c = λ trees r e.
     stat_nowhere trees r.runs c.args.path.now c.call.result step (lookup_is_own (refusal_in c.call.result) (sym c.fault_by.ensures ∙ e)))
 
 pub returns-in-Status-clause-last : goal.returns-in-Status-clause-last
-returns-in-Status-clause-last g c = λ goes. (let is : c.call.result ≡ answer.Status c.in-Status.status = c.in-Status.is in subst (λ (reply : Reply). g.C.Calls.last c.call.new.self (Some reply)) is (c.call.ensures.last goes.0 goes.1))
+returns-in-Status-clause-last g c = λ first goes. (let is : c.call.result ≡ answer.Status c.in-Status.status = c.in-Status.is in subst (λ (reply : Reply). g.C.Calls.last c.call.new.self first (Some reply)) is (c.call.ensures.last first (refl, tt) goes.0 goes.1))

@@ -54,16 +54,16 @@ returns-clause-kept g c = λ world serves found.
     on_ok_always c.put_end.result w.1)
 
 pub returns-in_err-paths-clause-told : goal.returns-in_err-paths-clause-told
-returns-in_err-paths-clause-told g c = λ goes. err_tells _ _ c.from_residual.result c.from_residual.ensures.1 (c.in_err-paths.ensures.told goes)
+returns-in_err-paths-clause-told g c = λ first goes. err_tells _ _ c.from_residual.result c.from_residual.ensures.1 (c.in_err-paths.ensures.told first goes)
 
 pub returns-in_err-vec-clause-told : goal.returns-in_err-vec-clause-told
-returns-in_err-vec-clause-told g c = λ goes. err_tells _ _ c.from_residual-in_err-vec.result c.from_residual-in_err-vec.ensures.1 (inr (c.in_ok-paths.ensures.told goes))
+returns-in_err-vec-clause-told g c = λ first goes. err_tells _ _ c.from_residual-in_err-vec.result c.from_residual-in_err-vec.ensures.1 (inr (c.in_ok-paths.ensures.told first goes))
 
 pub returns-in_err-walk-clause-told : goal.returns-in_err-walk-clause-told
-returns-in_err-walk-clause-told g c = λ goes. err_tells _ _ c.from_residual-in_err-walk.result c.from_residual-in_err-walk.ensures.1 (c.in_err-walk.ensures.told (c.in_ok-paths.ensures.told goes))
+returns-in_err-walk-clause-told g c = λ first goes. err_tells _ _ c.from_residual-in_err-walk.result c.from_residual-in_err-walk.ensures.1 (c.in_err-walk.ensures.told first (c.in_ok-paths.ensures.told first goes))
 
 pub returns-clause-told : goal.returns-clause-told
-returns-clause-told g c = λ goes. (tells_own _ c.put_end.result (all_own c.put_end.result c.put_end.ensures.fault) (c.in_ok-walk.ensures.told (c.in_ok-paths.ensures.told goes)))
+returns-clause-told g c = λ first goes. (tells_own _ c.put_end.result (all_own c.put_end.result c.put_end.ensures.fault) (c.in_ok-walk.ensures.told first (c.in_ok-paths.ensures.told first goes)))
 
 pub returns-in_err-paths-clause-path : goal.returns-in_err-paths-clause-path
 returns-in_err-paths-clause-path g c = λ world serves found. error_as _ _ c.from_residual.result c.from_residual.ensures.1 (λ e. inl (c.in_err-paths.ensures.nowhere world serves found e))

@@ -17,13 +17,13 @@ returns-clause-begins g c = λ world serves found.
     if_ok_pair c.start.result _ _ (λ paths both. begins_at (trees_of world) c.args.path.now paths c.in_ok-status.status s.0 (λ one. grind arith) both.0 both.1) (if_ok_two c.start.result _ _ c.start.ensures.image c.start.ensures.told) s.1)
 
 pub returns-in_err-log_in-clause-told : goal.returns-in_err-log_in-clause-told
-returns-in_err-log_in-clause-told g c = λ goes. err_tells _ _ c.from_residual.result c.from_residual.ensures.1 (c.in_err-log_in.ensures.told goes)
+returns-in_err-log_in-clause-told g c = λ first goes. err_tells _ _ c.from_residual.result c.from_residual.ensures.1 (c.in_err-log_in.ensures.told first goes)
 
 pub returns-in_err-status-clause-told : goal.returns-in_err-status-clause-told
-returns-in_err-status-clause-told g c = λ goes. err_tells _ _ c.from_residual-in_err-status.result c.from_residual-in_err-status.ensures.1 (c.in_err-status.ensures.told (c.in_ok-log_in.ensures.told goes))
+returns-in_err-status-clause-told g c = λ first goes. err_tells _ _ c.from_residual-in_err-status.result c.from_residual-in_err-status.ensures.1 (c.in_err-status.ensures.told first (c.in_ok-log_in.ensures.told first goes))
 
 pub returns-clause-told : goal.returns-clause-told
-returns-clause-told g c = λ goes. tells_own _ c.start.result c.start.ensures.fault (c.in_ok-status.ensures.told (c.in_ok-log_in.ensures.told goes))
+returns-clause-told g c = λ first goes. tells_own _ c.start.result c.start.ensures.fault (c.in_ok-status.ensures.told first (c.in_ok-log_in.ensures.told first goes))
 
 pub returns-in_err-log_in-clause-nowhere : goal.returns-in_err-log_in-clause-nowhere
 returns-in_err-log_in-clause-nowhere g c = λ world serves found. error_as _ _ c.from_residual.result c.from_residual.ensures.1 (never_path _ c.in_err-log_in.ensures.path)
@@ -35,7 +35,7 @@ pub returns-clause-nowhere : goal.returns-clause-nowhere
 returns-clause-nowhere g c = λ world serves found. all_never _ c.start.result (all_no_path c.start.result c.start.ensures.fault)
 
 pub returns-then-is_of_snapshots-clause-told : goal.returns-then-is_of_snapshots-clause-told
-returns-then-is_of_snapshots-clause-told g c = λ goes. (let one : c.in_ok-status.status.number ≡ 1 = grind arith in inr (c.in_ok-status.status, c.in_ok-status.ensures.last (c.in_ok-log_in.ensures.told goes), one))
+returns-then-is_of_snapshots-clause-told g c = λ first goes. (let one : c.in_ok-status.status.number ≡ 1 = grind arith in inr (c.in_ok-status.status, c.in_ok-status.ensures.last first (c.in_ok-log_in.ensures.told first goes), one))
 
 pub returns-then-is_of_snapshots-clause-nowhere : goal.returns-then-is_of_snapshots-clause-nowhere
 returns-then-is_of_snapshots-clause-nowhere g c = λ world serves found e at leads.

@@ -101,19 +101,19 @@ returns-in_ok-acls-in-File-clause-begun g c = λ trees home tree seen visit r he
     begun_at tree seen visit a.1 _ _ a.2.node_is (c.put_name.ensures.begun trees at seen placed kind access k.3 fresh keeps.first))
 
 pub returns-in_err-status-clause-told : goal.returns-in_err-status-clause-told
-returns-in_err-status-clause-told g c = λ goes. err_tells _ _ c.from_residual.result c.from_residual.ensures.1 (c.in_err-status.ensures.told goes)
+returns-in_err-status-clause-told g c = λ first goes. err_tells _ _ c.from_residual.result c.from_residual.ensures.1 (c.in_err-status.ensures.told first goes)
 
 pub returns-in_err-was_met-clause-told : goal.returns-in_err-was_met-clause-told
-returns-in_err-was_met-clause-told g c = λ goes. err_tells _ _ c.from_residual-in_err-was_met.result c.from_residual-in_err-was_met.ensures.1 (own_told _ _ (as_own _ _ c.in_err-was_met.ensures.fault refl) (c.in_ok-status.ensures.told goes))
+returns-in_err-was_met-clause-told g c = λ first goes. err_tells _ _ c.from_residual-in_err-was_met.result c.from_residual-in_err-was_met.ensures.1 (own_told _ _ (as_own _ _ c.in_err-was_met.ensures.fault refl) (c.in_ok-status.ensures.told first goes))
 
 pub returns-in-Directory-clause-told : goal.returns-in-Directory-clause-told
-returns-in-Directory-clause-told g c = λ goes. c.visit_directory.ensures.told (c.in_ok-status.ensures.told goes)
+returns-in-Directory-clause-told g c = λ first goes. c.visit_directory.ensures.told first (c.in_ok-status.ensures.told first goes)
 
 pub returns-in_err-acls-in-File-clause-told : goal.returns-in_err-acls-in-File-clause-told
-returns-in_err-acls-in-File-clause-told g c = λ goes. err_tells _ _ c.from_residual-in_err-acls-in-File.result c.from_residual-in_err-acls-in-File.ensures.1 (c.in_err-acls-in-File.ensures.told (c.in_ok-status.ensures.told goes))
+returns-in_err-acls-in-File-clause-told g c = λ first goes. err_tells _ _ c.from_residual-in_err-acls-in-File.result c.from_residual-in_err-acls-in-File.ensures.1 (c.in_err-acls-in-File.ensures.told first (c.in_ok-status.ensures.told first goes))
 
 pub returns-in_ok-acls-in-File-clause-told : goal.returns-in_ok-acls-in-File-clause-told
-returns-in_ok-acls-in-File-clause-told g c = λ goes. c.put_name.ensures.told (c.in_ok-acls-in-File.ensures.told (c.in_ok-status.ensures.told goes))
+returns-in_ok-acls-in-File-clause-told g c = λ first goes. c.put_name.ensures.told first (c.in_ok-acls-in-File.ensures.told first (c.in_ok-status.ensures.told first goes))
 
 pub returns-in_err-status-clause-nowhere : goal.returns-in_err-status-clause-nowhere
 returns-in_err-status-clause-nowhere g c = λ trees r. error_as _ _ c.from_residual.result c.from_residual.ensures.1 (λ e. subst (λ (p : List ℕ). LeadsNowhere trees p) c.as_slice.ensures.value (c.in_err-status.ensures.nowhere trees r e))

@@ -61,31 +61,31 @@ returns-clause-begun g c = λ trees at is kind r.
     (subst (λ (p : List ℕ). BeginsHeads (entry_told kinds.Directory p [] 0 c.args.status.now) c.in_ok-acls.acls (g.W.Write.contents c.args.out.now) (g.W.Write.contents c.put_directory.new.out)) (c.as_slice-2.ensures.value ∙ c.in_ok-told.ensures.told ∙ ap (λ (p : List ℕ). p ++ 47 ∷ []) c.as_slice.ensures.value) c.put_directory.ensures.begun))
 
 pub returns-in_err-acls-clause-told : goal.returns-in_err-acls-clause-told
-returns-in_err-acls-clause-told g c = λ goes. err_tells _ _ c.from_residual.result c.from_residual.ensures.1 (c.in_err-acls.ensures.told goes)
+returns-in_err-acls-clause-told g c = λ first goes. err_tells _ _ c.from_residual.result c.from_residual.ensures.1 (c.in_err-acls.ensures.told first goes)
 
 pub returns-in_err-acls-clause-path : goal.returns-in_err-acls-clause-path
 returns-in_err-acls-clause-path g c = error_as _ _ c.from_residual.result c.from_residual.ensures.1 c.in_err-acls.ensures.path
 
 pub returns-in_err-names-clause-told : goal.returns-in_err-names-clause-told
-returns-in_err-names-clause-told g c = λ goes. err_tells _ _ c.from_residual-in_err-names.result c.from_residual-in_err-names.ensures.1 (c.in_err-names.ensures.told (c.in_ok-acls.ensures.told goes))
+returns-in_err-names-clause-told g c = λ first goes. err_tells _ _ c.from_residual-in_err-names.result c.from_residual-in_err-names.ensures.1 (c.in_err-names.ensures.told first (c.in_ok-acls.ensures.told first goes))
 
 pub returns-in_err-names-clause-path : goal.returns-in_err-names-clause-path
 returns-in_err-names-clause-path g c = error_as _ _ c.from_residual-in_err-names.result c.from_residual-in_err-names.ensures.1 c.in_err-names.ensures.path
 
 pub returns-in_err-told-clause-told : goal.returns-in_err-told-clause-told
-returns-in_err-told-clause-told g c = λ goes. err_tells _ _ c.from_residual-in_err-told.result c.from_residual-in_err-told.ensures.1 (own_told _ _ (as_own _ _ c.in_err-told.ensures.fault refl) (c.in_ok-names.ensures.told (c.in_ok-acls.ensures.told goes)))
+returns-in_err-told-clause-told g c = λ first goes. err_tells _ _ c.from_residual-in_err-told.result c.from_residual-in_err-told.ensures.1 (own_told _ _ (as_own _ _ c.in_err-told.ensures.fault refl) (c.in_ok-names.ensures.told first (c.in_ok-acls.ensures.told first goes)))
 
 pub returns-in_err-told-clause-path : goal.returns-in_err-told-clause-path
 returns-in_err-told-clause-path g c = error_as _ _ c.from_residual-in_err-told.result c.from_residual-in_err-told.ensures.1 (own_no_path _ (as_own _ _ c.in_err-told.ensures.fault refl))
 
 pub returns-in_err-push-clause-told : goal.returns-in_err-push-clause-told
-returns-in_err-push-clause-told g c = λ goes. err_tells _ _ c.from_residual-in_err-push.result c.from_residual-in_err-push.ensures.1 (inr (c.in_ok-names.ensures.told (c.in_ok-acls.ensures.told goes)))
+returns-in_err-push-clause-told g c = λ first goes. err_tells _ _ c.from_residual-in_err-push.result c.from_residual-in_err-push.ensures.1 (inr (c.in_ok-names.ensures.told first (c.in_ok-acls.ensures.told first goes)))
 
 pub returns-in_err-push-clause-path : goal.returns-in_err-push-clause-path
 returns-in_err-push-clause-path g c = error_as _ _ c.from_residual-in_err-push.result c.from_residual-in_err-push.ensures.1 refl
 
 pub returns-clause-told : goal.returns-clause-told
-returns-clause-told g c = λ goes. tells_own _ c.put_directory.result c.put_directory.ensures.fault (c.in_ok-names.ensures.told (c.in_ok-acls.ensures.told goes))
+returns-clause-told g c = λ first goes. tells_own _ c.put_directory.result c.put_directory.ensures.fault (c.in_ok-names.ensures.told first (c.in_ok-acls.ensures.told first goes))
 
 pub returns-clause-path : goal.returns-clause-path
 returns-clause-path g c = all_no_path c.put_directory.result c.put_directory.ensures.fault

@@ -24,7 +24,7 @@ loop-turn-init g c = (
   λ trees home tree first r here.
       (let v = c.in_ok-visit.ensures.visited trees home tree [] [] first r here (subst (λ (ls : List Level). AreLevels trees home tree ls []) (sym c.new-levels.ensures.items) refl) (keeps_none c.args.written.now c.requires.first) in
       ([] ++ first ∷ [], _, visited_more tree first [] first [] _ _ _ _ _ (visited_none tree first _ _ c.requires.past) v.0, v.1, v.2, v.3)),
-  λ goes. c.in_ok-visit.ensures.told goes,
+  λ first goes. c.in_ok-visit.ensures.told first goes,
 )
 
 pub returns-in_err-next-clause-front : goal.returns-in_err-next-clause-front
@@ -54,7 +54,7 @@ loop-turn-preserved g c =
           let h = subst (λ (vs : List Visit). HasVisited tree first v.0 vs c.loop-turn.written.past (g.W.Write.contents c.args.out.now) (g.W.Write.contents c.loop-turn.out)) n.2 v.2 in
           let k = c.in_ok-visit-2.ensures.visited trees home tree v.0 n.1 n.0 v.5 n.3 n.4 v.4 in
           (v.0 ++ n.0 ∷ [], _, visited_more tree first v.0 n.0 n.1 c.loop-turn.written.past c.visit-in-loop-turn.new.written.past (g.W.Write.contents c.args.out.now) (g.W.Write.contents c.loop-turn.out) (g.W.Write.contents c.visit-in-loop-turn.new.out) h k.0, k.1, k.2, k.3)),
-      λ goes. c.in_ok-visit-2.ensures.told (c.loop-turn.invariant.3 goes),
+      λ first goes. c.in_ok-visit-2.ensures.told first (c.loop-turn.invariant.3 first goes),
     )
 
 pub returns-clause-front : goal.returns-clause-front
@@ -76,19 +76,19 @@ pub returns-in_default-clause-begun : goal.returns-in_default-clause-begun
 returns-in_default-clause-begun g c = λ trees home tree first r here. (let v = c.loop-turn.invariant.2 trees home tree first r here in visited_begun tree first v.0 v.1 _ _ _ v.2)
 
 pub returns-in_err-visit-clause-told : goal.returns-in_err-visit-clause-told
-returns-in_err-visit-clause-told g c = λ goes. err_tells _ _ c.from_residual.result c.from_residual.ensures.1 (c.in_err-visit.ensures.told goes)
+returns-in_err-visit-clause-told g c = λ first goes. err_tells _ _ c.from_residual.result c.from_residual.ensures.1 (c.in_err-visit.ensures.told first goes)
 
 pub returns-in_err-next-clause-told : goal.returns-in_err-next-clause-told
-returns-in_err-next-clause-told g c = λ goes. err_tells _ _ c.from_residual-in_err-next.result c.from_residual-in_err-next.ensures.1 (own_told _ _ c.in_err-next.ensures.fault (c.loop-turn.invariant.3 goes))
+returns-in_err-next-clause-told g c = λ first goes. err_tells _ _ c.from_residual-in_err-next.result c.from_residual-in_err-next.ensures.1 (own_told _ _ c.in_err-next.ensures.fault (c.loop-turn.invariant.3 first goes))
 
 pub returns-in_err-visit-2-clause-told : goal.returns-in_err-visit-2-clause-told
-returns-in_err-visit-2-clause-told g c = λ goes. err_tells _ _ c.from_residual-in_err-visit-2.result c.from_residual-in_err-visit-2.ensures.1 (c.in_err-visit-2.ensures.told (c.loop-turn.invariant.3 goes))
+returns-in_err-visit-2-clause-told g c = λ first goes. err_tells _ _ c.from_residual-in_err-visit-2.result c.from_residual-in_err-visit-2.ensures.1 (c.in_err-visit-2.ensures.told first (c.loop-turn.invariant.3 first goes))
 
 pub returns-in_default-clause-told : goal.returns-in_default-clause-told
-returns-in_default-clause-told g c = λ goes. c.loop-turn.invariant.3 goes
+returns-in_default-clause-told g c = λ first goes. c.loop-turn.invariant.3 first goes
 
 pub returns-clause-told : goal.returns-clause-told
-returns-clause-told g c = λ goes. inr (c.loop-turn.invariant.3 goes)
+returns-clause-told g c = λ first goes. inr (c.loop-turn.invariant.3 first goes)
 
 pub returns-in_err-visit-clause-nowhere : goal.returns-in_err-visit-clause-nowhere
 returns-in_err-visit-clause-nowhere g c = λ trees home tree first r here. error_as _ _ c.from_residual.result c.from_residual.ensures.1 (λ e. inl (c.in_err-visit.ensures.nowhere trees r e))

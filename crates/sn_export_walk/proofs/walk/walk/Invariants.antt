@@ -17,4 +17,4 @@ invariant-loop-turn g l = Writes l.written.first.items l.written.past [] [] (g.W
     × ((trees : Trees) (home : Home) (tree : Tree) (first : Visit) → Reads trees (g.C.Calls.serves l.fn.calls) → IsHere trees home tree l.fn.paths first
     → (seen : List Visit) × (left : List Visit) × HasVisited tree first seen left l.written.past (g.W.Write.contents l.fn.out) (g.W.Write.contents l.out)
     × AreLevels trees home tree l.levels.items left × Keeps l.written seen × Reads trees (g.C.Calls.serves l.calls))
-    × (Goes (g.C.Calls.last l.fn.calls) → Goes (g.C.Calls.last l.calls))
+    × ((first : g.row.C.Denot) → Goes (g.C.Calls.last l.fn.calls first) → Goes (g.C.Calls.last l.calls first))

@@ -11,7 +11,7 @@ use Rattle.sn_import_image.proofs.image.import_image.Goals as goal
 pub returns-in-Err-clause-imported : goal.returns-in-Err-clause-imported
 returns-in-Err-clause-imported g c = inl (
   c.in-Err.field-0.fault,
-  record { outcome_is = refl; cause = λ told. c.in-Err.ensures.cause told; failed = c.in-Err.ensures.failed; run = λ told world image. c.in-Err.ensures.unmounted told world image [] },
+  record { outcome_is = refl; left = c.in-Err.ensures.unmounted },
 )
 
 pub returns-clause-imported : goal.returns-clause-imported
@@ -24,7 +24,7 @@ returns-clause-imported g c =
     let d : Did told (inside.serving, inside.errors, inside.is_told) first i.0 = subst (λ (s : Seen g.row.E.Denot). Did told s first i.0) (sym c.importing.view_is) (i.1.grows first [] (did_none told first)) in
     inr (carried_out told c.args.names.now c.args.path.now (g.R.Read.remaining c.args.archive.now) c.outcome_of.result (g.D.Device.disk c.args.device) (g.D.Device.status c.args.device) (g.D.Device.disk c.finish-end.result.1) (g.D.Device.status c.finish-end.result.1)
     c.import_into-made.result c.finish-end.result.0 first (inside.serving, inside.errors, inside.is_told) i.0 d i.2 c.finish-end.ensures.told refl c.outcome_of.ensures
-    (λ is world image. c.in-Ok.ensures.mounted is world image) c.finish-end.ensures.ended)
+    (λ is world image. c.in-Ok.ensures.mounted is world image) c.finish-end.ensures.ended (λ is. c.in-Ok.ensures.clean is))
 
 pub returns-clause-quiet : goal.returns-clause-quiet
 returns-clause-quiet g c =
