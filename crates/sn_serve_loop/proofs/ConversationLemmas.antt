@@ -1,19 +1,20 @@
 -- Messages and replies, one after the other.
-use Rattle.std.proofs.Common.{◌≡◌, ℕ, Bool, true, false, List, [], ◌∷◌, ◌++◌, take, drop, refl, sym, ap, subst, ◌∙◌, append_assoc}
+use Rattle.std.proofs.Common.{◌≡◌, inl, inr, ℕ, Bool, true, false, List, [], ◌∷◌, ◌++◌, take, drop, refl, sym, ap, subst, ◌∙◌, append_assoc}
 use Rattle.std.proofs.lemmas.List.{append-nil, take-append-drop}
 use Rattle.std.proofs.lemmas.List.Folds.{concat-append}
 use Rattle.std.specs.Io.KnownBytes.{Appends, Consumes}
 use Rattle.std.specs.List.{concat}
-use Rattle.std.specs.Prelude.{◌≢◌, None, Some, Result, Ok, Err, IfErr, IsErrAnd, OnOk}
+use Rattle.std.specs.Prelude.{None, Some, Result, Ok, Err, IfErr, IsErrAnd, OnErr, OnOk}
 use Rattle.std.specs.declared.option.Option.{Option}
 use Rattle.sn_output.specs.Outputs.{AppendsFront}
 use Rattle.sn_output.proofs.OutputLemmas.{appends_more, appends_none, same_more}
 use Rattle.sn_plan.specs.Acts.{Act}
 use Rattle.sn_serve.specs.declared.service.Service.{Service}
-use Rattle.sn_serve_loop.specs.Fronts.{IsMessage}
+use Rattle.sn_serve_loop.specs.Fronts.{IsMessage, front_of}
 use Rattle.sn_serve_loop.specs.declared.stop.Stop.{Stop}
-use Rattle.sn_serve_loop.specs.declared.stop.Stop.TheVariants.{Ended}
-use Rattle.sn_serve_loop.specs.Conversations.{Replies, Sends, Conversation, Converses, Paces, PacesIf, answered, begins, cut, none, sent}
+use Rattle.sn_serve_loop.specs.declared.stop.Stop.TheVariants.{Broken, Ended, Memory, Unread, Unwritten}
+use Rattle.sn_serve_loop.specs.declared.frames.Front.TheVariants.{Part}
+use Rattle.sn_serve_loop.specs.Conversations.{EndsFor, FailsWith, Replies, Sends, Conversation, Converses, Paces, PacesIf, answered, begins, cut, none, sent}
 
 -- ---- refusals
 
@@ -22,14 +23,23 @@ pub not_done : {A E : Type 0} (Q : E → Type 0) (X : Type 0) (r : Result A E) �
 not_done Q X (Ok a) h = absurd h
 not_done Q X (Err e) h = tt
 
--- an input that can't be read, and a reply that isn't taken, haven't ended
-pub not_ended : {A : Type 0} (X : Type 0) (r : Result A Stop) (e : Stop) → IsErrAnd r (λ stop. stop ≡ e) → e ≢ Ended → IfErr r (λ stop. stop ≡ Ended → X)
-not_ended X (Ok a) e h k = absurd h
-not_ended X (Err stop) e h k = λ is. absurd (k (sym h ∙ is))
+-- and of a refusal where there is one
+pub on_err : {A E X : Type 0} (r : Result A E) → X → OnErr r X
+on_err (Ok a) x = tt
+on_err (Err e) x = x
 
-pub never_ended : {A : Type 0} (X : Type 0) (r : Result A Stop) → IfErr r (λ stop. stop ≢ Ended) → IfErr r (λ stop. stop ≡ Ended → X)
-never_ended X (Ok a) h = tt
-never_ended X (Err stop) h = λ is. absurd (h is)
+-- what is so of what is handed on
+pub error_as : {A : Type 0} (Q : Stop → Type 0) (r : Result A Stop) (e : Stop) → IsErrAnd r (λ stop. stop ≡ e) → Q e → IfErr r Q
+error_as Q (Ok a) e h q = tt
+error_as Q (Err stop) e h q = subst Q (sym h) q
+
+-- with a read that fails no whole message has come, or memory lacked for what came
+pub read_fails : (why : Stop) (before came : List ℕ) (rest : Option (List ℕ)) → FailsWith why came → front_of before ≡ Part → EndsFor why true (before ++ came) rest
+read_fails Ended before came rest fails part = absurd fails
+read_fails Broken before came rest fails part = absurd fails
+read_fails Memory before came rest fails part = inr (record { before = before; came = came; left_is = refl; part = part })
+read_fails (Unread error) before came rest none part = (refl, inl (ap (λ (xs : List ℕ). front_of (before ++ xs)) none ∙ ap front_of (append-nil before) ∙ part))
+read_fails (Unwritten error) before came rest fails part = absurd fails
 
 -- ---- input
 

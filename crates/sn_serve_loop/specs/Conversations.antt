@@ -1,15 +1,17 @@
 -- Messages and replies, one after the other.
 use Rattle.std.specs.Io.KnownBytes.{Appends, Consumes, IsAtEnd}
+use Rattle.std.specs.IoError.{error_kind}
 use Rattle.std.specs.List.{concat}
-use Rattle.std.specs.Prelude.{◌≡◌, ◌≢◌, ℕ, Bool, true, false, List, [], ◌∷◌, ◌++◌, Option}
+use Rattle.std.specs.declared.io.kind.ErrorKind.TheVariants.{TimedOut}
+use Rattle.std.specs.Prelude.{◌≡◌, ◌≢◌, ◌⊎◌, ℕ, Bool, true, false, List, [], ◌∷◌, ◌++◌, Option}
 use Rattle.sn_output.specs.Outputs.{AppendsFront}
 use Rattle.sn_plan.specs.Acts.{Act, Grows}
 use Rattle.sn_serve.specs.Exchanges.{IsExchange, IsRefusal, acts_for}
 use Rattle.sn_serve.specs.declared.service.Service.{Service}
 use Rattle.sn_serve_loop.specs.Fronts.{IsMessage, front_of}
-use Rattle.sn_serve_loop.specs.declared.frames.Front.TheVariants.{Part}
+use Rattle.sn_serve_loop.specs.declared.frames.Front.TheVariants.{Part, Broken as NoMessage}
 use Rattle.sn_serve_loop.specs.declared.stop.Stop.{Stop}
-use Rattle.sn_serve_loop.specs.declared.stop.Stop.TheVariants.{Ended, Memory}
+use Rattle.sn_serve_loop.specs.declared.stop.Stop.TheVariants.{Broken, Ended, Memory, Unread, Unwritten}
 use Rattle.sn_serve_loop.specs.Sessions.{LogIn}
 
 -- work that is due is done, which is no act, and nothing else
@@ -67,8 +69,30 @@ pub record HasEnded (whole : Bool) (left : List ℕ) (rest : Option (List ℕ)) 
   pub part : front_of left ≡ Part
   pub end : IsAtEnd rest
 
+-- what was left before the last read, with which no whole message had come
+pub record WasRead (left : List ℕ) : Type 0 where
+  pub before : List ℕ
+  pub came : List ℕ
+  pub left_is : left ≡ before ++ came
+  pub part : front_of before ≡ Part
+
+-- what a read that fails has given: nothing, unless memory lacks for what came
+abbrev pub FailsWith : Stop → List ℕ → Type 0
+FailsWith (Unread error) came = came ≡ []
+FailsWith Memory came = Unit {0}
+FailsWith why came = ⊥
+
+-- Why no more messages are answered. What is left begins with no message, or with no whole one when a read fails, unless it is given up; a reply isn't written whole; or memory lacks,
+-- for the reply to a message that isn't written, or for what is read. No contract tells that memory was asked for, or that a read or a write failed.
+abbrev pub EndsFor : Stop → Bool → List ℕ → Option (List ℕ) → Type 0
+EndsFor Ended whole left rest = HasEnded whole left rest
+EndsFor Broken whole left rest = (whole ≡ true) × (front_of left ≡ NoMessage)
+EndsFor (Unread error) whole left rest = (whole ≡ true) × ((front_of left ≡ Part) ⊎ (error_kind error ≡ TimedOut))
+EndsFor (Unwritten error) whole left rest = whole ≡ false
+EndsFor Memory whole left rest = (whole ≡ false) ⊎ WasRead left
+
 -- User 0 is logged in, in the sessions of open files, in all of them unless memory is refused, which changes the file system alone. Then
--- messages are answered.
+-- messages are answered, until there is a cause to end.
 pub record LogsInAndConverses {F P : Type 0} (did : F → F → List Act → Type 0) (tells : P → ℕ → Option (List ℕ) → P → Type 0) (stopped : F → Bool) (paces : F → F → Type 0) (old : Service F) (before : P) (new : Service F) (after : P)
     (why : Stop) (pending : List ℕ) (input rest output written : Option (List ℕ)) : Type 0 where
   pub first : Service F
@@ -81,4 +105,4 @@ pub record LogsInAndConverses {F P : Type 0} (did : F → F → List Act → Typ
   pub left : List ℕ
   pub whole : Bool
   pub conversation : Conversation did tells stopped paces whole first before new after pending left input rest output written
-  pub ended : why ≡ Ended → HasEnded whole left rest
+  pub ends : blocks ≡ 63 → EndsFor why whole left rest

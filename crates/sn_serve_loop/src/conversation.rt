@@ -1,11 +1,10 @@
 //! Messages and replies, one after the other.
 ghost use Rattle.std.specs.Io.KnownBytes.{Appends};
 ghost use Rattle.sn_output.specs.Outputs.{AppendsFront};
-ghost use Rattle.std.specs.Prelude.{Option, ◌≡◌, ◌≢◌, ◌≤◌, ◌++◌, ℕ, Bool, List, length, take, true, IfErr, OnOk};
+ghost use Rattle.std.specs.Prelude.{Option, ◌≡◌, ◌≤◌, ◌++◌, ℕ, Bool, List, length, take, true, false, IfErr, OnOk};
 ghost use Rattle.sn_plan.specs.Acts.{Act};
 ghost use Rattle.sn_serve_loop.specs.Fronts.{IsMessage};
-ghost use Rattle.sn_serve_loop.specs.Conversations.{Conversation, HasEnded, LogsInAndConverses, Replies};
-ghost use Rattle.sn_serve_loop.specs.declared.stop.Stop.TheVariants as stop;
+ghost use Rattle.sn_serve_loop.specs.Conversations.{Conversation, EndsFor, LogsInAndConverses, Replies};
 
 use crate::connection::Connection;
 use crate::frames::Front;
@@ -38,7 +37,7 @@ fn reply_to<F: FileSystem, H: Host>(
 fn send<W: Write>(output: &mut W, reply: &[u8]) -> Result<(), Stop>
     ensures whole { OnOk result (Appends (W.contents output.old) (W.contents output.new) reply.now) }
     ensures front { AppendsFront (W.contents output.old) (W.contents output.new) reply.now }
-    ensures why { IfErr result (λ why. why ≢ stop.Ended) }
+    ensures why { (left : List ℕ) (rest : Option (List ℕ)) → IfErr result (λ why. EndsFor why false left rest) }
 {
     match write_front(output, reply) {
         Ok(()) => Ok(()),
@@ -57,8 +56,8 @@ fn exchange<F: FileSystem, H: Host, W: Write>(
     requires message { IsMessage (take size connection.old.frames) }
     ensures conversation { (input : Option (List ℕ)) → (left : List ℕ) × (whole : Bool)
         × Conversation F.did H.tells F.stopped F.paces whole connection.old.service host.old connection.new.service host.new connection.old.frames left input input (W.contents output.old) (W.contents output.new)
-        × OnOk result ((connection.new.frames ≡ left) × (whole ≡ true)) }
-    ensures why { IfErr result (λ why. why ≢ stop.Ended) }
+        × OnOk result ((connection.new.frames ≡ left) × (whole ≡ true))
+        × IfErr result (λ why. EndsFor why whole left input) }
 {
     connection.out.clear();
     reply_to(
@@ -83,7 +82,7 @@ fn turn<F: FileSystem, H: Host, R: Read, W: Write>(
     ensures { (left : List ℕ) × (whole : Bool)
         × Conversation F.did H.tells F.stopped F.paces whole connection.old.service host.old connection.new.service host.new connection.old.frames left (R.remaining input.old) (R.remaining input.new) (W.contents output.old) (W.contents output.new)
         × OnOk result ((connection.new.frames ≡ left) × (whole ≡ true))
-        × IfErr result (λ why. why ≡ stop.Ended → HasEnded whole left (R.remaining input.new)) }
+        × IfErr result (λ why. EndsFor why whole left (R.remaining input.new)) }
 {
     match connection.frames.front() {
         Front::Whole(size) => exchange(connection, host, size, output),
@@ -107,7 +106,7 @@ fn answer_all<F: FileSystem, H: Host, R: Read, W: Write>(
 ) -> Stop
     ensures { (left : List ℕ) × (whole : Bool)
         × Conversation F.did H.tells F.stopped F.paces whole connection.old.service host.old connection.new.service host.new connection.old.frames left (R.remaining input.old) (R.remaining input.new) (W.contents output.old) (W.contents output.new)
-        × (result ≡ stop.Ended → HasEnded whole left (R.remaining input.new)) }
+        × EndsFor result whole left (R.remaining input.new) }
 {
     for _turn in 0..u64::MAX {
         if let Err(stop) = turn(connection, host, input, output) {
@@ -121,8 +120,9 @@ fn answer_all<F: FileSystem, H: Host, R: Read, W: Write>(
 /// that aren't a whole message yet are left. It is given up after 2^64 - 1 turns, as an input that timed out.
 ///
 /// Proved: The messages of the input are answered one after the other, each by its plan and by one reply, and the work of the file system that is due is done after each
-/// reply that is written whole, and at no other time; once a failure has stopped it, each is answered with `EIO`, and does nothing. Where the input has ended, no whole message is
-/// left, and each reply was written whole.
+/// reply that is written whole, and at no other time; once a failure has stopped it, each is answered with `EIO`, and does nothing. It ends for a cause:
+/// where the input has ended, no whole message is left, and each reply was written whole; where what came is no message, what is left begins with none; where a read fails, no whole message
+/// is left, unless it is given up; where a write fails, the last reply isn't whole; and for want of memory after a message was done whose reply isn't written, or after a read.
 pub fn converse<F: FileSystem, H: Host, R: Read, W: Write>(
     connection: &mut Connection<F>,
     host: &mut H,

@@ -1,8 +1,8 @@
 //! Messages in the bytes that come.
-ghost use Rattle.std.specs.Prelude.{◌≡◌, ◌≢◌, ◌≤◌, ◌++◌, [], ℕ, List, length, drop, false, OnOk, IfErr, IfOk};
+ghost use Rattle.std.specs.Prelude.{◌≡◌, ◌≤◌, ◌++◌, [], ℕ, List, length, drop, false, OnOk, IfErr, IfOk};
 ghost use Rattle.std.specs.Io.KnownBytes.{Consumes, IsAtEnd};
 ghost use Rattle.sn_serve_loop.specs.Fronts.{front_of};
-ghost use Rattle.sn_serve_loop.specs.declared.stop.Stop.TheVariants as stop;
+ghost use Rattle.sn_serve_loop.specs.Conversations.{FailsWith};
 
 use crate::stop::Stop;
 use byteorder::{ByteOrder, LittleEndian};
@@ -99,9 +99,8 @@ impl Frames {
 
     /// One read. Whether it gave any byte, or was interrupted; else the input has ended.
     pub(crate) fn receive<R: Read>(&mut self, input: &mut R) -> Result<bool, Stop>
-        ensures came { (came : List ℕ) × Consumes (R.remaining input.old) (R.remaining input.new) came × OnOk result (self.new ≡ self.old ++ came) }
+        ensures came { (came : List ℕ) × Consumes (R.remaining input.old) (R.remaining input.new) came × OnOk result (self.new ≡ self.old ++ came) × IfErr result (λ why. FailsWith why came) }
         ensures end { IfOk result (λ more. more ≡ false → IsAtEnd (R.remaining input.new) × (self.new ≡ self.old)) }
-        ensures why { IfErr result (λ why. why ≢ stop.Ended) }
     {
         match input.read(&mut self.chunk) {
             Ok(count) => {

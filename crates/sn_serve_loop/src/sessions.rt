@@ -1,5 +1,5 @@
 //! The sessions of open files.
-ghost use Rattle.std.specs.Prelude.{◌≡◌, ◌∷◌, [], ℕ, List, OnErr, OnOk};
+ghost use Rattle.std.specs.Prelude.{◌≡◌, ◌<◌, ◌∷◌, [], ℕ, List, OnErr, OnOk};
 ghost use Rattle.sn_plan.specs.Acts.{Act, Called, Grows};
 ghost use Rattle.sn_serve_loop.specs.Sessions.{LogIn, login};
 ghost use Rattle.sn_model.specs.declared.reply.Reply.{Reply as TheReply};
@@ -35,7 +35,7 @@ fn log_in_one<F: FileSystem>(
 
 /// Logs user 0 in, in each session that open files have. Where memory is refused, in the first of them.
 pub(crate) fn log_in<F: FileSystem>(file_system: &mut F, alloc: Global) -> Result<(), AllocError>
-    ensures { (blocks : ℕ) × (acts : List Act) × LogIn blocks acts × Grows (F.did file_system.old) (F.did file_system.new) acts × OnOk result (blocks ≡ 63) }
+    ensures { (blocks : ℕ) × (acts : List Act) × LogIn blocks acts × Grows (F.did file_system.old) (F.did file_system.new) acts × OnOk result (blocks ≡ 63) × OnErr result (blocks < 63) }
 {
     for block in 0..BLOCKS {
         log_in_one(file_system, alloc, session_of(block * HANDLES))?;

@@ -1,5 +1,4 @@
-use Rattle.std.proofs.Common.{◌≡◌, true}
-use Rattle.sn_serve_loop.specs.declared.stop.Stop.TheVariants.{Ended, Unread}
+use Rattle.std.proofs.Common.{inr, refl, true}
 use Rattle.sn_serve_loop.proofs.ConversationLemmas.{conversation_more, none_yet, whole_turn}
 use Rattle.sn_serve_loop.proofs.conversation.answer_all.Goals as goal
 
@@ -18,4 +17,4 @@ loop-turn-preserved g c =
     (whole_turn g.F.FileSystem.did g.H.Host.tells g.F.FileSystem.stopped g.F.FileSystem.paces v.1 _ _ _ _ _ v.0 _ _ _ _ _ v.2 v.3.0 v.3.1)
 
 pub returns : goal.returns
-returns g c = (_, true, c.loop-turn.invariant, λ is. absurd (let never : Unread c.from.result ≡ Ended = is in cc))
+returns g c = (_, true, c.loop-turn.invariant, (refl, inr c.from.ensures))

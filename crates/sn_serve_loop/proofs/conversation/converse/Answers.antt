@@ -1,11 +1,10 @@
-use Rattle.std.proofs.Common.{◌≡◌, true, refl}
-use Rattle.sn_serve_loop.specs.declared.stop.Stop.TheVariants.{Ended, Memory}
+use Rattle.std.proofs.Common.{true, refl, arith}
 use Rattle.sn_serve_loop.proofs.ConversationLemmas.{none_yet}
 use Rattle.sn_serve_loop.proofs.conversation.converse.Goals as goal
 
 pub returns-in-Err : goal.returns-in-Err
 returns-in-Err g c =
-    let l = c.log_in.ensures in
+    let l = c.in-Err.ensures in
     record {
       first = _;
       same = refl;
@@ -17,7 +16,7 @@ returns-in-Err g c =
       left = c.args.connection.now.frames;
       whole = true;
       conversation = none_yet g.F.FileSystem.did g.H.Host.tells g.F.FileSystem.stopped g.F.FileSystem.paces _ _ _ _ _;
-      ended = λ is. absurd (let never : Memory ≡ Ended = is in cc);
+      ends = λ is. absurd (omega (arith, l.5, is));
     }
 
 pub returns-in-Ok : goal.returns-in-Ok
@@ -35,5 +34,5 @@ returns-in-Ok g c =
       left = v.0;
       whole = v.1;
       conversation = v.2;
-      ended = v.3;
+      ends = λ is. v.3;
     }
